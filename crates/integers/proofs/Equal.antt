@@ -1,0 +1,44 @@
+-- Equality of signed numbers. `==` of two signed locals compares their bits, so a need or a test's fact speaks of `ofZ w a` and `ofZ w b`.
+use mathlib.Core.Path.{_≡_, refl, sym, _∙_, ap, subst}
+use mathlib.Core.Bool.{Bool, true, false}
+use Prim.Native.Nat.{ℕ, zero, suc, _<_}
+use native.Mathlib.Omega.{arith}
+use lib.Dec.{T, eqb}
+use lib.IntN.{ℤ, pos, negsuc, natAbs, pos-ne-negsuc}
+use lib.Signed.{mag, ltZ}
+use mir.Syntax.{Width}
+use mir.Val.{SFits, toZ, ofZ}
+use mir.Facts.{toZ-ofZ}
+use borrow.Author.Tests.{eqb-true, eqb-false, eq-eqb, ne-eqb}
+use Rattle.integers.specs.Equal.{eqZ}
+
+pub eqZ-true : (a b : ℤ) → eqZ a b ≡ true → a ≡ b
+eqZ-true (pos a) (pos b) e = ap pos (eqb-true a b e)
+eqZ-true (pos a) (negsuc b) e = absurd (subst T (sym e) tt)
+eqZ-true (negsuc a) (pos b) e = absurd (subst T (sym e) tt)
+eqZ-true (negsuc a) (negsuc b) e = ap negsuc (eqb-true a b e)
+
+pub eqZ-same : (a : ℤ) → eqZ a a ≡ true
+eqZ-same (pos a) = eq-eqb a a refl
+eqZ-same (negsuc a) = eq-eqb a a refl
+
+pub eq-eqZ : (a b : ℤ) → a ≡ b → eqZ a b ≡ true
+eq-eqZ a b e = ap (λ (x : ℤ). eqZ a x) (sym e) ∙ eqZ-same a
+
+pub ne-eqZ : (a b : ℤ) → (a ≡ b → ⊥) → eqZ a b ≡ false
+ne-eqZ a b n = go (eqZ a b) refl
+  where
+    go : (t : Bool) → eqZ a b ≡ t → eqZ a b ≡ false
+    go true e = absurd (n (eqZ-true a b e))
+    go false e = e
+
+module _ (w : Width) {a b : ℤ} (f : SFits w a) (g : SFits w b) where
+  pub bits-eq : ofZ w a ≡ ofZ w b → a ≡ b
+  bits-eq e = sym (toZ-ofZ f) ∙ ap (toZ w) e ∙ toZ-ofZ g
+
+  pub bits-eqb : eqb (ofZ w a) (ofZ w b) ≡ eqZ a b
+  bits-eqb = go (eqb (ofZ w a) (ofZ w b)) refl
+    where
+      go : (t : Bool) → eqb (ofZ w a) (ofZ w b) ≡ t → eqb (ofZ w a) (ofZ w b) ≡ eqZ a b
+      go true e = e ∙ sym (eq-eqZ a b (bits-eq (eqb-true (ofZ w a) (ofZ w b) e)))
+      go false e = e ∙ sym (ne-eqZ a b (λ h. eqb-false (ofZ w a) (ofZ w b) e (ap (ofZ w) h)))

@@ -1,0 +1,6 @@
+pub mod Ring
+pub mod Linear
+pub mod Polynomial
+pub mod Bound
+pub mod Equal
+pub mod Modulo

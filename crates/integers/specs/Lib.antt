@@ -1,0 +1,5 @@
+pub mod Linear
+pub mod Polynomial
+pub mod Bound
+pub mod Equal
+pub mod Modulo
