@@ -1,3 +1,4 @@
+pub mod Logic
 pub mod Ring
 pub mod Linear
 pub mod Polynomial

@@ -1,0 +1,50 @@
+-- Down a ladder of refusals: past the rungs that do not hold, to the first that does, or to the foot.
+use mathlib.Core.Path.{_≡_, refl, sym, _∙_}
+use mathlib.Core.Bool.{Bool, true, false}
+use mathlib.Core.List.{List, [], _∷_, _++_}
+use Prim.Native.Nat.{ℕ, zero, suc}
+use native.Mathlib.Omega.{arith}
+use lib.Dec.{T}
+use Rattle.grid.specs.Ladder.{Rung, first-of}
+
+pub data First : List Rung → ℕ → Type 0 where
+  here : {b : Bool} {k : ℕ} {l : List Rung} → b ≡ true → First ((b, k) ∷ l) k
+  past : {b : Bool} {k r : ℕ} {l : List Rung} → b ≡ false → First l r → First ((b, k) ∷ l) r
+  foot : First [] 0
+
+pub first-is : (l : List Rung) (r : ℕ) → First l r → r ≡ first-of l
+unfolding first-of
+first-is ((b, k) ∷ l) r (here e) = rw (e, first-of)
+first-is ((b, k) ∷ l) r (past e h) = rw (e, first-of) (first-is l r h)
+first-is [] r foot = refl
+
+-- no rung has the number 0
+abbrev pub numbered : List Rung → Bool
+numbered [] = true
+numbered (r ∷ l) = elim (r .1) [ zero ↦ false | suc k ↦ numbered l ]
+
+-- none of the rungs holds
+abbrev pub Clear : List Rung → Type 0
+Clear [] = Unit {0}
+Clear (r ∷ l) = (r .0 ≡ false) × Clear l
+
+pub clear : (l : List Rung) → T (numbered l) → first-of l ≡ 0 → Clear l
+unfolding first-of
+clear [] n e = tt
+clear ((b, zero) ∷ l) n e = absurd n
+clear ((true, suc k) ∷ l) n e = absurd (omega arith)
+clear ((false, suc k) ∷ l) n e = (refl, clear l n e)
+
+-- a ladder that starts with another: stopped there, or past it
+pub stopped : (a b : List Rung) (r : ℕ) → r ≡ first-of a → (r ≡ 0 → ⊥) → First (a ++ b) r
+unfolding first-of
+stopped [] b r e n = absurd (n e)
+stopped ((true, k) ∷ a) b r e n = rw e (here refl)
+stopped ((false, k) ∷ a) b r e n = past refl (stopped a b r e n)
+
+pub onward : (a b : List Rung) (r : ℕ) → T (numbered a) → first-of a ≡ 0 → First b r → First (a ++ b) r
+unfolding first-of
+onward [] b r t e f = f
+onward ((c, zero) ∷ a) b r t e f = absurd t
+onward ((true, suc k) ∷ a) b r t e f = absurd (omega arith)
+onward ((false, suc k) ∷ a) b r t e f = past refl (onward a b r t e f)

@@ -1,0 +1,4 @@
+pub mod LimitLaws
+pub mod PointLaws
+pub mod LadderLaws
+pub mod DomainLaws

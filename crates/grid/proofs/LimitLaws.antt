@@ -1,0 +1,47 @@
+-- What follows from being on the grid. Callers use these laws, never the limit's digits.
+use mathlib.Core.Path.{_≡_, refl, sym, _∙_, ap, subst}
+use mathlib.Core.Bool.{Bool, true, false, _&&_, and-assoc}
+use mathlib.Core.List.{List, [], _∷_}
+use Prim.Native.Nat.{ℕ, zero, suc, _+_, _*_, _<_, _^_}
+use native.Mathlib.Omega.{arith}
+use native.Mathlib.Numerals.{add-one}
+use lib.ListN.{length, getD, drop}
+use lib.Seq.{drop-cons, drop-length}
+use lib.IntN.{ℤ, pos, negℤ, _+ℤ_, _-ℤ_, _*ℤ_}
+use lib.Signed.{leZ}
+use lib.Dec.{T, lit≤}
+use mir.Syntax.{w32}
+use mir.Val.{toZ, ofZ}
+use Rattle.integers.specs.Bound.{In}
+use Rattle.integers.proofs.Bound.{tests-in, back}
+use Rattle.integers.proofs.Logic.{and-left, and-right}
+use Rattle.grid.specs.Limits.{limit, on-grid, all-on-grid}
+
+pub on-grid-in : (z : ℤ) → on-grid z ≡ true → In limit z
+unfolding on-grid
+on-grid-in z e =
+    let low : Bool = leZ (negℤ (pos limit)) z in
+    tests-in z limit (and-left low (leZ z (pos limit)) e) (and-right low (leZ z (pos limit)) e)
+
+-- a coordinate that was read or passed is itself
+pub on-grid-back : (z : ℤ) → on-grid z ≡ true → toZ w32 (ofZ w32 z) ≡ z
+unfolding limit
+on-grid-back z e = back w32 (on-grid-in z e) tt
+
+-- also past the row's end, where the 0 that is read is on the grid
+pub all-on-grid-at : (row : List ℤ) (i : ℕ) → all-on-grid row ≡ true → on-grid (getD row i (pos 0)) ≡ true
+unfolding all-on-grid on-grid limit
+all-on-grid-at [] i e = refl
+all-on-grid-at (z ∷ row) zero e = and-left (on-grid z) (all-on-grid row) e
+all-on-grid-at (z ∷ row) (suc i) e = all-on-grid-at row i (and-right (on-grid z) (all-on-grid row) e)
+
+-- a row read from its front: so far, and what is left
+pub all-on-grid-more : (row : List ℤ) (i : ℕ) (sofar : Bool) → i < length row
+    → (sofar && all-on-grid (drop i row)) ≡ ((sofar && on-grid (getD row i (pos 0))) && all-on-grid (drop (i + 1) row))
+unfolding all-on-grid
+all-on-grid-more row i sofar h = rw (drop-cons row i (pos 0) h, add-one i) (sym (and-assoc sofar _ _))
+
+pub all-on-grid-none : (row : List ℤ) (i : ℕ) (sofar : Bool) → i ≡ length row → (sofar && all-on-grid (drop i row)) ≡ sofar
+unfolding all-on-grid
+all-on-grid-none row i true e = rw (e, drop-length row)
+all-on-grid-none row i false e = refl

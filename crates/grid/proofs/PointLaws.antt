@@ -1,0 +1,87 @@
+-- Laws of points: signs, and points on the grid.
+use mathlib.Core.Path.{_≡_, refl, sym, subst}
+use mathlib.Core.Bool.{Bool, true, false, _&&_}
+use mathlib.Core.List.{List, [], _∷_}
+use Prim.Native.Nat.{ℕ, zero, suc, _+_, _*_, _<_, _^_}
+use native.Mathlib.Omega.{arith}
+use lib.Dec.{T}
+use lib.IntN.{ℤ, pos, negsuc, _+ℤ_, _-ℤ_, _*ℤ_}
+use lib.Signed.{ltZ}
+use mir.Syntax.{w64}
+use mir.Val.{toZ, ofZ}
+use borrow.Author.Tests.{ltb-true}
+use Rattle.integers.specs.Bound.{In}
+use Rattle.integers.proofs.Bound.{in-sub, in-add, in-mul, back, back-in}
+use Rattle.integers.proofs.Logic.{and-left, and-right}
+use Rattle.grid.specs.declared.Point.{Point}
+use Rattle.grid.specs.declared.Steps.{Steps}
+use Rattle.grid.specs.Limits.{limit, on-grid, all-on-grid}
+use Rattle.grid.specs.Points.{at, sign, on, cross, dot, step, edges, Short, Corner}
+use Rattle.grid.proofs.LimitLaws.{on-grid-in, all-on-grid-at}
+
+pub sign-below : (z : ℤ) → ltZ z (pos 0) ≡ true → sign z ≡ negsuc 0
+sign-below (pos zero) e = absurd (subst T (sym e) tt)
+sign-below (pos (suc n)) e = absurd (no (ltb-true (suc n) 0 e))
+  where
+    no : suc n < 0 → ⊥
+    no h = omega arith
+sign-below (negsuc n) e = refl
+
+pub sign-above : (z : ℤ) → (z ≡ pos 0 → ⊥) → ltZ z (pos 0) ≡ false → sign z ≡ pos 1
+sign-above (pos zero) n e = absurd (n refl)
+sign-above (pos (suc m)) n e = refl
+sign-above (negsuc m) n e = absurd (subst T e tt)
+
+pub x-on : (a : Point) → on a ≡ true → on-grid (a .x) ≡ true
+x-on a e = and-left (on-grid (a .x)) (on-grid (a .y)) e
+
+pub y-on : (a : Point) → on a ≡ true → on-grid (a .y) ≡ true
+y-on a e = and-right (on-grid (a .x)) (on-grid (a .y)) e
+
+-- every point of a row on the grid
+pub at-on : (row : List ℤ) (i : ℕ) → all-on-grid row ≡ true → on (at row i) ≡ true
+at-on row i e = rw (all-on-grid-at row (2 * i) e, all-on-grid-at row (2 * i + 1) e)
+
+-- from one coordinate to another
+pub gap-in : (a b : ℤ) → on-grid a ≡ true → on-grid b ≡ true → In (2 * limit) (b -ℤ a)
+unfolding limit
+gap-in a b p q = in-sub (on-grid-in b q) (on-grid-in a p)
+
+-- the two steps of a corner
+pub corner-steps : {a b c : Point} → Corner a b c → Short (b .x -ℤ a .x) (b .y -ℤ a .y) (c .x -ℤ b .x) (c .y -ℤ b .y)
+corner-steps {a} {b} {c} k = record {
+  ux-in = gap-in (a .x) (b .x) (x-on a (k .a-on)) (x-on b (k .b-on));
+  uy-in = gap-in (a .y) (b .y) (y-on a (k .a-on)) (y-on b (k .b-on));
+  vx-in = gap-in (b .x) (c .x) (x-on b (k .b-on)) (x-on c (k .c-on));
+  vy-in = gap-in (b .y) (c .y) (y-on b (k .b-on)) (y-on c (k .c-on));
+}
+
+-- the same steps, as they are passed on
+pub short-passed : {a b c : Point} (s : Steps) → s ≡ edges a b c → Corner a b c
+    → Short (toZ w64 (ofZ w64 (s .ux))) (toZ w64 (ofZ w64 (s .uy))) (toZ w64 (ofZ w64 (s .vx))) (toZ w64 (ofZ w64 (s .vy)))
+unfolding limit
+short-passed s e k =
+    let t = corner-steps k in
+    rw e
+    (record {
+      ux-in = back-in w64 (t .ux-in) tt;
+      uy-in = back-in w64 (t .uy-in) tt;
+      vx-in = back-in w64 (t .vx-in) tt;
+      vy-in = back-in w64 (t .vy-in) tt;
+    })
+
+pub steps-back : {a b c : Point} (s : Steps) → s ≡ edges a b c → Corner a b c
+    → record { ux = toZ w64 (ofZ w64 (s .ux)); uy = toZ w64 (ofZ w64 (s .uy)); vx = toZ w64 (ofZ w64 (s .vx)); vy = toZ w64 (ofZ w64 (s .vy)) } ≡ edges a b c
+unfolding limit
+steps-back s e k =
+    let t = corner-steps k in
+    rw e (rw (back w64 (t .ux-in) tt, back w64 (t .uy-in) tt, back w64 (t .vx-in) tt, back w64 (t .vy-in) tt))
+
+-- cross and dot of differences of grid points lie within ±2^61
+pub cross-within : {a b c : Point} → Corner a b c → In (2 ^ 61) (cross (step a b) (step b c))
+unfolding limit
+cross-within k = let s = corner-steps k in in-sub (in-mul (s .ux-in) (s .vy-in)) (in-mul (s .uy-in) (s .vx-in))
+
+pub dot-within : {a b c : Point} → Corner a b c → In (2 ^ 61) (dot (step a b) (step b c))
+unfolding limit
+dot-within k = let s = corner-steps k in in-add (in-mul (s .ux-in) (s .vx-in)) (in-mul (s .uy-in) (s .vy-in))

@@ -1,0 +1,25 @@
+-- What every call asks of a row of coordinates.
+use mathlib.Core.Bool.{not}
+use mathlib.Core.List.{List, [], _∷_, _++_}
+use Prim.Native.Nat.{ℕ, _/_, _%_}
+use lib.ListN.{length}
+use lib.IntN.{ℤ}
+use lib.Dec.{ltb, eqb}
+use Rattle.grid.specs.Limits.{most, all-on-grid}
+use Rattle.grid.specs.Ladder.{Rung}
+
+-- how many points a row has
+abbrev pub count : List ℤ → ℕ
+count row = length row / 2
+
+-- 1: an odd count of coordinates; 2: over 65,536 points
+abbrev pub size : List ℤ → List Rung
+size row = (eqb (length row % 2) 1, 1) ∷ (ltb most (count row), 2) ∷ []
+
+-- 3: a coordinate off the grid
+abbrev pub off : List ℤ → List Rung
+off row = (not (all-on-grid row), 3) ∷ []
+
+-- what every call asks of a contour
+abbrev pub domain : List ℤ → List Rung
+domain row = size row ++ off row

@@ -1,0 +1,4 @@
+pub mod Limits
+pub mod Points
+pub mod Ladder
+pub mod Domain

@@ -1,0 +1,157 @@
+// The grid: its limits, the reply numbers, the domain of a row of coordinates, and the turn at a vertex.
+pub mod reply;
+
+ghost use mathlib.Core.Path.{_≡_};
+ghost use mathlib.Core.Bool.{true};
+ghost use Prim.Native.Nat.{_+_, _*_, _<_};
+ghost use lib.ListN.{length};
+ghost use lib.IntN.{_+ℤ_, _-ℤ_, _*ℤ_};
+ghost use Rattle.grid.specs.Limits.{on-grid, all-on-grid};
+ghost use Rattle.grid.specs.Points.{at, same as same-point, sign as sign-of, turn as turn-of, reverses as reverses-at, Short, Corner, edges as edges-of};
+ghost use Rattle.grid.specs.Ladder.{first-of};
+ghost use Rattle.grid.specs.Domain.{domain as domain-of};
+
+// The largest coordinate, either side of 0.
+pub const LIMIT: i32 = 536_870_912;
+
+// The most points of a contour or a set.
+pub const MOST: usize = 65_536;
+
+pub struct Point {
+    pub x: i32,
+    pub y: i32,
+}
+
+pub fn on_grid(x: i32) -> bool
+    ensures { λ r. ⌜ r ≡ on-grid x ⌝ }
+{
+    -LIMIT <= x && x <= LIMIT
+}
+
+// Reads the whole row before it answers: a row is normally sound, and such a loop is the quicker one.
+fn all_on_grid(row: &[i32]) -> bool
+    ensures { λ r. ⌜ r ≡ all-on-grid (now (row .entry)) ⌝ }
+{
+    let mut all = true;
+    let mut i: usize = 0;
+    while i < row.len() {
+        all = all & on_grid(row[i]);
+        i += 1;
+    }
+    all
+}
+
+// What every call asks of a row of coordinates: 0, or the number of its first refusal.
+pub fn domain(points: &[i32]) -> u32
+    ensures { λ r. ⌜ r ≡ first-of (domain-of (now (points .entry))) ⌝ }
+{
+    if points.len() % 2 == 1 {
+        return reply::ODD;
+    }
+    if MOST < points.len() / 2 {
+        return reply::TOO_MANY;
+    }
+    if !all_on_grid(points) {
+        return reply::OFF_GRID;
+    }
+    reply::DONE
+}
+
+// The point at position i of a row.
+pub fn point_at(points: &[i32], i: usize) -> Point
+    requires { ⌜ 2 * i + 1 < length (now points) ⌝ }
+    ensures { λ r. ⌜ r ≡ at (now (points .entry)) i ⌝ }
+{
+    Point {
+        x: points[2 * i],
+        y: points[2 * i + 1],
+    }
+}
+
+pub fn same(a: Point, b: Point) -> bool
+    ensures { λ r. ⌜ r ≡ same-point a b ⌝ }
+{
+    a.x == b.x && a.y == b.y
+}
+
+// Two steps, u and v.
+struct Steps {
+    ux: i64,
+    uy: i64,
+    vx: i64,
+    vy: i64,
+}
+
+fn wide(x: i32) -> i64
+    ensures { λ r. ⌜ r ≡ x ⌝ }
+{
+    x as i64
+}
+
+// From one coordinate to another.
+fn gap(from: i32, to: i32) -> i64
+    requires { ⌜ (on-grid from ≡ true) × (on-grid to ≡ true) ⌝ }
+    ensures { λ r. ⌜ r ≡ to -ℤ from ⌝ }
+{
+    wide(to) - wide(from)
+}
+
+// The cross of two steps.
+fn cross(ux: i64, uy: i64, vx: i64, vy: i64) -> i64
+    requires { ⌜ Short ux uy vx vy ⌝ }
+    ensures { λ r. ⌜ r ≡ ux *ℤ vy -ℤ uy *ℤ vx ⌝ }
+{
+    ux * vy - uy * vx
+}
+
+// The dot of two steps.
+fn dot(ux: i64, uy: i64, vx: i64, vy: i64) -> i64
+    requires { ⌜ Short ux uy vx vy ⌝ }
+    ensures { λ r. ⌜ r ≡ ux *ℤ vx +ℤ uy *ℤ vy ⌝ }
+{
+    ux * vx + uy * vy
+}
+
+// -1, 0 or 1, as z is below, at or above 0.
+fn sign(z: i64) -> i32
+    ensures { λ r. ⌜ r ≡ sign-of z ⌝ }
+{
+    if z == 0 {
+        0
+    } else if z < 0 {
+        -1
+    } else {
+        1
+    }
+}
+
+// The two edges at b on the way from a to c: the step from a to b, and the step from b to c.
+fn edges(a: Point, b: Point, c: Point) -> Steps
+    requires { ⌜ Corner a b c ⌝ }
+    ensures { λ r. ⌜ r ≡ edges-of a b c ⌝ }
+{
+    Steps {
+        ux: gap(a.x, b.x),
+        uy: gap(a.y, b.y),
+        vx: gap(b.x, c.x),
+        vy: gap(b.y, c.y),
+    }
+}
+
+// How the way from a to c turns at b: 1 left, 0 straight on or back, -1 right.
+pub fn turn(a: Point, b: Point, c: Point) -> i32
+    requires { ⌜ Corner a b c ⌝ }
+    ensures { λ r. ⌜ r ≡ turn-of a b c ⌝ }
+{
+    let e = edges(a, b, c);
+    sign(cross(e.ux, e.uy, e.vx, e.vy))
+}
+
+// Whether the two edges at b, on the way from a to c, point against each other.
+pub fn reverses(a: Point, b: Point, c: Point) -> bool
+    requires { ⌜ Corner a b c ⌝ }
+    ensures { λ r. ⌜ r ≡ reverses-at a b c ⌝ }
+{
+    let e = edges(a, b, c);
+    dot(e.ux, e.uy, e.vx, e.vy) < 0
+}

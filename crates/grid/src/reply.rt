@@ -1,0 +1,42 @@
+// The reply numbers. A call answers with the first whose condition holds, in the order 1, 2, 6, 3, 12, 4, 5, 8, 7.
+//
+// | No. | Given exactly when | Leaves |
+// |---|---|---|
+// | 0 | done | result in front of output, rest unchanged; walk scratch zeroed |
+// | 1 | odd count of coordinates | all unchanged |
+// | 2 | over 65,536 points, or a file, read or to be written, over 65,536 bytes | all unchanged |
+// | 3 | a coordinate or asked point off the grid | all unchanged |
+// | 4 | scratch below the input's point count | all unchanged |
+// | 5 | output (points or ranges) below the input's count; for the file writer, packing and additions, below the exact need | all unchanged |
+// | 6 | ranges not sound | all unchanged |
+// | 7 | collapsed | output unchanged, scratch zeroed |
+// | 8 | area or winding of an empty contour, or area of a set that has one | all unchanged |
+// | 9 | file edition not 1 | all unchanged |
+// | 10 | file short or with bytes left over | all unchanged |
+// | 11 | first contour doesn't begin a shape | all unchanged |
+// | 12 | file can't carry it: over 4,095 contours, over 32,767 points in one, or an empty shape | all unchanged |
+pub const DONE: u32 = 0;
+
+pub const ODD: u32 = 1;
+
+pub const TOO_MANY: u32 = 2;
+
+pub const OFF_GRID: u32 = 3;
+
+pub const SCRATCH: u32 = 4;
+
+pub const ROOM: u32 = 5;
+
+pub const RANGES: u32 = 6;
+
+pub const COLLAPSED: u32 = 7;
+
+pub const EMPTY: u32 = 8;
+
+pub const EDITION: u32 = 9;
+
+pub const LENGTH: u32 = 10;
+
+pub const NO_SHAPE: u32 = 11;
+
+pub const CANT_CARRY: u32 = 12;
