@@ -1,4 +1,5 @@
 pub mod Limits
 pub mod Points
+pub mod Area
 pub mod Ladder
 pub mod Domain

@@ -7,7 +7,7 @@ ghost use Prim.Native.Nat.{_+_, _*_, _<_};
 ghost use lib.ListN.{length};
 ghost use lib.IntN.{_+ℤ_, _-ℤ_, _*ℤ_};
 ghost use Rattle.grid.specs.Limits.{on-grid, all-on-grid};
-ghost use Rattle.grid.specs.Points.{at, same as same-point, sign as sign-of, turn as turn-of, reverses as reverses-at, Short, Corner, edges as edges-of};
+ghost use Rattle.grid.specs.Points.{at, on, cross as cross-of, same as same-point, sign as sign-of, turn as turn-of, reverses as reverses-at, Short, Corner, edges as edges-of};
 ghost use Rattle.grid.specs.Ladder.{first-of};
 ghost use Rattle.grid.specs.Domain.{domain as domain-of};
 
@@ -154,4 +154,12 @@ pub fn reverses(a: Point, b: Point, c: Point) -> bool
 {
     let e = edges(a, b, c);
     dot(e.ux, e.uy, e.vx, e.vy) < 0
+}
+
+// x·y' - y·x' of two points: what the edge from a to b adds to the doubled area.
+pub fn shoelace(a: Point, b: Point) -> i64
+    requires { ⌜ (on a ≡ true) × (on b ≡ true) ⌝ }
+    ensures { λ r. ⌜ r ≡ cross-of a b ⌝ }
+{
+    cross(wide(a.x), wide(a.y), wide(b.x), wide(b.y))
 }
