@@ -1,23 +1,17 @@
--- What a row of the domain has.
+-- A row that no call refuses is a contour of the domain.
 use mathlib.Core.Path.{_≡_}
-use mathlib.Core.Bool.{true, _&&_}
 use mathlib.Core.List.{List}
-use Prim.Native.Nat.{_*_, _≤_, _%_}
+use Prim.Native.Nat.{_%_}
 use native.Mathlib.Omega.{arith}
 use lib.ListN.{length}
 use lib.IntN.{ℤ}
 use borrow.Author.Tests.{ltb-false, eqb-false, not-false}
-use Rattle.grid.specs.Limits.{most, all-on-grid}
+use Rattle.grid.specs.Limits.{all-on-grid}
 use Rattle.grid.specs.Ladder.{first-of}
-use Rattle.grid.specs.Domain.{count, domain}
+use Rattle.grid.specs.Domain.{count, domain, Contour}
 use Rattle.grid.proofs.LadderLaws.{clear}
 
-pub record Domain (row : List ℤ) : Type 0 where
-  pub even : length row ≡ 2 * count row
-  pub few : count row ≤ most
-  pub on : all-on-grid row ≡ true
-
-pub in-domain : (row : List ℤ) → first-of (domain row) ≡ 0 → Domain row
+pub in-domain : (row : List ℤ) → first-of (domain row) ≡ 0 → Contour row (count row)
 in-domain row e =
     let c = clear (domain row) tt e in
     record {

@@ -11,7 +11,7 @@ use mir.Syntax.{w64}
 use mir.Val.{toZ, ofZ}
 use borrow.Author.Tests.{ltb-true}
 use Rattle.integers.specs.Bound.{In}
-use Rattle.integers.proofs.Bound.{in-sub, in-add, in-mul, back, back-in}
+use Rattle.integers.proofs.Bound.{in-sub, in-add, in-mul, in-more, back, back-in}
 use Rattle.integers.proofs.Logic.{and-left, and-right}
 use Rattle.grid.specs.declared.Point.{Point}
 use Rattle.grid.specs.declared.Steps.{Steps}
@@ -85,3 +85,12 @@ cross-within k = let s = corner-steps k in in-sub (in-mul (s .ux-in) (s .vy-in))
 pub dot-within : {a b c : Point} → Corner a b c → In (2 ^ 61) (dot (step a b) (step b c))
 unfolding limit
 dot-within k = let s = corner-steps k in in-add (in-mul (s .ux-in) (s .vx-in)) (in-mul (s .uy-in) (s .vy-in))
+
+-- and so do those of grid points themselves
+pub shoelace-within : (a b : Point) → on a ≡ true → on b ≡ true → In (2 ^ 61) (cross a b)
+unfolding limit
+shoelace-within a b p q =
+    in-more tt
+    (in-sub
+    (in-mul (on-grid-in (a .x) (x-on a p)) (on-grid-in (b .y) (y-on b q)))
+    (in-mul (on-grid-in (a .y) (y-on a p)) (on-grid-in (b .x) (x-on b q))))

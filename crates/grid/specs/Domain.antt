@@ -1,7 +1,8 @@
 -- What every call asks of a row of coordinates.
-use mathlib.Core.Bool.{not}
+use mathlib.Core.Path.{_≡_}
+use mathlib.Core.Bool.{true, not}
 use mathlib.Core.List.{List, [], _∷_, _++_}
-use Prim.Native.Nat.{ℕ, _/_, _%_}
+use Prim.Native.Nat.{ℕ, _*_, _/_, _%_, _≤_}
 use lib.ListN.{length}
 use lib.IntN.{ℤ}
 use lib.Dec.{ltb, eqb}
@@ -23,3 +24,9 @@ off row = (not (all-on-grid row), 3) ∷ []
 -- what every call asks of a contour
 abbrev pub domain : List ℤ → List Rung
 domain row = size row ++ off row
+
+-- a contour of n points in the domain, as the inner functions ask for it
+pub record Contour (row : List ℤ) (n : ℕ) : Type 0 where
+  pub even : length row ≡ 2 * n
+  pub few : n ≤ most
+  pub on : all-on-grid row ≡ true

@@ -1,0 +1,28 @@
+-- `area::area` meets its contract.
+use borrow.Author.Needs.{needs, sfits-of}
+use mathlib.Core.Path.{_≡_, sym, _∙_, ap}
+use native.Mathlib.Omega.{arith}
+use mir.Syntax.{w64}
+use mir.Val.{SFits}
+use mir.Facts.{toZ-ofZ}
+use Rattle.area.proofs.AnswerLaws.{half-of, half-fits}
+use Rattle.area.proofs.area.Statement.{statement}
+use Rattle.area.proofs.area.Tie as tie
+
+-- the doubled area that was answered is an i64
+value-fits : (c : tie.After-struct-told) → SFits w64 (c .before .before .area-two .result .value)
+value-fits c = sfits-of (c .struct-told .given .1 .0 .1)
+
+area-two-requires : tie.Need-area-two-requires
+area-two-requires c κs = search needs
+
+div-t3 : tie.Need-div-t3
+div-t3 c = (omega arith, rw (toZ-ofZ (value-fits c)) (half-fits _ (value-fits c)))
+
+returns : tie.Need-returns
+returns c =
+    rw (toZ-ofZ (value-fits c))
+    (rw (toZ-ofZ (half-fits _ (value-fits c))) (half-of _ (c .before .before .area-two .result) (c .before .before .area-two .ensures)))
+
+pub area-spec : {M : Type 1} → statement M
+area-spec = tie.close (tie.spec area-two-requires div-t3 returns)
