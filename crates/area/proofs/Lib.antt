@@ -1,2 +1,5 @@
 pub mod AnswerLaws
 pub mod Sums
+pub mod Theorems
+pub mod Removal
+pub mod Cases
