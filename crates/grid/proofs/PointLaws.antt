@@ -16,7 +16,7 @@ use Rattle.integers.proofs.Logic.{and-left, and-right}
 use Rattle.grid.specs.declared.Point.{Point}
 use Rattle.grid.specs.declared.Steps.{Steps}
 use Rattle.grid.specs.Limits.{limit, on-grid, all-on-grid}
-use Rattle.grid.specs.Points.{at, sign, on, cross, dot, step, edges, Short, Corner}
+use Rattle.grid.specs.Points.{at, sign, on, cross, dot, step, edges, Short, AllOn}
 use Rattle.grid.proofs.LimitLaws.{on-grid-in, all-on-grid-at}
 
 pub sign-below : (z : ℤ) → ltZ z (pos 0) ≡ true → sign z ≡ negsuc 0
@@ -48,7 +48,7 @@ unfolding limit
 gap-in a b p q = in-sub (on-grid-in b q) (on-grid-in a p)
 
 -- the two steps of a corner
-pub corner-steps : {a b c : Point} → Corner a b c → Short (b .x -ℤ a .x) (b .y -ℤ a .y) (c .x -ℤ b .x) (c .y -ℤ b .y)
+pub corner-steps : {a b c : Point} → AllOn a b c → Short (b .x -ℤ a .x) (b .y -ℤ a .y) (c .x -ℤ b .x) (c .y -ℤ b .y)
 corner-steps {a} {b} {c} k = record {
   ux-in = gap-in (a .x) (b .x) (x-on a (k .a-on)) (x-on b (k .b-on));
   uy-in = gap-in (a .y) (b .y) (y-on a (k .a-on)) (y-on b (k .b-on));
@@ -57,7 +57,7 @@ corner-steps {a} {b} {c} k = record {
 }
 
 -- the same steps, as they are passed on
-pub short-passed : {a b c : Point} (s : Steps) → s ≡ edges a b c → Corner a b c
+pub short-passed : {a b c : Point} (s : Steps) → s ≡ edges a b c → AllOn a b c
     → Short (toZ w64 (ofZ w64 (s .ux))) (toZ w64 (ofZ w64 (s .uy))) (toZ w64 (ofZ w64 (s .vx))) (toZ w64 (ofZ w64 (s .vy)))
 unfolding limit
 short-passed s e k =
@@ -70,7 +70,7 @@ short-passed s e k =
       vy-in = back-in w64 (t .vy-in) tt;
     })
 
-pub steps-back : {a b c : Point} (s : Steps) → s ≡ edges a b c → Corner a b c
+pub steps-back : {a b c : Point} (s : Steps) → s ≡ edges a b c → AllOn a b c
     → record { ux = toZ w64 (ofZ w64 (s .ux)); uy = toZ w64 (ofZ w64 (s .uy)); vx = toZ w64 (ofZ w64 (s .vx)); vy = toZ w64 (ofZ w64 (s .vy)) } ≡ edges a b c
 unfolding limit
 steps-back s e k =
@@ -78,11 +78,11 @@ steps-back s e k =
     rw e (rw (back w64 (t .ux-in) tt, back w64 (t .uy-in) tt, back w64 (t .vx-in) tt, back w64 (t .vy-in) tt))
 
 -- cross and dot of differences of grid points lie within ±2^61
-pub cross-within : {a b c : Point} → Corner a b c → In (2 ^ 61) (cross (step a b) (step b c))
+pub cross-within : {a b c : Point} → AllOn a b c → In (2 ^ 61) (cross (step a b) (step b c))
 unfolding limit
 cross-within k = let s = corner-steps k in in-sub (in-mul (s .ux-in) (s .vy-in)) (in-mul (s .uy-in) (s .vx-in))
 
-pub dot-within : {a b c : Point} → Corner a b c → In (2 ^ 61) (dot (step a b) (step b c))
+pub dot-within : {a b c : Point} → AllOn a b c → In (2 ^ 61) (dot (step a b) (step b c))
 unfolding limit
 dot-within k = let s = corner-steps k in in-add (in-mul (s .ux-in) (s .vx-in)) (in-mul (s .uy-in) (s .vy-in))
 

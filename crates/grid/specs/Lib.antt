@@ -1,6 +1,8 @@
 pub mod Limits
 pub mod Points
 pub mod Neighbours
+pub mod Corners
 pub mod Area
 pub mod Ladder
 pub mod Domain
+pub mod Verdicts

@@ -31,7 +31,7 @@ abbrev pub on : Point → Bool
 on a = on-grid (a .x) && on-grid (a .y)
 
 -- three points on the grid
-pub record Corner (a b c : Point) : Type 0 where
+pub record AllOn (a b c : Point) : Type 0 where
   pub a-on : on a ≡ true
   pub b-on : on b ≡ true
   pub c-on : on c ≡ true

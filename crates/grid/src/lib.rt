@@ -7,7 +7,7 @@ ghost use Prim.Native.Nat.{_+_, _*_, _<_};
 ghost use lib.ListN.{length};
 ghost use lib.IntN.{_+ℤ_, _-ℤ_, _*ℤ_};
 ghost use Rattle.grid.specs.Limits.{on-grid, all-on-grid};
-ghost use Rattle.grid.specs.Points.{at, on, cross as cross-of, same as same-point, sign as sign-of, turn as turn-of, reverses as reverses-at, Short, Corner, edges as edges-of};
+ghost use Rattle.grid.specs.Points.{at, on, cross as cross-of, same as same-point, sign as sign-of, turn as turn-of, reverses as reverses-at, Short, AllOn, edges as edges-of};
 ghost use Rattle.grid.specs.Ladder.{first-of};
 ghost use Rattle.grid.specs.Domain.{domain as domain-of};
 
@@ -20,6 +20,12 @@ pub const MOST: usize = 65_536;
 pub struct Point {
     pub x: i32,
     pub y: i32,
+}
+
+// The answer to a question of yes or no: its reply number, and no where it is refused.
+pub struct Verdict {
+    pub reply: u32,
+    pub yes: bool,
 }
 
 pub fn on_grid(x: i32) -> bool
@@ -127,7 +133,7 @@ fn sign(z: i64) -> i32
 
 // The two edges at b on the way from a to c: the step from a to b, and the step from b to c.
 fn edges(a: Point, b: Point, c: Point) -> Steps
-    requires { ⌜ Corner a b c ⌝ }
+    requires { ⌜ AllOn a b c ⌝ }
     ensures { λ r. ⌜ r ≡ edges-of a b c ⌝ }
 {
     Steps {
@@ -140,7 +146,7 @@ fn edges(a: Point, b: Point, c: Point) -> Steps
 
 // How the way from a to c turns at b: 1 left, 0 straight on or back, -1 right.
 pub fn turn(a: Point, b: Point, c: Point) -> i32
-    requires { ⌜ Corner a b c ⌝ }
+    requires { ⌜ AllOn a b c ⌝ }
     ensures { λ r. ⌜ r ≡ turn-of a b c ⌝ }
 {
     let e = edges(a, b, c);
@@ -149,7 +155,7 @@ pub fn turn(a: Point, b: Point, c: Point) -> i32
 
 // Whether the two edges at b, on the way from a to c, point against each other.
 pub fn reverses(a: Point, b: Point, c: Point) -> bool
-    requires { ⌜ Corner a b c ⌝ }
+    requires { ⌜ AllOn a b c ⌝ }
     ensures { λ r. ⌜ r ≡ reverses-at a b c ⌝ }
 {
     let e = edges(a, b, c);

@@ -7,7 +7,7 @@ use mir.Val.{toZ, ofZ}
 use mir.Facts.{toZ-ofZ}
 use borrow.Author.Needs.{sfits-of}
 use Rattle.grid.specs.Limits.{on-grid}
-use Rattle.grid.specs.Points.{Corner}
+use Rattle.grid.specs.Points.{AllOn}
 use Rattle.grid.proofs.LimitLaws.{on-grid-back}
 use Rattle.grid.proofs.PointLaws.{x-on, y-on}
 use Rattle.grid.proofs.edges.Statement.{statement}
