@@ -35,6 +35,19 @@ module _ (row : List ℤ) where
     unfolding doubled
     doubled-done z n h = rw (← first-is (refusals row) 0 (onward _ _ _ tt e (past (ne-eqb _ _ n) foot)), h)
 
+-- and read again
+answer-reply : (k : ℕ) (z : ℤ) → answer k z .reply ≡ k
+answer-reply zero z = refl
+answer-reply (suc k) z = refl
+
+pub reply-is : (row : List ℤ) (r : Area) → r ≡ doubled row → r .reply ≡ first-of (refusals row)
+unfolding doubled
+reply-is row r e = ap (λ (a : Area). a .reply) e ∙ answer-reply (first-of (refusals row)) (reported (points row))
+
+pub value-is : (row : List ℤ) (r : Area) → r ≡ doubled row → first-of (refusals row) ≡ 0 → r .value ≡ reported (points row)
+unfolding doubled
+value-is row r e z = ap (λ (a : Area). a .value) e ∙ ap (λ (k : ℕ). answer k (reported (points row)) .value) z
+
 -- an area's half
 answer-half : (k : ℕ) (z : ℤ) → record { reply = answer k z .reply; value = halved (answer k z .value) } ≡ answer k (halved z)
 answer-half zero z = refl

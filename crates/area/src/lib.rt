@@ -1,7 +1,7 @@
 // The doubled and the halved area of a contour.
-pub mod answer;
+mod answer;
 
-use answer::Area;
+pub use answer::Area;
 ghost use mathlib.Core.Path.{_≡_};
 ghost use mathlib.Core.Bool.{true};
 ghost use Prim.Native.Nat.{_+_, _*_, _<_, _≤_, _^_};

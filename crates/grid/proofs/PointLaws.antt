@@ -9,7 +9,7 @@ use lib.IntN.{ℤ, pos, negsuc, _+ℤ_, _-ℤ_, _*ℤ_}
 use lib.Signed.{ltZ}
 use mir.Syntax.{w64}
 use mir.Val.{toZ, ofZ}
-use borrow.Author.Tests.{ltb-true}
+use borrow.Author.Tests.{ltb-true, lt-ltb}
 use Rattle.integers.specs.Bound.{In}
 use Rattle.integers.proofs.Bound.{in-sub, in-add, in-mul, in-more, back, back-in}
 use Rattle.integers.proofs.Logic.{and-left, and-right}
@@ -94,3 +94,25 @@ shoelace-within a b p q =
     (in-sub
     (in-mul (on-grid-in (a .x) (x-on a p)) (on-grid-in (b .y) (y-on b q)))
     (in-mul (on-grid-in (a .y) (y-on a p)) (on-grid-in (b .x) (x-on b q))))
+
+-- which sign a test shows
+pub sign-left : (z : ℤ) → ltZ (pos 0) (sign z) ≡ true → sign z ≡ pos 1
+sign-left (pos zero) e = absurd (subst T (sym e) tt)
+sign-left (pos (suc n)) e = refl
+sign-left (negsuc n) e = absurd (subst T (sym e) tt)
+
+pub sign-right : (z : ℤ) → ltZ (sign z) (pos 0) ≡ true → sign z ≡ negsuc 0
+sign-right (pos zero) e = absurd (subst T (sym e) tt)
+sign-right (pos (suc n)) e = absurd (subst T (sym e) tt)
+sign-right (negsuc n) e = refl
+
+pub sign-none : (z : ℤ) → ltZ (pos 0) (sign z) ≡ false → ltZ (sign z) (pos 0) ≡ false → sign z ≡ pos 0
+sign-none (pos zero) e f = refl
+sign-none (pos (suc n)) e f = absurd (subst T e tt)
+sign-none (negsuc n) e f = absurd (subst T f tt)
+
+-- a sign has the sign
+pub sign-test : (z : ℤ) → ltZ (pos 0) (sign z) ≡ ltZ (pos 0) z
+sign-test (pos zero) = refl
+sign-test (pos (suc n)) = sym (lt-ltb 0 (suc n) (omega arith))
+sign-test (negsuc n) = refl

@@ -1,20 +1,19 @@
 -- A verdict, refused or given.
 use mathlib.Core.Path.{_≡_, refl}
 use mathlib.Core.Bool.{Bool, false}
-use mathlib.Core.List.{List, [], _++_}
+use mathlib.Core.List.{List}
 use Prim.Native.Nat.{ℕ, zero, suc}
-use lib.Dec.{T}
 use Rattle.grid.specs.declared.Verdict.{Verdict}
 use Rattle.grid.specs.Ladder.{Rung, first-of}
 use Rattle.grid.specs.Verdicts.{verdict}
-use Rattle.grid.proofs.LadderLaws.{First, first-is}
 
 verdict-no : (k : ℕ) (b : Bool) → (k ≡ 0 → ⊥) → record { reply = k; yes = false } ≡ verdict k b
 verdict-no zero b n = absurd (n refl)
 verdict-no (suc k) b n = refl
 
-pub verdict-refused : (l : List Rung) (k : ℕ) (b : Bool) → First l k → (k ≡ 0 → ⊥) → record { reply = k; yes = false } ≡ verdict (first-of l) b
-verdict-refused l k b f n = rw (← first-is l k f) (verdict-no k b n)
+module _ (l : List Rung) (b : Bool) where
+  pub verdict-refused : (k : ℕ) → k ≡ first-of l → (k ≡ 0 → ⊥) → record { reply = k; yes = false } ≡ verdict (first-of l) b
+  verdict-refused k e n = rw (← e) (verdict-no k b n)
 
-pub verdict-given : (l : List Rung) (a b : Bool) → First l 0 → a ≡ b → record { reply = 0; yes = a } ≡ verdict (first-of l) b
-verdict-given l a b f e = rw (← first-is l 0 f, e)
+  pub verdict-given : (a : Bool) → first-of l ≡ 0 → a ≡ b → record { reply = 0; yes = a } ≡ verdict (first-of l) b
+  verdict-given a e f = rw (e, f)

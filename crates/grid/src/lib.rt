@@ -34,6 +34,12 @@ pub fn on_grid(x: i32) -> bool
     -LIMIT <= x && x <= LIMIT
 }
 
+pub fn point_on_grid(p: Point) -> bool
+    ensures { λ r. ⌜ r ≡ on p ⌝ }
+{
+    on_grid(p.x) && on_grid(p.y)
+}
+
 // Reads the whole row before it answers: a row is normally sound, and such a loop is the quicker one.
 fn all_on_grid(row: &[i32]) -> bool
     ensures { λ r. ⌜ r ≡ all-on-grid (now (row .entry)) ⌝ }

@@ -114,6 +114,13 @@ leZ-is e f = ap₂ leZ (is e) (is f) ∙ ⊖-leZ (up e) (dn e) (up f) (dn f)
 ltZ-is : (e f : Ex) → ltZ (value e) (value f) ≡ ltb (up e + dn f) (up f + dn e)
 ltZ-is e f = ap₂ ltZ (is e) (is f) ∙ ⊖-ltZ (up e) (dn e) (up f) (dn f)
 
+-- x < y is 0 < y - x
+pub ltZ-difference : (x y : ℤ) → ltZ x y ≡ ltZ (pos 0) (y -ℤ x)
+ltZ-difference x y =
+    let l : up (at x) + dn (at y) ≡ up (num 0) + dn (at y :- at x) = omega arith in
+    let r : up (at y) + dn (at x) ≡ up (at y :- at x) + dn (num 0) = omega arith in
+    ltZ-is (at x) (at y) ∙ ap₂ ltb l r ∙ sym (ltZ-is (num 0) (at y :- at x))
+
 -- to prove what a test gives
 pub leZ-yes! : (e f : Ex) → up e + dn f ≤ up f + dn e → leZ (value e) (value f) ≡ true
 leZ-yes! e f h = leZ-is e f ∙ le-leb (up e + dn f) (up f + dn e) h

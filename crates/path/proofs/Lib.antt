@@ -1,0 +1,2 @@
+pub mod ConvexLaws
+pub mod ContainsLaws

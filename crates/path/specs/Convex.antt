@@ -1,0 +1,29 @@
+-- Whether a contour is convex.
+use mathlib.Core.Bool.{Bool, not, _&&_, _||_}
+use mathlib.Core.List.{List}
+use lib.Dec.{leb}
+use lib.ListN.{length}
+use lib.IntN.{ℤ}
+use Rattle.grid.specs.declared.Point.{Point}
+use Rattle.grid.specs.declared.Verdict.{Verdict}
+use Rattle.grid.specs.Points.{points}
+use Rattle.grid.specs.Corners.{distinct-neighbours, Corner, corners, some, left, right, back}
+use Rattle.grid.specs.Ladder.{first-of}
+use Rattle.grid.specs.Domain.{domain}
+use Rattle.grid.specs.Verdicts.{verdict}
+
+-- all non-zero turns have one sign, and no edge reverses
+abbrev pub one-way : List Corner → Bool
+one-way ks = not (some left ks && some right ks) && not (some back ks)
+
+-- at most two left, or those left turn one way
+unfoldable pub convex-left : List Point → Bool
+convex-left l = leb (length l) 2 || one-way (corners l)
+
+-- at most two points, or what is left after skipping equal neighbours is convex
+unfoldable pub is-convex : List Point → Bool
+is-convex l = leb (length l) 2 || convex-left (distinct-neighbours l)
+
+-- the answer
+unfoldable pub convex : List ℤ → Verdict
+convex row = verdict (first-of (domain row)) (is-convex (points row))

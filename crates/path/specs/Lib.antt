@@ -1,0 +1,4 @@
+pub mod Convex
+pub mod Clockwise
+pub mod Contains
+pub mod Inside

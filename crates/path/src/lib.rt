@@ -1,0 +1,211 @@
+// Whether a contour is convex, wound clockwise, or contains a point.
+ghost use mathlib.Core.Path.{_≡_};
+ghost use mathlib.Core.Bool.{true};
+ghost use Prim.Native.Nat.{_<_};
+ghost use Rattle.grid.specs.Points.{AllOn, on, points as points-of};
+ghost use Rattle.grid.specs.Corners.{distinct-neighbours};
+ghost use Rattle.grid.specs.Domain.{Contour};
+ghost use Rattle.path.specs.Convex.{convex-left, convex as convex-verdict};
+ghost use Rattle.path.specs.Inside.{looked, Other};
+ghost use Rattle.path.specs.Clockwise.{clockwise};
+ghost use Rattle.path.specs.Contains.{crosses as crosses-at, contained, contains as contains-verdict};
+use grid::Point;
+use grid::Verdict;
+
+// What the corners met so far have shown.
+struct Seen {
+    left: bool,
+    right: bool,
+    back: bool,
+}
+
+// What is seen with the corner at b, on the way from a to c.
+fn look(seen: Seen, a: Point, b: Point, c: Point) -> Seen
+    requires { ⌜ AllOn a b c ⌝ }
+    ensures { λ r. ⌜ r ≡ looked seen (record { before = a; vertex = b; after = c }) ⌝ }
+{
+    let turn = grid::turn(a, b, c);
+    if turn > 0 {
+        return Seen {
+            left: true,
+            right: seen.right,
+            back: seen.back,
+        };
+    }
+    if turn < 0 {
+        return Seen {
+            left: seen.left,
+            right: true,
+            back: seen.back,
+        };
+    }
+    Seen {
+        left: seen.left,
+        right: seen.right,
+        back: seen.back | grid::reverses(a, b, c),
+    }
+}
+
+// The first position whose point differs from the last point; n where there is none.
+fn first_other(points: &[i32], n: usize) -> usize
+    requires { ⌜ Contour (now points) n × (0 < n) ⌝ }
+    ensures { λ r. ⌜ Other (now (points .entry)) n r ⌝ }
+{
+    let last = grid::point_at(points, n - 1);
+    let mut i: usize = 0;
+    while i < n {
+        if !grid::same(grid::point_at(points, i), last) {
+            return i;
+        }
+        i += 1;
+    }
+    n
+}
+
+// Whether the contour turns one way and never back. Its point at `first` is the first that differs from the last.
+fn one_way(points: &[i32], n: usize, first: usize) -> bool
+    requires { ⌜ Contour (now points) n × Other (now points) n first × (first < n) ⌝ }
+    ensures { λ r. ⌜ r ≡ convex-left (distinct-neighbours (points-of (now (points .entry)))) ⌝ }
+{
+    let o = grid::point_at(points, first);
+    let mut a = grid::point_at(points, n - 1);
+    let mut b = o;
+    let mut seen = Seen {
+        left: false,
+        right: false,
+        back: false,
+    };
+    let mut kept: usize = 1;
+    let mut i = first + 1;
+    while i < n {
+        let c = grid::point_at(points, i);
+        if grid::same(c, b) {
+            i += 1;
+        } else {
+            seen = look(seen, a, b, c);
+            if seen.left & seen.right {
+                return false;
+            }
+            a = b;
+            b = c;
+            kept += 1;
+            i += 1;
+        }
+    }
+    if kept <= 2 {
+        return true;
+    }
+    let all = look(seen, a, b, o);
+    !(all.left & all.right) & !all.back
+}
+
+// Whether all turns have one sign and no edge reverses, equal neighbours skipped.
+pub fn is_convex(points: &[i32]) -> Verdict
+    ensures { λ r. ⌜ r ≡ convex-verdict (now (points .entry)) ⌝ }
+{
+    let refusal = grid::domain(points);
+    if refusal != 0 {
+        return Verdict {
+            reply: refusal,
+            yes: false,
+        };
+    }
+    let n = points.len() / 2;
+    if n <= 2 {
+        return Verdict {
+            reply: grid::reply::DONE,
+            yes: true,
+        };
+    }
+    let first = first_other(points, n);
+    if first == n {
+        return Verdict {
+            reply: grid::reply::DONE,
+            yes: true,
+        };
+    }
+    Verdict {
+        reply: grid::reply::DONE,
+        yes: one_way(points, n, first),
+    }
+}
+
+// Whether the reported doubled area is at or below zero.
+pub fn is_clockwise_ordered(points: &[i32]) -> Verdict
+    ensures { λ r. ⌜ r ≡ clockwise (now (points .entry)) ⌝ }
+{
+    let two = area::area_two(points);
+    if two.reply != 0 {
+        return Verdict {
+            reply: two.reply,
+            yes: false,
+        };
+    }
+    Verdict {
+        reply: grid::reply::DONE,
+        yes: two.value <= 0,
+    }
+}
+
+// Whether the edge a-b has one end above p's horizontal and one not, and meets it strictly to the right of p.
+fn crosses(p: Point, a: Point, b: Point) -> bool
+    requires { ⌜ AllOn p a b ⌝ }
+    ensures { λ r. ⌜ r ≡ crosses-at p a b ⌝ }
+{
+    if (p.y < a.y) == (p.y < b.y) {
+        return false;
+    }
+    if a.y < b.y {
+        grid::turn(a, b, p) > 0
+    } else {
+        grid::turn(b, a, p) > 0
+    }
+}
+
+// Whether an odd number of the closed contour's edges crosses p's horizontal to the right of p.
+fn parity(points: &[i32], n: usize, p: Point) -> bool
+    requires { ⌜ Contour (now points) n × (0 < n) × (on p ≡ true) ⌝ }
+    ensures { λ r. ⌜ r ≡ contained p (points-of (now (points .entry))) ⌝ }
+{
+    let mut odd = false;
+    let mut a = grid::point_at(points, n - 1);
+    let mut i: usize = 0;
+    while i < n {
+        let b = grid::point_at(points, i);
+        odd = odd != crosses(p, a, b);
+        a = b;
+        i += 1;
+    }
+    odd
+}
+
+// Whether the contour contains the point x, y.
+pub fn contains_point(points: &[i32], x: i32, y: i32) -> Verdict
+    ensures { λ r. ⌜ r ≡ contains-verdict (now (points .entry)) x y ⌝ }
+{
+    let refusal = grid::domain(points);
+    if refusal != 0 {
+        return Verdict {
+            reply: refusal,
+            yes: false,
+        };
+    }
+    let p = Point { x, y };
+    if !grid::point_on_grid(p) {
+        return Verdict {
+            reply: grid::reply::OFF_GRID,
+            yes: false,
+        };
+    }
+    let n = points.len() / 2;
+    if n == 0 {
+        return Verdict {
+            reply: grid::reply::DONE,
+            yes: false,
+        };
+    }
+    Verdict {
+        reply: grid::reply::DONE,
+        yes: parity(points, n, p),
+    }
+}
