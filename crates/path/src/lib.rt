@@ -10,7 +10,7 @@ ghost use Rattle.path.specs.Inside.{looked, Other};
 ghost use Rattle.path.specs.Clockwise.{clockwise};
 ghost use Rattle.path.specs.Contains.{crosses as crosses-at, contained, contains as contains-verdict};
 use grid::Point;
-use grid::Verdict;
+pub use grid::Verdict;
 
 // What the corners met so far have shown.
 struct Seen {

@@ -1,0 +1,14 @@
+//! A stand-in for the crate i_float: as much of it as the given files of i_shape
+//! use, at 32-bit coordinates, written from document 01's arithmetic and not from
+//! the crate itself.
+//!
+//! What rests on it, and is therefore not the original's own word:
+//! - cross(a, b) = ax·by - ay·bx and dot(a, b) = ax·bx + ay·by, over i64;
+//! - the wrapping sum and product, and the half that cuts toward zero, of i64;
+//! - `Triangle::is_clockwise` is strict: three points on one line are not clockwise.
+//!
+//! Differences of grid points lie within ±2^30, so neither a difference nor a
+//! cross or dot of two of them overflows.
+
+pub mod int;
+pub mod triangle;

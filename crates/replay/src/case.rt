@@ -1,0 +1,36 @@
+// A case of the list, whatever its kind.
+ghost use Prim.Native.Nat.{_≤_};
+ghost use Rattle.replay.specs.Buffer.{Held};
+use crate::contour;
+use crate::row::ROW;
+use crate::source::BUFFER;
+use crate::source::Source;
+use crate::text::TEXT;
+
+// A case that was replayed: how long its line of answers is, and the end of its line in the list.
+pub struct Replayed {
+    pub length: usize,
+    pub source: Source,
+}
+
+// Reads a case, whose first byte names its kind, and puts its answers into `text`.
+pub fn replay(
+    start: Source,
+    bytes: &mut [u8; BUFFER],
+    row: &mut [i32; ROW],
+    text: &mut [u8; TEXT],
+    case: u64,
+) -> Replayed
+    requires { ⌜ Held start ⌝ }
+    ensures { λ r. ⌜ Held (r .source) ⌝ }
+    ensures { λ r. ⌜ r .length ≤ 256 ⌝ }
+{
+    let kind = start.here;
+    match kind {
+        b'c' => contour::replay(start.step(bytes), bytes, row, text, case),
+        _ => Replayed {
+            length: 0,
+            source: start.mark_damaged(),
+        },
+    }
+}
