@@ -8,7 +8,6 @@ use Rattle.grid.specs.Limits.{limit, most, on-grid, all-on-grid}
 use Rattle.grid.specs.Points.{points}
 use Rattle.grid.specs.Area.{around, exact, wrapped}
 use Rattle.grid.specs.Ladder.{first-of}
-use Rattle.area.specs.declared.answer.Area.{Area}
 use Rattle.area.specs.Answers.{doubled, half}
 
 -- both areas of a contour are answered

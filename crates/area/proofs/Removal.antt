@@ -1,10 +1,10 @@
 -- Removing a vertex changes the exact doubled area by the cross at it.
 use mathlib.Core.Path.{_≡_, refl, ap₂}
 use mathlib.Core.List.{List, [], _∷_, _++_}
-use Prim.Native.Nat.{ℕ, zero, suc, _+_, _-_, _<_}
+use Prim.Native.Nat.{ℕ, zero, suc, _-_, _<_}
 use native.Mathlib.Omega.{arith}
 use lib.ListN.{length, getD, take, drop}
-use lib.IntN.{ℤ, pos, negsuc, _+ℤ_, _-ℤ_, _*ℤ_}
+use lib.IntN.{pos, _+ℤ_}
 use Rattle.integers.specs.Polynomial.{Po, #, num, _:+_, _:-_, _:*_}
 use Rattle.integers.proofs.Polynomial.{ring, ring-by}
 use Rattle.grid.specs.declared.Point.{Point}

@@ -1,13 +1,12 @@
 -- The sum along a contour, as a loop gathers it modulo 2^64: what it has, and what is left to add.
-use mathlib.Core.Path.{_≡_, refl, sym, _∙_, ap}
-use mathlib.Core.List.{List, [], _∷_}
+use mathlib.Core.Path.{_≡_, sym, _∙_, ap}
+use mathlib.Core.List.{List}
 use Prim.Native.Nat.{ℕ, _+_, _-_, _<_, _≤_}
 use native.Mathlib.Omega.{arith}
 use lib.ListN.{drop}
 use lib.IntN.{ℤ, pos, _+ℤ_, +ℤ-assoc, +ℤ-idl}
 use Rattle.integers.specs.Modulo.{mod64}
 use Rattle.integers.proofs.Modulo.{mod64-add}
-use Rattle.grid.specs.declared.Point.{Point}
 use Rattle.grid.specs.Points.{at, cross, points}
 use Rattle.grid.specs.Area.{around, exact}
 use Rattle.grid.specs.Domain.{Contour}

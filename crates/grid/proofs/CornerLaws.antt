@@ -1,20 +1,19 @@
 -- A contour's corners, met one after the other along its row.
 use mathlib.Core.Path.{_≡_, refl, sym, _∙_, ap, ap₂}
-use mathlib.Core.Logic.{⊎-elim}
-use mathlib.Core.Bool.{Bool, true, false, _&&_, _||_, or-assoc, or-false}
+use mathlib.Core.Bool.{Bool, true, false}
 use mathlib.Core.List.{List, [], _∷_}
 use Prim.Native.Nat.{ℕ, zero, suc, _+_, _-_, _<_, _≤_}
 use native.Mathlib.Omega.{arith}
 use lib.ListN.{length, drop}
-use lib.IntN.{ℤ, pos, negsuc, _-ℤ_, _*ℤ_}
+use lib.IntN.{ℤ, pos}
 use Rattle.integers.specs.Equal.{eqZ}
-use Rattle.integers.specs.Polynomial.{Po, #, num, _:+_, _:-_, _:*_}
+use Rattle.integers.specs.Polynomial.{#, num, _:-_, _:*_}
 use Rattle.integers.proofs.Equal.{eqZ-true}
 use Rattle.integers.proofs.Logic.{and-left, and-right}
 use Rattle.integers.proofs.Polynomial.{ring}
 use Rattle.grid.specs.declared.Point.{Point}
-use Rattle.grid.specs.Points.{at, points, same, sign, bend, turn, reverses}
-use Rattle.grid.specs.Corners.{last, differing, distinct-neighbours, Corner, corners-from, corners, some, turn-at, left, right}
+use Rattle.grid.specs.Points.{at, points, same, sign, bend, turn}
+use Rattle.grid.specs.Corners.{last, differing, distinct-neighbours, Corner, corners-from, corners, some, turn-at}
 use Rattle.grid.specs.Domain.{Contour}
 use Rattle.grid.proofs.RowLaws.{points-more, points-done}
 

@@ -3,7 +3,6 @@ use mathlib.Core.Path.{_≡_, refl}
 use mathlib.Core.Bool.{Bool, false}
 use mathlib.Core.List.{List}
 use Prim.Native.Nat.{ℕ, zero, suc}
-use Rattle.grid.specs.declared.Verdict.{Verdict}
 use Rattle.grid.specs.Ladder.{Rung, first-of}
 use Rattle.grid.specs.Verdicts.{verdict}
 

@@ -1,15 +1,12 @@
--- Equality of signed numbers. `==` of two signed locals compares their bits, so a need or a test's fact speaks of `ofZ w a` and `ofZ w b`.
+-- Equality of signed numbers: `==` of two signed locals compares their bits, `ofZ w a` and `ofZ w b`.
 use mathlib.Core.Path.{_≡_, refl, sym, _∙_, ap, subst}
 use mathlib.Core.Bool.{Bool, true, false}
-use Prim.Native.Nat.{ℕ, zero, suc, _<_}
-use native.Mathlib.Omega.{arith}
 use lib.Dec.{T, eqb}
-use lib.IntN.{ℤ, pos, negsuc, natAbs, pos-ne-negsuc}
-use lib.Signed.{mag, ltZ}
+use lib.IntN.{ℤ, pos, negsuc}
 use mir.Syntax.{Width}
 use mir.Val.{SFits, toZ, ofZ}
 use mir.Facts.{toZ-ofZ}
-use borrow.Author.Tests.{eqb-true, eqb-false, eq-eqb, ne-eqb}
+use borrow.Author.Tests.{eqb-true, eqb-false, eq-eqb}
 use Rattle.integers.specs.Equal.{eqZ}
 
 pub eqZ-true : (a b : ℤ) → eqZ a b ≡ true → a ≡ b
@@ -18,14 +15,14 @@ eqZ-true (pos a) (negsuc b) e = absurd (subst T (sym e) tt)
 eqZ-true (negsuc a) (pos b) e = absurd (subst T (sym e) tt)
 eqZ-true (negsuc a) (negsuc b) e = ap negsuc (eqb-true a b e)
 
-pub eqZ-same : (a : ℤ) → eqZ a a ≡ true
+eqZ-same : (a : ℤ) → eqZ a a ≡ true
 eqZ-same (pos a) = eq-eqb a a refl
 eqZ-same (negsuc a) = eq-eqb a a refl
 
-pub eq-eqZ : (a b : ℤ) → a ≡ b → eqZ a b ≡ true
+eq-eqZ : (a b : ℤ) → a ≡ b → eqZ a b ≡ true
 eq-eqZ a b e = ap (λ (x : ℤ). eqZ a x) (sym e) ∙ eqZ-same a
 
-pub ne-eqZ : (a b : ℤ) → (a ≡ b → ⊥) → eqZ a b ≡ false
+ne-eqZ : (a b : ℤ) → (a ≡ b → ⊥) → eqZ a b ≡ false
 ne-eqZ a b n = go (eqZ a b) refl
   where
     go : (t : Bool) → eqZ a b ≡ t → eqZ a b ≡ false

@@ -1,20 +1,18 @@
--- Sums modulo 2 ^ 64. `mod64 z` is the u64 that stands for z. A wrapped sum of residues is the residue of the sum, and the residue of a number that an i64 holds reads back as that number.
-use mathlib.Core.Path.{_≡_, refl, sym, _∙_, ap, subst}
-use Prim.Native.Nat.{ℕ, zero, suc, _+_, _*_, _-_, _/_, _%_, _<_, _≤_, _^_}
+-- Sums modulo 2^64: a wrapped sum of residues is the residue of the sum, and the residue of an i64 reads back as that number.
+use mathlib.Core.Path.{_≡_, refl, sym, _∙_, ap}
+use Prim.Native.Nat.{ℕ, _+_, _*_, _/_, _%_, _<_, _^_}
 use native.Mathlib.Omega.{arith}
-use native.Mathlib.Nat.{add-mul-mod-self-right, zero-add}
-use native.Mathlib.Numerals.{add-one}
-use lib.IntN.{ℤ, pos, negsuc, negℤ, _+ℤ_, _-ℤ_}
-use lib.Signed.{mag}
+use native.Mathlib.Nat.{add-mul-mod-self-right}
+use lib.IntN.{ℤ, pos, negsuc, _+ℤ_, _-ℤ_}
 use mir.Syntax.{w64}
 use mir.Val.{SFits, toZ, ofZ}
 use mir.Facts.{toZ-ofZ}
 use Rattle.integers.specs.Linear.{at, num, _:+_, _:-_, above, below}
 use Rattle.integers.specs.Modulo.{mod64}
-use Rattle.integers.proofs.Linear.{eqℕ}
+use Rattle.integers.proofs.Linear.{same-parts}
 
--- n and z are congruent, with how many times 2 ^ 64 each side is off
-pub record Cong (n : ℕ) (z : ℤ) : Type 0 where
+-- n and z differ by multiples of 2^64
+record Cong (n : ℕ) (z : ℤ) : Type 0 where
   pub q : ℕ
   pub r : ℕ
   pub eq : n + below z + q * 2 ^ 64 ≡ above z + r * 2 ^ 64
@@ -24,13 +22,13 @@ unfolding mod64
 mod64-lt (pos n) = omega arith
 mod64-lt (negsuc n) = omega arith
 
-pub mod64-cong : (z : ℤ) → Cong (mod64 z) z
+mod64-cong : (z : ℤ) → Cong (mod64 z) z
 unfolding mod64 above below
 mod64-cong (pos n) = record { q = n / 2 ^ 64; r = 0; eq = omega arith }
 mod64-cong (negsuc n) = record { q = 0; r = 1 + n / 2 ^ 64; eq = omega arith }
 
--- no other number below 2 ^ 64 is congruent
-pub mod64-only : (z : ℤ) (m : ℕ) → m < 2 ^ 64 → Cong m z → m ≡ mod64 z
+-- no other number below 2^64 is congruent
+mod64-only : (z : ℤ) (m : ℕ) → m < 2 ^ 64 → Cong m z → m ≡ mod64 z
 unfolding mod64 above below
 mod64-only (pos n) m h c =
     let e : m + c .q * 2 ^ 64 ≡ n + c .r * 2 ^ 64 = omega (arith, c .eq) in
@@ -41,13 +39,12 @@ mod64-only (negsuc n) m h c =
     let f : (m + 1 + n % 2 ^ 64) % 2 ^ 64 ≡ 0 % 2 ^ 64 = sym (add-mul-mod-self-right (m + 1 + n % 2 ^ 64) (n / 2 ^ 64 + c .q) (2 ^ 64)) ∙ ap (λ (x : ℕ). x % 2 ^ 64) e ∙ add-mul-mod-self-right 0 (c .r) (2 ^ 64) in
     omega arith
 
--- ---- sums and differences
 cong-add : (m : ℕ) (s t : ℤ) → Cong m s → Cong (mod64 (pos m +ℤ t)) (s +ℤ t)
 cong-add m s t c =
     let d = mod64-cong (pos m +ℤ t) in
-    record { q = c .q + d .q; r = c .r + d .r; eq = omega (arith, c .eq, d .eq, eqℕ (at (pos m +ℤ t)) (num m :+ at t) refl, eqℕ (at (s +ℤ t)) (at s :+ at t) refl) }
+    record { q = c .q + d .q; r = c .r + d .r; eq = omega (arith, c .eq, d .eq, same-parts (at (pos m +ℤ t)) (num m :+ at t) refl, same-parts (at (s +ℤ t)) (at s :+ at t) refl) }
 
--- the step of a loop: the term t goes onto the residue of s
+-- the term t goes onto the residue of s
 pub mod64-add : (s t : ℤ) → mod64 (pos (mod64 s) +ℤ t) ≡ mod64 (s +ℤ t)
 mod64-add s t = mod64-only (s +ℤ t) (mod64 (pos (mod64 s) +ℤ t)) (mod64-lt (pos (mod64 s) +ℤ t)) (cong-add (mod64 s) s t (mod64-cong s))
 
@@ -57,9 +54,9 @@ unfolding mod64
 wrap-add a b r e = e
 
 pub wrap-sub : (a b r : ℕ) → r < 2 ^ 64 → (r + b) % 2 ^ 64 ≡ a → r ≡ mod64 (pos a -ℤ pos b)
-wrap-sub a b r h e = mod64-only (pos a -ℤ pos b) r h (record { q = 0; r = (r + b) / 2 ^ 64; eq = omega (arith, eqℕ (at (pos a -ℤ pos b)) (num a :- num b) refl) })
+wrap-sub a b r h e = mod64-only (pos a -ℤ pos b) r h (record { q = 0; r = (r + b) / 2 ^ 64; eq = omega (arith, same-parts (at (pos a -ℤ pos b)) (num a :- num b) refl) })
 
--- ---- back to a signed number
+-- back to a signed number
 pub mod64-ofZ : (z : ℤ) → SFits w64 z → mod64 z ≡ ofZ w64 z
 unfolding mod64
 mod64-ofZ (pos n) f = omega (arith, f .sfits)

@@ -1,5 +1,4 @@
--- A solver for commutative rings at ℤ, by reflection. An expression's variables are numbers, read in a list ρ. Its normal form is a sorted list of terms, each an integer and a sorted list of variables.
--- `ring e f ρ refl : ev ρ e ≡ ev ρ f` where the two normal forms are the same.
+-- Two polynomials with the same normal form are equal: `ring e f ρ refl : ev ρ e ≡ ev ρ f`.
 use mathlib.Core.Path.{_≡_, refl, sym, _∙_, ap, ap₂, subst}
 use mathlib.Core.List.{List, [], _∷_}
 use Prim.Native.Nat.{ℕ, zero, suc, compare, Ordering, Ordering·lt, Ordering·eq, Ordering·gt}
@@ -7,7 +6,7 @@ use lib.ListN.{getD}
 use lib.Dec.{T, eqb→eq, isEq}
 use lib.IntN.{ℤ, pos, negsuc, negℤ, _+ℤ_, _-ℤ_, _*ℤ_, +ℤ-assoc, +ℤ-comm, +ℤ-idl, +ℤ-idr, sucℤ-*ℤ, zero-*ℤ, *ℤ-zero, *ℤ-comm, negℤ-+ℤ, +ℤ-invr, -ℤ-+ℤ-cancel}
 use Rattle.integers.specs.Polynomial.{Po, #, num, _:+_, _:-_, _:*_, :neg, ev, Mono, Term, Poly, at-var, ins, mulM, then, cmp, cons, at-term, insT, addP, negP, mulT, mulP, norm}
-use Rattle.integers.proofs.Ring.{+ℤ-left-comm, *ℤ-assoc, *ℤ-distribl, *ℤ-distribr, neg-*ℤ, *ℤ-neg}
+use Rattle.integers.proofs.Ring.{+ℤ-left-comm, *ℤ-assoc, *ℤ-distribl, *ℤ-distribr, neg-*ℤ}
 
 one-* : (x : ℤ) → pos 1 *ℤ x ≡ x
 one-* x = sucℤ-*ℤ (pos 0) x ∙ ap (λ (y : ℤ). y +ℤ x) (zero-*ℤ x) ∙ +ℤ-idl x

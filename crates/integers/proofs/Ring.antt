@@ -1,8 +1,7 @@
--- The ring laws of ℤ that lib.IntN lacks, and ℤ as differences of naturals, so that `omega` over ℕ decides what is linear over ℤ.
-use mathlib.Core.Path.{_≡_, refl, sym, _∙_, ap, subst}
-use Prim.Native.Nat.{ℕ, zero, suc, _+_, _*_, _-_, _<_, _≤_}
-use native.Mathlib.Omega.{arith}
-use lib.IntN.{ℤ, pos, negsuc, negℤ, sucℤ, predℤ, _+ℤ_, _-ℤ_, _*ℤ_, +ℤ-assoc, +ℤ-comm, +ℤ-idl, +ℤ-idr, +ℤ-invr, +ℤ-invl, sucℤ-+ℤ, predℤ-+ℤ, sucℤ-*ℤ, predℤ-*ℤ, zero-*ℤ, *ℤ-zero, *ℤ-comm, negℤ-+ℤ, negℤ-negℤ}
+-- The ring laws of ℤ that the kit lacks, and integers as differences of natural numbers.
+use mathlib.Core.Path.{_≡_, sym, _∙_, ap}
+use Prim.Native.Nat.{ℕ, zero, suc, _+_, _*_}
+use lib.IntN.{ℤ, pos, negsuc, negℤ, predℤ, _+ℤ_, _-ℤ_, _*ℤ_, +ℤ-assoc, +ℤ-comm, +ℤ-idl, +ℤ-idr, +ℤ-invr, +ℤ-invl, sucℤ-+ℤ, predℤ-+ℤ, sucℤ-*ℤ, predℤ-*ℤ, zero-*ℤ, *ℤ-comm, negℤ-+ℤ, negℤ-negℤ}
 
 pub +ℤ-left-comm : (a b c : ℤ) → a +ℤ (b +ℤ c) ≡ b +ℤ (a +ℤ c)
 +ℤ-left-comm a b c = sym (+ℤ-assoc a b c) ∙ ap (λ (x : ℤ). x +ℤ c) (+ℤ-comm a b) ∙ +ℤ-assoc b a c
@@ -42,7 +41,7 @@ pub *ℤ-assoc : (a b c : ℤ) → (a *ℤ b) *ℤ c ≡ a *ℤ (b *ℤ c)
     minus-one x = predℤ-*ℤ (pos zero) x ∙ ap (λ (y : ℤ). y -ℤ x) (zero-*ℤ x) ∙ +ℤ-idl (negℤ x)
 *ℤ-assoc (negsuc (suc n)) b c = ap (λ (x : ℤ). x *ℤ c) (predℤ-*ℤ (negsuc n) b) ∙ *ℤ-distribr (negsuc n *ℤ b) (negℤ b) c ∙ ap (λ (x : ℤ). x +ℤ negℤ b *ℤ c) (*ℤ-assoc (negsuc n) b c) ∙ ap (λ (x : ℤ). negsuc n *ℤ (b *ℤ c) +ℤ x) (neg-*ℤ b c) ∙ sym (predℤ-*ℤ (negsuc n) (b *ℤ c))
 
--- ---- ℤ as differences of naturals
+-- the integer a - b
 infixl 6 _⊖_
 pub _⊖_ : ℕ → ℕ → ℤ
 a ⊖ b = pos a +ℤ negℤ (pos b)
@@ -71,7 +70,7 @@ unfolding _⊖_
     ∙ ap (λ (x : ℤ). (pos (a * c) +ℤ negℤ (pos (a * d))) +ℤ x) (⊖-neg (b * c) (b * d))
     ∙ ⊖-add (a * c) (a * d) (b * d) (b * c)
 
--- an equation of differences is one of naturals, both ways
+-- differences of equal sums are equal
 pub ⊖-eq : (a b c d : ℕ) → a + d ≡ c + b → a ⊖ b ≡ c ⊖ d
 unfolding _⊖_
 ⊖-eq a b c d h = move (pos a) (pos b) (pos c) (pos d) (ap pos h)

@@ -1,6 +1,6 @@
 -- Which edges count, and their parity along a contour.
 use mathlib.Core.Path.{_≡_, refl, sym, _∙_, ap, ap₂}
-use mathlib.Core.Bool.{Bool, true, false, not, xor, Bool·beq, _&&_}
+use mathlib.Core.Bool.{Bool, true, false, not, xor, Bool·beq}
 use mathlib.Core.List.{List, [], _∷_}
 use Prim.Native.Nat.{ℕ, _+_, _-_, _<_, _≤_}
 use native.Mathlib.Omega.{arith}
@@ -9,12 +9,11 @@ use lib.IntN.{ℤ, pos, _-ℤ_, _*ℤ_}
 use lib.Signed.{ltZ}
 use mir.Syntax.{w32}
 use mir.Val.{toZ, ofZ}
-use Rattle.integers.specs.Polynomial.{Po, #, _:-_, _:*_}
+use Rattle.integers.specs.Polynomial.{#, _:-_, _:*_}
 use Rattle.integers.proofs.Linear.{ltZ-difference}
 use Rattle.integers.proofs.Polynomial.{ring}
 use Rattle.grid.specs.declared.Point.{Point}
 use Rattle.grid.specs.Points.{at, on, points, bend, turn, AllOn}
-use Rattle.grid.specs.Corners.{last}
 use Rattle.grid.specs.Domain.{count, domain, Contour}
 use Rattle.grid.specs.Ladder.{first-of}
 use Rattle.grid.proofs.LimitLaws.{on-grid-back}

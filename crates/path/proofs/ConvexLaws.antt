@@ -1,5 +1,5 @@
 -- The loop over a contour's corners: what has been seen, and what is left to see.
-use mathlib.Core.Path.{_≡_, refl, sym, _∙_, ap, ap₂}
+use mathlib.Core.Path.{_≡_, refl, sym, _∙_, ap}
 use mathlib.Core.Bool.{Bool, true, false, not, _&&_, _||_, or-true, or-false, or-assoc, true≢false}
 use mathlib.Core.List.{List, [], _∷_}
 use Prim.Native.Nat.{ℕ, suc, _+_, _-_, _<_, _≤_}
@@ -7,13 +7,13 @@ use native.Mathlib.Omega.{arith}
 use native.Mathlib.Decide.{decLe}
 use lib.Dec.{leb}
 use lib.ListN.{length, drop}
-use lib.IntN.{ℤ, pos, negsuc}
+use lib.IntN.{ℤ, pos}
 use lib.Signed.{ltZ}
 use borrow.Author.Tests.{le-leb, lt-leb}
 use Rattle.integers.proofs.Logic.{and-left, and-right}
 use Rattle.grid.specs.declared.Point.{Point}
 use Rattle.grid.specs.Points.{at, on, same, points, bend, turn, reverses}
-use Rattle.grid.specs.Corners.{last, differing, distinct-neighbours, Corner, corners-from, corners, some, left, right, back}
+use Rattle.grid.specs.Corners.{differing, distinct-neighbours, Corner, corners-from, corners, some, left, right, back}
 use Rattle.grid.specs.Domain.{count, Contour}
 use Rattle.grid.proofs.PointLaws.{at-on, sign-left, sign-right, sign-none}
 use Rattle.grid.proofs.RowLaws.{points-count, points-more, points-done}

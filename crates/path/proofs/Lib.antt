@@ -1,2 +1,3 @@
 pub mod ConvexLaws
 pub mod ContainsLaws
+pub mod Cases

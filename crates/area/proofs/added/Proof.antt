@@ -1,15 +1,15 @@
 -- `area::added` meets its contract: the size of t is taken off or put on, modulo 2^64.
 use borrow.Author.Needs.{needs}
-use mathlib.Core.Path.{_≡_, refl, sym, _∙_, ap, subst}
+use mathlib.Core.Path.{_≡_, _∙_, ap}
 use mathlib.Core.Bool.{true, false}
-use Prim.Native.Nat.{ℕ, _^_, _<_}
+use Prim.Native.Nat.{_^_}
 use native.Mathlib.Omega.{arith}
-use lib.IntN.{ℤ, pos, negsuc, negℤ, natAbs, _-ℤ_, _+ℤ_, +ℤ-idl, negℤ-negℤ}
+use lib.IntN.{ℤ, pos, negℤ, natAbs, _-ℤ_, _+ℤ_, +ℤ-idl, negℤ-negℤ}
 use lib.Signed.{ltZ}
 use mir.Syntax.{w64}
-use mir.Val.{SFits, toZ, ofZ}
+use mir.Val.{toZ, ofZ}
 use Rattle.integers.specs.Linear.{at, num, _:-_}
-use Rattle.integers.proofs.Linear.{ltZ-yes?, ltZ-no! }
+use Rattle.integers.proofs.Linear.{lt-means, lt-fails}
 use Rattle.integers.specs.Bound.{In}
 use Rattle.integers.proofs.Bound.{in-fits, in-sub, in-pos, back, back-in, cast-u64, cast-u64-is}
 use Rattle.integers.specs.Modulo.{mod64}
@@ -28,7 +28,7 @@ module _ (t : ℤ) (h : In (2 ^ 62) t) where
   opp-up : ltZ (toZ w64 (ofZ w64 t)) (pos 0) ≡ true → ltZ (toZ w64 (ofZ w64 (pos 0 -ℤ toZ w64 (ofZ w64 t)))) (pos 0) ≡ false
   opp-up e =
       let s = toZ w64 (ofZ w64 t) in
-      ap (λ (z : ℤ). ltZ z (pos 0)) (back w64 opp-in tt) ∙ ltZ-no! (num 0 :- at s) (num 0) (omega (arith, ltZ-yes? (at s) (num 0) e))
+      ap (λ (z : ℤ). ltZ z (pos 0)) (back w64 opp-in tt) ∙ lt-fails (num 0 :- at s) (num 0) (omega (arith, lt-means (at s) (num 0) e))
 
 sub-wrapping-sub-u64 : tie.Need-sub-wrapping-sub-u64
 sub-wrapping-sub-u64 c = in-fits (opp-in (c .before .args .t) (c .before .pre)) tt

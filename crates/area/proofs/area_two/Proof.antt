@@ -1,11 +1,10 @@
 -- `area::area_two` meets its contract.
 use borrow.Author.Needs.{needs, sfits-of}
-use mathlib.Core.Path.{_≡_, sym, _∙_, ap}
+use mathlib.Core.Path.{sym, _∙_, ap}
 use native.Mathlib.Omega.{arith}
 use mir.Syntax.{w64}
 use mir.Val.{toZ}
 use mir.Facts.{toZ-ofZ}
-use denote.Ref.{now}
 use Rattle.grid.specs.Area.{wrapped}
 use Rattle.grid.proofs.DomainLaws.{in-domain}
 use Rattle.area.proofs.AnswerLaws.{doubled-refused, doubled-empty, doubled-done}

@@ -1,5 +1,4 @@
 -- `grid::cross` meets its contract: products of steps are small enough to be subtracted.
-use mathlib.Core.Path.{_∙_}
 use mir.Syntax.{w64}
 use Rattle.integers.proofs.Bound.{in-fits, in-sub, in-mul, back, back-in}
 use Rattle.grid.specs.Limits.{limit}

@@ -4,7 +4,7 @@ use borrow.Author.Tests.{eq-eqb, ne-eqb, lt-ltb, le-ltb}
 use mathlib.Core.Path.{sym, _∙_, ap}
 use mathlib.Core.Bool.{not}
 use Rattle.grid.specs.Limits.{most}
-use Rattle.grid.proofs.LadderLaws.{first-is, First}
+use Rattle.grid.proofs.LadderLaws.{first-is}
 use Rattle.grid.proofs.LadderLaws.First.{here, past, foot}
 use Rattle.grid.proofs.domain.Statement.{statement}
 use Rattle.grid.proofs.domain.Tie as tie

@@ -2,12 +2,11 @@
 use mathlib.Core.Path.{_≡_, _∙_, ap₂}
 use mathlib.Core.Bool.{true}
 use lib.IntN.{ℤ, _-ℤ_}
-use mir.Syntax.{w32, w64}
+use mir.Syntax.{w32}
 use mir.Val.{toZ, ofZ}
 use mir.Facts.{toZ-ofZ}
 use borrow.Author.Needs.{sfits-of}
 use Rattle.grid.specs.Limits.{on-grid}
-use Rattle.grid.specs.Points.{AllOn}
 use Rattle.grid.proofs.LimitLaws.{on-grid-back}
 use Rattle.grid.proofs.PointLaws.{x-on, y-on}
 use Rattle.grid.proofs.edges.Statement.{statement}

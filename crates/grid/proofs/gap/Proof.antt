@@ -1,10 +1,8 @@
 -- `grid::gap` meets its contract: coordinates of the grid are close enough to be subtracted.
 use borrow.Author.Needs.{needs}
-use mathlib.Core.Path.{_≡_, _∙_, ap₂}
-use lib.IntN.{ℤ, _-ℤ_}
-use Prim.Native.Nat.{_*_}
+use mathlib.Core.Path.{_∙_, ap₂}
+use lib.IntN.{_-ℤ_}
 use mir.Syntax.{w64}
-use mir.Val.{toZ, ofZ}
 use Rattle.integers.specs.Bound.{In}
 use Rattle.integers.proofs.Bound.{in-fits, in-eq, in-sub, back, back-in}
 use Rattle.grid.specs.Limits.{limit}

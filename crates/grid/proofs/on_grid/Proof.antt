@@ -1,6 +1,6 @@
 -- `grid::on_grid` meets its contract: the two tests are the definition's.
 use borrow.Author.Needs.{needs}
-use mathlib.Core.Path.{_≡_, sym, _∙_, ap}
+use mathlib.Core.Path.{sym, _∙_, ap}
 use mathlib.Core.Bool.{Bool, _&&_}
 use lib.IntN.{pos}
 use mir.Facts.{toZ-ofZ}

@@ -1,7 +1,6 @@
 -- `grid::sign` meets its contract, case by case.
-use mathlib.Core.Path.{sym, _∙_, ap}
-use lib.IntN.{ℤ, pos}
-use lib.Signed.{ltZ}
+use mathlib.Core.Path.{sym, ap}
+use lib.IntN.{pos}
 use mir.Syntax.{w64}
 use mir.Val.{ofZ}
 use mir.Facts.{sfits-lit, toZ-ofZ}

@@ -1,8 +1,4 @@
 -- `grid::wide` meets its contract: an i32 is an i64.
-use mathlib.Core.Path.{sym, _∙_, ap, subst}
-use lib.IntN.{ℤ}
-use mir.Syntax.{w64}
-use mir.Val.{SFits, toZ, ofZ}
 use mir.Facts.{toZ-ofZ, sfits-widen}
 use Rattle.grid.proofs.wide.Statement.{statement}
 use Rattle.grid.proofs.wide.Tie as tie

@@ -1,7 +1,7 @@
 -- `path::crosses` meets its contract, whichever end of the edge is the lower.
 use borrow.Author.Needs.{sfits-of}
-use mathlib.Core.Path.{_≡_, sym, _∙_, ap}
-use lib.IntN.{ℤ, pos}
+use mathlib.Core.Path.{sym, _∙_, ap}
+use lib.IntN.{pos}
 use lib.Signed.{ltZ}
 use mir.Facts.{toZ-ofZ}
 use Rattle.path.proofs.ContainsLaws.{below-is, sides-are, crosses-not, crosses-up, crosses-down}

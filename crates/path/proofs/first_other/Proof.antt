@@ -1,9 +1,8 @@
 -- `path::first_other` meets its contract: all points passed equal the last one.
 use borrow.Author.Needs.{needs}
 use mathlib.Core.Path.{_≡_, refl, sym, _∙_, ap, ap₂}
-use mathlib.Core.Bool.{true, false}
 use mathlib.Core.List.{List}
-use Prim.Native.Nat.{ℕ, _+_, _-_, _<_, _≤_}
+use Prim.Native.Nat.{ℕ, _-_, _<_, _≤_}
 use native.Mathlib.Omega.{arith}
 use lib.ListN.{drop}
 use lib.IntN.{ℤ}
@@ -11,10 +10,8 @@ use borrow.Author.Tests.{not-true, not-false}
 use Rattle.grid.specs.declared.Point.{Point}
 use Rattle.grid.specs.Points.{at, same, points}
 use Rattle.grid.specs.Corners.{differing}
-use Rattle.grid.specs.Domain.{Contour}
 use Rattle.grid.proofs.RowLaws.{points-more}
 use Rattle.grid.proofs.CornerLaws.{differing-skip}
-use Rattle.path.specs.Inside.{Other}
 use Rattle.path.proofs.first_other.Statement.{statement}
 use Rattle.path.proofs.first_other.Tie as tie
 

@@ -1,6 +1,6 @@
 -- `path::is_clockwise_ordered` meets its contract: the area's refusals are its own.
 use borrow.Author.Needs.{needs, sfits-of}
-use mathlib.Core.Path.{_≡_, sym, _∙_, ap}
+use mathlib.Core.Path.{sym, _∙_, ap}
 use lib.IntN.{ℤ, pos}
 use lib.Signed.{leZ}
 use mir.Facts.{toZ-ofZ}

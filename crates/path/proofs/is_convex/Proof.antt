@@ -1,7 +1,7 @@
 -- `path::is_convex` meets its contract.
 use borrow.Author.Needs.{needs}
-use mathlib.Core.Path.{_≡_, sym, _∙_, ap, subst}
-use Prim.Native.Nat.{ℕ, _/_}
+use mathlib.Core.Path.{sym, _∙_, subst}
+use Prim.Native.Nat.{_/_}
 use native.Mathlib.Omega.{arith}
 use lib.ListN.{length}
 use Rattle.grid.proofs.DomainLaws.{in-domain}

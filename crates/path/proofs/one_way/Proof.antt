@@ -1,17 +1,12 @@
 -- `path::one_way` meets its contract: what was seen and what is left to see make up all corners.
 use borrow.Author.Needs.{needs}
-use mathlib.Core.Path.{_≡_, refl, sym, _∙_, ap, ap₂, subst}
-use mathlib.Core.Bool.{Bool, true, false, not, _&&_}
-use Prim.Native.Nat.{ℕ, _+_, _-_}
+use mathlib.Core.Path.{_≡_, sym, _∙_, ap}
+use Prim.Native.Nat.{_+_, _-_}
 use native.Mathlib.Omega.{arith}
-use borrow.Author.Tests.{not-true, not-false}
 use Rattle.grid.specs.declared.Point.{Point}
-use Rattle.grid.specs.Limits.{most}
 use Rattle.grid.specs.Points.{at, same}
 use Rattle.grid.proofs.PointLaws.{at-on}
-use Rattle.path.specs.declared.Seen.{Seen}
-use Rattle.path.specs.Inside.{looked}
-use Rattle.path.proofs.ConvexLaws.{corner, Walked, walked-start, walked-skip, walked-keep, both-ways, few-left, closed}
+use Rattle.path.proofs.ConvexLaws.{Walked, walked-start, walked-skip, walked-keep, both-ways, few-left, closed}
 use Rattle.path.proofs.one_way.Statement.{statement}
 use Rattle.path.proofs.one_way.Tie as tie
 

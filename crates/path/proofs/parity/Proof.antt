@@ -1,10 +1,8 @@
 -- `path::parity` meets its contract: the parity so far and that of the edges left make up the whole.
 use borrow.Author.Needs.{needs}
-use mathlib.Core.Path.{_≡_, sym, _∙_, ap}
-use mathlib.Core.Bool.{Bool, xor}
+use mathlib.Core.Bool.{xor}
 use Prim.Native.Nat.{_-_}
 use native.Mathlib.Omega.{arith}
-use Rattle.grid.specs.Points.{at}
 use Rattle.grid.proofs.PointLaws.{at-on}
 use Rattle.path.specs.Contains.{crosses}
 use Rattle.path.proofs.ContainsLaws.{Counted, counted-none, counted-more, counted-all}

@@ -1,5 +1,5 @@
 -- `replay::list::replay` is safe and ends. The measure is how many lines can still be counted. Assumes nothing.
-use Prim.Native.Nat.{_≤_, _-_}
+use Prim.Native.Nat.{_-_}
 use borrow.Author.Needs.{needs}
 use Rattle.replay.specs.Buffer.{Held}
 use Rattle.replay.proofs.list.replay.Statement.{statement}
