@@ -6,3 +6,4 @@ pub mod Area
 pub mod Ladder
 pub mod Domain
 pub mod Verdicts
+pub mod Inside

@@ -3,13 +3,15 @@ pub mod reply;
 
 ghost use mathlib.Core.Path.{_≡_};
 ghost use mathlib.Core.Bool.{true};
-ghost use Prim.Native.Nat.{_+_, _*_, _<_};
+ghost use Prim.Native.Nat.{_+_, _*_, _<_, _≤_};
 ghost use lib.ListN.{length};
 ghost use lib.IntN.{_+ℤ_, _-ℤ_, _*ℤ_};
 ghost use Rattle.grid.specs.Limits.{on-grid, all-on-grid};
 ghost use Rattle.grid.specs.Points.{at, on, cross as cross-of, same as same-point, sign as sign-of, turn as turn-of, reverses as reverses-at, Short, AllOn, edges as edges-of};
 ghost use Rattle.grid.specs.Ladder.{first-of};
-ghost use Rattle.grid.specs.Domain.{domain as domain-of};
+ghost use Rattle.grid.specs.Corners.{straight as straight-at, back as back-at};
+ghost use Rattle.grid.specs.Domain.{domain as domain-of, Contour};
+ghost use Rattle.grid.specs.Inside.{Other};
 
 // The largest coordinate, either side of 0.
 pub const LIMIT: i32 = 536_870_912;
@@ -174,4 +176,39 @@ pub fn shoelace(a: Point, b: Point) -> i64
     ensures { λ r. ⌜ r ≡ cross-of a b ⌝ }
 {
     cross(wide(a.x), wide(a.y), wide(b.x), wide(b.y))
+}
+
+// Whether the two edges at b, on the way from a to c, have cross 0.
+pub fn straight(a: Point, b: Point, c: Point) -> bool
+    requires { ⌜ AllOn a b c ⌝ }
+    ensures { λ r. ⌜ r ≡ straight-at (record { before = a; vertex = b; after = c }) ⌝ }
+{
+    turn(a, b, c) == 0
+}
+
+// Whether the way from a to c turns back at b: cross 0 with dot below 0.
+pub fn turns_back(a: Point, b: Point, c: Point) -> bool
+    requires { ⌜ AllOn a b c ⌝ }
+    ensures { λ r. ⌜ r ≡ back-at (record { before = a; vertex = b; after = c }) ⌝ }
+{
+    if straight(a, b, c) {
+        reverses(a, b, c)
+    } else {
+        false
+    }
+}
+
+// The first position from i on whose point differs from b; n where there is none.
+pub fn next_other(points: &[i32], n: usize, i: usize, b: Point) -> usize
+    requires { ⌜ Contour (now points) n × (i ≤ n) ⌝ }
+    ensures { λ r. ⌜ Other (now (points .entry)) n i b r ⌝ }
+{
+    let mut here = i;
+    while here < n {
+        if !same(point_at(points, here), b) {
+            return here;
+        }
+        here += 1;
+    }
+    n
 }

@@ -15,12 +15,13 @@ use Rattle.grid.specs.declared.Point.{Point}
 use Rattle.grid.specs.Points.{at, on, same, points, bend, turn, reverses}
 use Rattle.grid.specs.Corners.{differing, distinct-neighbours, Corner, corners-from, corners, some, left, right, back}
 use Rattle.grid.specs.Domain.{count, Contour}
+use Rattle.grid.specs.Inside.{Other}
 use Rattle.grid.proofs.PointLaws.{at-on, sign-left, sign-right, sign-none}
 use Rattle.grid.proofs.RowLaws.{points-count, points-more, points-done}
-use Rattle.grid.proofs.CornerLaws.{differing-skip, differing-keep, last-kept, last-from, distinct-is, few-turn-nowhere}
+use Rattle.grid.proofs.CornerLaws.{differing-keep, last-kept, last-from, distinct-is, few-turn-nowhere}
 use Rattle.path.specs.declared.Seen.{Seen}
 use Rattle.path.specs.Convex.{one-way, convex-left, is-convex}
-use Rattle.path.specs.Inside.{looked, Other}
+use Rattle.path.specs.Inside.{looked, First}
 
 -- one corner more
 module _ (s : Seen) (a b c : Point) where
@@ -67,7 +68,22 @@ module _ (row : List ℤ) where
   abbrev pub left-over : List Point
   left-over = distinct-neighbours (points row)
 
-  -- the loop: after kept points, on the way from a by b to position i
+  -- both ways have been seen, which two points or fewer cannot show
+  pub both-ways : {s : Seen} {unseen : List Corner} → Split s (corners left-over) unseen → (s .left && s .right) ≡ true → false ≡ convex-left left-over
+  unfolding convex-left
+  both-ways {s} {unseen} p e =
+      let l : some left (corners left-over) ≡ true = p .lefts ∙ ap (λ (t : Bool). t || some left unseen) (and-left (s .left) (s .right) e) in
+      let r : some right (corners left-over) ≡ true = p .rights ∙ ap (λ (t : Bool). t || some right unseen) (and-right (s .left) (s .right) e) in
+      rw (many l, l, r)
+    where
+      many : some left (corners left-over) ≡ true → leb (length left-over) 2 ≡ false
+      many l = go (decLe (length left-over) 2)
+        where
+          go : Dec (length left-over ≤ 2) → leb (length left-over) 2 ≡ false
+          go (yes h) = absurd (true≢false (sym l ∙ few-turn-nowhere (pos 1) refl left-over h))
+          go (no h) = lt-leb (length left-over) 2 (omega arith)
+
+  -- the loop: after kept points, on the way from a by b to position i, whose point is the next that differs
   pub record Walked (n : ℕ) (o a b : Point) (s : Seen) (kept i : ℕ) : Type 0 where
     pub within : i ≤ n
     pub few : kept ≤ i
@@ -75,75 +91,59 @@ module _ (row : List ℤ) where
     pub b-on : on b ≡ true
     pub counted : length left-over ≡ kept + length (differing b (drop i (points row)))
     pub split : Split s (corners left-over) (corners-from o a b (differing b (drop i (points row))))
+    pub differs : i < n → same (at row i) b ≡ false
 
   module _ {n : ℕ} (c : Contour row n) where
-    pub nothing-left : Other row n n → 0 < n → left-over ≡ []
+    pub nothing-left : Other row n 0 (at row (n - 1)) n → 0 < n → left-over ≡ []
     unfolding differing
     nothing-left x h = distinct-is c h ∙ x .skipped ∙ ap (differing (at row (n - 1))) (points-done c n refl)
 
-    module _ (first : ℕ) (x : Other row n first) (h : first < n) where
+    module _ (first i : ℕ) (x : First row n first) (y : Other row n (first + 1) (at row first) i) where
       starts-with : left-over ≡ at row first ∷ differing (at row first) (drop (first + 1) (points row))
       starts-with =
-          distinct-is c (omega arith) ∙ x .skipped ∙ ap (differing (at row (n - 1))) (points-more c first h)
-          ∙ differing-keep (at row (n - 1)) (at row first) (drop (first + 1) (points row)) (x .differs h)
+          distinct-is c (omega (arith, x .inside)) ∙ x .other .skipped ∙ ap (differing (at row (n - 1))) (points-more c first (x .inside))
+          ∙ differing-keep (at row (n - 1)) (at row first) (drop (first + 1) (points row)) (x .other .differs (x .inside))
 
       corners-start : corners left-over ≡ corners-from (at row first) (at row (n - 1)) (at row first) (differing (at row first) (drop (first + 1) (points row)))
       unfolding corners
       corners-start =
           let o = at row first in
           let rest = differing o (drop (first + 1) (points row)) in
-          let e : first + suc (n - suc first) ≡ n = omega arith in
+          let e : first + suc (n - suc first) ≡ n = omega (arith, x .inside) in
           ap corners starts-with
           ∙ ap (λ (l : Point). corners-from o l o rest) (last-kept o (drop (first + 1) (points row)) ∙ last-from c (n - suc first) first e)
 
-      pub walked-start : Walked n (at row first) (at row (n - 1)) (at row first) (record { left = false; right = false; back = false }) 1 (first + 1)
-      walked-start = record {
-        within = omega arith;
-        few = omega arith;
-        a-on = at-on row (n - 1) (c .on);
-        b-on = at-on row first (c .on);
-        counted = ap length starts-with ∙ omega arith;
-        split = rw (← corners-start) (split-none (corners left-over));
-      }
+      pub walked-start : Walked n (at row first) (at row (n - 1)) (at row first) (record { left = false; right = false; back = false }) 1 i
+      walked-start =
+          let o = at row first in
+          record {
+            within = y .within;
+            few = omega (arith, y .from);
+            a-on = at-on row (n - 1) (c .on);
+            b-on = at-on row first (c .on);
+            counted = ap length (starts-with ∙ ap (λ (l : List Point). o ∷ l) (y .skipped)) ∙ omega arith;
+            split = rw (← corners-start ∙ ap (corners-from o (at row (n - 1)) o) (y .skipped)) (split-none (corners left-over));
+            differs = y .differs;
+          }
 
     module _ {o a b : Point} {s : Seen} {kept i : ℕ} (w : Walked n o a b s kept i) where
-      module _ (h : i < n) where
-        more : differing b (drop i (points row)) ≡ differing b (at row i ∷ drop (i + 1) (points row))
-        more = ap (differing b) (points-more c i h)
+      kept-is : i < n → differing b (drop i (points row)) ≡ at row i ∷ differing (at row i) (drop (i + 1) (points row))
+      kept-is h = ap (differing b) (points-more c i h) ∙ differing-keep b (at row i) (drop (i + 1) (points row)) (w .differs h)
 
-        pub walked-skip : same (at row i) b ≡ true → Walked n o a b s kept (i + 1)
-        walked-skip e =
-            let d = more ∙ differing-skip b (at row i) (drop (i + 1) (points row)) e in
-            record { within = omega arith; few = omega (arith, w .few); a-on = w .a-on; b-on = w .b-on; counted = rw (← d) (w .counted); split = rw (← d) (w .split) }
+      pub split-kept : i < n → Split (looked s (corner s a b (at row i))) (corners left-over) (corners-from o b (at row i) (differing (at row i) (drop (i + 1) (points row))))
+      unfolding corners-from
+      split-kept h = split-more _ _ (rw (kept-is h) at (w .split))
 
-        pub walked-keep : same (at row i) b ≡ false → Walked n o b (at row i) (looked s (corner s a b (at row i))) (kept + 1) (i + 1)
-        unfolding corners-from
-        walked-keep e =
-            let d = more ∙ differing-keep b (at row i) (drop (i + 1) (points row)) e in
-            record {
-              within = omega arith;
-              few = omega (arith, w .few);
-              a-on = w .b-on;
-              b-on = at-on row i (c .on);
-              counted = w .counted ∙ ap (λ (l : List Point). kept + length l) d ∙ omega arith;
-              split = split-more _ _ (rw d at (w .split));
-            }
-
-      -- both ways have been seen: the turns are of two or more points
-      pub both-ways : (s .left && s .right) ≡ true → false ≡ convex-left left-over
-      unfolding convex-left
-      both-ways e =
-          let unseen = corners-from o a b (differing b (drop i (points row))) in
-          let l : some left (corners left-over) ≡ true = w .split .lefts ∙ ap (λ (t : Bool). t || some left unseen) (and-left (s .left) (s .right) e) in
-          let r : some right (corners left-over) ≡ true = w .split .rights ∙ ap (λ (t : Bool). t || some right unseen) (and-right (s .left) (s .right) e) in
-          rw (many l, l, r)
-        where
-          many : some left (corners left-over) ≡ true → leb (length left-over) 2 ≡ false
-          many l = go (decLe (length left-over) 2)
-            where
-              go : Dec (length left-over ≤ 2) → leb (length left-over) 2 ≡ false
-              go (yes h) = absurd (true≢false (sym l ∙ few-turn-nowhere (pos 1) refl left-over h))
-              go (no h) = lt-leb (length left-over) 2 (omega arith)
+      pub walked-keep : i < n → (j : ℕ) → Other row n (i + 1) (at row i) j → Walked n o b (at row i) (looked s (corner s a b (at row i))) (kept + 1) j
+      walked-keep h j y = record {
+        within = y .within;
+        few = omega (arith, w .few, y .from);
+        a-on = w .b-on;
+        b-on = at-on row i (c .on);
+        counted = w .counted ∙ ap (λ (l : List Point). kept + length l) (kept-is h ∙ ap (λ (l : List Point). at row i ∷ l) (y .skipped)) ∙ omega arith;
+        split = rw (← y .skipped) (split-kept h);
+        differs = y .differs;
+      }
 
       module _ (e : n ≤ i) where
         none : differing b (drop i (points row)) ≡ []

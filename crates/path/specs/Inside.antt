@@ -1,20 +1,18 @@
 -- What the inner functions say to each other.
-use mathlib.Core.Path.{_≡_}
-use mathlib.Core.Bool.{false, _||_}
+use mathlib.Core.Bool.{_||_}
 use mathlib.Core.List.{List}
-use Prim.Native.Nat.{ℕ, _-_, _<_, _≤_}
-use lib.ListN.{drop}
+use Prim.Native.Nat.{ℕ, _-_, _<_}
 use lib.IntN.{ℤ}
-use Rattle.grid.specs.Points.{at, same, points}
-use Rattle.grid.specs.Corners.{differing, Corner, left, right, back}
+use Rattle.grid.specs.Points.{at}
+use Rattle.grid.specs.Corners.{Corner, left, right, back}
+use Rattle.grid.specs.Inside.{Other}
 use Rattle.path.specs.declared.Seen.{Seen}
 
 -- what is seen with one corner more
 abbrev pub looked : Seen → Corner → Seen
 looked s k = record { left = s .left || left k; right = s .right || right k; back = s .back || back k }
 
--- all points before position r equal the last point, and the one at r, if r is a position, does not
-pub record Other (row : List ℤ) (n r : ℕ) : Type 0 where
-  pub within : r ≤ n
-  pub skipped : differing (at row (n - 1)) (points row) ≡ differing (at row (n - 1)) (drop r (points row))
-  pub differs : r < n → same (at row r) (at row (n - 1)) ≡ false
+-- first is the first position whose point differs from the last point
+pub record First (row : List ℤ) (n first : ℕ) : Type 0 where
+  pub other : Other row n 0 (at row (n - 1)) first
+  pub inside : first < n

@@ -6,7 +6,7 @@ ghost use Rattle.grid.specs.Points.{AllOn, on, points as points-of};
 ghost use Rattle.grid.specs.Corners.{distinct-neighbours};
 ghost use Rattle.grid.specs.Domain.{Contour};
 ghost use Rattle.path.specs.Convex.{convex-left, convex as convex-verdict};
-ghost use Rattle.path.specs.Inside.{looked, Other};
+ghost use Rattle.path.specs.Inside.{looked, First};
 ghost use Rattle.path.specs.Clockwise.{clockwise};
 ghost use Rattle.path.specs.Contains.{crosses as crosses-at, contained, contains as contains-verdict};
 use grid::Point;
@@ -46,25 +46,9 @@ fn look(seen: Seen, a: Point, b: Point, c: Point) -> Seen
     }
 }
 
-// The first position whose point differs from the last point; n where there is none.
-fn first_other(points: &[i32], n: usize) -> usize
-    requires { ⌜ Contour (now points) n × (0 < n) ⌝ }
-    ensures { λ r. ⌜ Other (now (points .entry)) n r ⌝ }
-{
-    let last = grid::point_at(points, n - 1);
-    let mut i: usize = 0;
-    while i < n {
-        if !grid::same(grid::point_at(points, i), last) {
-            return i;
-        }
-        i += 1;
-    }
-    n
-}
-
 // Whether the contour turns one way and never back. Its point at `first` is the first that differs from the last.
 fn one_way(points: &[i32], n: usize, first: usize) -> bool
-    requires { ⌜ Contour (now points) n × Other (now points) n first × (first < n) ⌝ }
+    requires { ⌜ Contour (now points) n × First (now points) n first ⌝ }
     ensures { λ r. ⌜ r ≡ convex-left (distinct-neighbours (points-of (now (points .entry)))) ⌝ }
 {
     let o = grid::point_at(points, first);
@@ -76,21 +60,17 @@ fn one_way(points: &[i32], n: usize, first: usize) -> bool
         back: false,
     };
     let mut kept: usize = 1;
-    let mut i = first + 1;
+    let mut i = grid::next_other(points, n, first + 1, o);
     while i < n {
         let c = grid::point_at(points, i);
-        if grid::same(c, b) {
-            i += 1;
-        } else {
-            seen = look(seen, a, b, c);
-            if seen.left & seen.right {
-                return false;
-            }
-            a = b;
-            b = c;
-            kept += 1;
-            i += 1;
+        seen = look(seen, a, b, c);
+        if seen.left & seen.right {
+            return false;
         }
+        a = b;
+        b = c;
+        kept += 1;
+        i = grid::next_other(points, n, i + 1, c);
     }
     if kept <= 2 {
         return true;
@@ -117,7 +97,7 @@ pub fn is_convex(points: &[i32]) -> Verdict
             yes: true,
         };
     }
-    let first = first_other(points, n);
+    let first = grid::next_other(points, n, 0, grid::point_at(points, n - 1));
     if first == n {
         return Verdict {
             reply: grid::reply::DONE,

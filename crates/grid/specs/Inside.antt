@@ -1,0 +1,17 @@
+-- What the inner functions say to their callers.
+use mathlib.Core.Path.{_≡_}
+use mathlib.Core.Bool.{false}
+use mathlib.Core.List.{List}
+use Prim.Native.Nat.{ℕ, _<_, _≤_}
+use lib.ListN.{drop}
+use lib.IntN.{ℤ}
+use Rattle.grid.specs.declared.Point.{Point}
+use Rattle.grid.specs.Points.{at, same, points}
+use Rattle.grid.specs.Corners.{differing}
+
+-- from position i up to r all points equal b, and the one at r, if r is a position of the n, does not
+pub record Other (row : List ℤ) (n i : ℕ) (b : Point) (r : ℕ) : Type 0 where
+  pub from : i ≤ r
+  pub within : r ≤ n
+  pub skipped : differing b (drop i (points row)) ≡ differing b (drop r (points row))
+  pub differs : r < n → same (at row r) b ≡ false
