@@ -1,15 +1,15 @@
 -- Removing a vertex changes the exact doubled area by the cross at it.
 use mathlib.Core.Path.{_≡_, refl, ap₂}
-use mathlib.Core.List.{List, [], _∷_, _++_}
+use mathlib.Core.List.{List, [], _∷_}
 use Prim.Native.Nat.{ℕ, zero, suc, _-_, _<_}
 use native.Mathlib.Omega.{arith}
-use lib.ListN.{length, getD, take, drop}
+use lib.ListN.{length, getD}
 use lib.IntN.{pos, _+ℤ_}
 use Rattle.integers.specs.Polynomial.{Po, #, num, _:+_, _:-_, _:*_}
 use Rattle.integers.proofs.Polynomial.{ring, ring-by}
 use Rattle.grid.specs.declared.Point.{Point}
 use Rattle.grid.specs.Points.{cross, bend}
-use Rattle.grid.specs.Neighbours.{following, preceding}
+use Rattle.grid.specs.Neighbours.{following, preceding, leaving-out}
 use Rattle.grid.specs.Area.{around, exact}
 use Rattle.grid.proofs.RowLaws.{origin}
 
@@ -44,7 +44,7 @@ three-points a b c =
 
 -- on the way from a, number j of the points is left out
 along-removed : (o a : Point) (s : List Point) (j : ℕ) → j < length s
-    → around o a s ≡ around o a (take j s ++ drop (suc j) s) +ℤ bend (getD (a ∷ s) j origin) (getD s j origin) (getD s (suc j) o)
+    → around o a s ≡ around o a (leaving-out s j) +ℤ bend (getD (a ∷ s) j origin) (getD s j origin) (getD s (suc j) o)
 unfolding around
 along-removed o a [] j h = absurd (omega arith)
 along-removed o a (b ∷ []) zero h = by-way a b o
@@ -53,7 +53,7 @@ along-removed o a (b ∷ d ∷ s) zero h =
     (cross a b ∷ cross b d ∷ around o d s ∷ cross a d ∷ bend a b d ∷ []) (by-way a b d) refl
 along-removed o a (b ∷ s) (suc j) h =
     ring-by (# 0 :+ # 1) ((# 0 :+ # 2) :+ # 3) (num (pos 1)) (# 1) (# 2 :+ # 3)
-    (cross a b ∷ around o b s ∷ around o b (take j s ++ drop (suc j) s) ∷ bend (getD (b ∷ s) j origin) (getD s j origin) (getD s (suc j) o) ∷ [])
+    (cross a b ∷ around o b s ∷ around o b (leaving-out s j) ∷ bend (getD (b ∷ s) j origin) (getD s j origin) (getD s (suc j) o) ∷ [])
     (along-removed o b s j (omega arith)) refl
 
 -- the way back goes to another point
@@ -75,7 +75,7 @@ first-removed o b s =
 
 -- whichever vertex goes, the first and the last too
 pub removed : (points : List Point) (j : ℕ) → j < length points → 1 < length points
-    → exact points ≡ exact (take j points ++ drop (suc j) points) +ℤ bend (preceding origin points j) (getD points j origin) (following origin points j)
+    → exact points ≡ exact (leaving-out points j) +ℤ bend (preceding origin points j) (getD points j origin) (following origin points j)
 unfolding exact
 removed [] j h k = absurd (omega arith)
 removed (o ∷ []) j h k = absurd (omega arith)

@@ -1,0 +1,17 @@
+pub mod Cases
+pub mod Lists
+pub mod Marks
+pub mod Survivors
+pub mod Neighbours
+pub mod Changes
+pub mod Looks
+pub mod Moments
+pub mod Ahead
+pub mod Ends
+pub mod Listed
+pub mod Theorems
+pub mod Filling
+pub mod Links
+pub mod Loop
+pub mod RuleLaws
+pub mod Examples

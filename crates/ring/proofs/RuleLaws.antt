@@ -1,0 +1,78 @@
+-- What either rule says of a vertex, test by test; and a vertex that goes has cross 0.
+use mathlib.Core.Path.{_≡_, refl, _∙_, ap}
+use mathlib.Core.Bool.{Bool, true, false, _||_}
+use mathlib.Core.List.{[], _∷_}
+use Prim.Native.Nat.{ℕ, zero, suc}
+use native.Mathlib.Omega.{arith}
+use lib.IntN.{ℤ, pos, negsuc, natAbs}
+use Rattle.integers.specs.Polynomial.{#, num, _:-_, _:*_}
+use Rattle.integers.proofs.Equal.{eqZ-true}
+use Rattle.integers.proofs.Logic.{and-left}
+use Rattle.integers.proofs.Polynomial.{ring}
+use Rattle.grid.specs.declared.Point.{Point}
+use Rattle.grid.specs.Points.{same, sign, bend, reverses}
+use Rattle.grid.specs.Corners.{Corner, straight, back}
+use Rattle.grid.proofs.CornerLaws.{same-is}
+use Rattle.ring.specs.declared.Rule.{Rule}
+use Rattle.ring.specs.declared.Rule.the-variants.{Collinear, Spike}
+use Rattle.ring.specs.Rule.{goes-at}
+
+module _ (rule : Rule) (k : Corner) where
+  pub goes-straight : (r : Bool) → rule ≡ Collinear → r ≡ straight k → r ≡ goes-at rule k
+  unfolding goes-at
+  goes-straight r e h = rw e h
+
+  pub goes-before : rule ≡ Spike → same (k .vertex) (k .before) ≡ true → true ≡ goes-at rule k
+  unfolding goes-at
+  goes-before e h = rw (e, h)
+
+  pub goes-after : rule ≡ Spike → same (k .vertex) (k .before) ≡ false → same (k .vertex) (k .after) ≡ true → true ≡ goes-at rule k
+  unfolding goes-at
+  goes-after e h i = rw (e, h, i)
+
+  pub goes-back : (r : Bool) → rule ≡ Spike → same (k .vertex) (k .before) ≡ false → same (k .vertex) (k .after) ≡ false → r ≡ back k → r ≡ goes-at rule k
+  unfolding goes-at
+  goes-back r e h i t = rw (e, h, i) t
+
+one-zero : _≡_ {A = ℕ} 1 0 → ⊥
+one-zero h = omega arith
+
+sign-zero : (z : ℤ) → sign z ≡ pos 0 → z ≡ pos 0
+sign-zero (pos zero) e = refl
+sign-zero (pos (suc n)) e = absurd (one-zero (ap natAbs e))
+sign-zero (negsuc n) e = absurd (one-zero (ap natAbs e))
+
+-- the cross at a corner
+abbrev pub cross-at : Corner → ℤ
+cross-at k = bend (k .before) (k .vertex) (k .after)
+
+straight-cross : (k : Corner) → straight k ≡ true → cross-at k ≡ pos 0
+straight-cross k e = sign-zero (cross-at k) (eqZ-true (sign (cross-at k)) (pos 0) e)
+
+stands-still : (a c : Point) → bend a a c ≡ pos 0
+unfolding bend
+stands-still a c =
+    ring
+    ((# 0 :- # 0) :* (# 3 :- # 1) :- (# 1 :- # 1) :* (# 2 :- # 0)) (num (pos 0))
+    (a .x ∷ a .y ∷ c .x ∷ c .y ∷ []) refl
+
+ends-still : (a c : Point) → bend a c c ≡ pos 0
+unfolding bend
+ends-still a c =
+    ring
+    ((# 2 :- # 0) :* (# 3 :- # 3) :- (# 3 :- # 1) :* (# 2 :- # 2)) (num (pos 0))
+    (a .x ∷ a .y ∷ c .x ∷ c .y ∷ []) refl
+
+-- by either rule a vertex that goes has cross 0
+pub goes-cross : (rule : Rule) (k : Corner) → goes-at rule k ≡ true → cross-at k ≡ pos 0
+unfolding goes-at
+goes-cross Collinear k e = straight-cross k e
+goes-cross Spike k e = before (same (k .vertex) (k .before)) refl e
+  where
+    after : (u : Bool) → same (k .vertex) (k .after) ≡ u → (u || back k) ≡ true → cross-at k ≡ pos 0
+    after true h e = ap (λ (p : Point). bend (k .before) p (k .after)) (same-is (k .vertex) (k .after) h) ∙ ends-still (k .before) (k .after)
+    after false h e = straight-cross k (and-left (straight k) (reverses (k .before) (k .vertex) (k .after)) e)
+
+    before : (t : Bool) → same (k .vertex) (k .before) ≡ t → (t || (same (k .vertex) (k .after) || back k)) ≡ true → cross-at k ≡ pos 0
+    before true h e = ap (λ (p : Point). bend (k .before) p (k .after)) (same-is (k .vertex) (k .before) h) ∙ stands-still (k .before) (k .after)
+    before false h e = after (same (k .vertex) (k .after)) refl e

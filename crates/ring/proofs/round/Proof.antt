@@ -1,0 +1,215 @@
+-- `ring::round` meets its contract: each turn of the loop is a decision of the walk.
+use borrow.Author.Needs.{needs}
+use mathlib.Core.Path.{_≡_, sym, _∙_}
+use Prim.Native.Nat.{_*_, _-_, _<_, _≤_, _^_}
+use native.Mathlib.Omega.{arith}
+use lib.ListN.{length}
+use Rattle.ring.specs.Walk.{unmarked, mark-at, to-go}
+use Rattle.ring.specs.Rule.{goes}
+use Rattle.ring.proofs.Loop.{Turn, Known, known, turn-start, turn-idle, turn-more, turn-stay, turn-removable, turn-go, turn-fall}
+use Rattle.ring.proofs.round.Statement.{statement}
+use Rattle.ring.proofs.round.Tie as tie
+
+abbrev Inv-loop : tie.InvT-loop
+Inv-loop rule row next₀ prev₀ mark₀ left₀ seen₀ made₀ at₀ next prev mark left seen made at = Turn (goes rule row) (length mark₀) next prev mark left seen made at
+
+abbrev μ-loop : tie.MeasureT-loop
+μ-loop rule row next₀ prev₀ mark₀ left₀ seen₀ made₀ at₀ next prev mark left seen made at = 4 * left - seen
+
+-- the ring has three positions or more
+many : (c : tie.At-loop Inv-loop μ-loop) → 3 ≤ length (c .before .before .before .before .args .mark .now)
+many c = c .before .before .before .before .pre .0 .1
+
+-- what is known at the loop's head, with room for four times a position
+head : (c : tie.At-loop Inv-loop μ-loop) → Known _ _ (many c) (c .loop .inv) × (length (c .loop .mark) * 4 < 2 ^ 63)
+head c =
+    let s = c .before .before .before .before in
+    let k = known _ _ (many c) (c .loop .inv) in
+    (k, omega (arith, s .good, s .pre .1 .linked .next-long, k .mark-long))
+
+-- the position is unmarked
+due : (c : tie.Then1 Inv-loop μ-loop) → mark-at (c .before .before .loop .mark) (c .before .before .loop .at) ≡ unmarked
+due c = sym (head (c .before .before) .0 .read) ∙ c .if1 .taken
+
+-- what the rule said
+said : (c : tie.After-goes Inv-loop μ-loop) → let l = c .before .before .before .before .before .before .before in let s = l .before .before .before .before in
+    c .goes .result ≡ to-go (goes (s .args .rule) (s .args .points .now)) (l .loop .mark) (l .loop .at)
+said c =
+    let w = c .before in
+    let h = head (w .before .before .before .before .before .before) .0 .at in
+    rw (w .before .before .wide .ensures ∙ h .prev-is, w .wide2 .ensures ∙ h .next-is) at (c .goes .ensures)
+
+loop-holds : tie.Need-loop-holds Inv-loop μ-loop
+loop-holds c = let p = c .before .before .before .pre in turn-start _ _ (p .0 .1) (p .1)
+
+slice-read-if1 : tie.Need-slice-read-if1 Inv-loop μ-loop
+slice-read-if1 c = head (c .before) .0 .at .inside-marks
+
+add-made : tie.Need-add-made Inv-loop μ-loop
+add-made c = let h = head (c .before .before) in omega arith
+
+mul-wide : tie.Need-mul-wide Inv-loop μ-loop
+mul-wide c = let h = head (c .before .before) in omega arith
+
+slice-read-wide : tie.Need-slice-read-wide Inv-loop μ-loop
+slice-read-wide c = head (c .before .before .before) .0 .at .inside-prev
+
+wide-requires : tie.Need-wide-requires Inv-loop μ-loop
+wide-requires c κs = search needs
+
+mul-wide-2 : tie.Need-mul-wide-2 Inv-loop μ-loop
+mul-wide-2 c = let h = head (c .before .before .before .before) in omega arith
+
+slice-read-wide-2 : tie.Need-slice-read-wide-2 Inv-loop μ-loop
+slice-read-wide-2 c = head (c .before .before .before .before .before) .0 .at .inside-next
+
+wide-requires-2 : tie.Need-wide-requires-2 Inv-loop μ-loop
+wide-requires-2 c κs = search needs
+
+goes-requires : tie.Need-goes-requires Inv-loop μ-loop
+goes-requires c κs =
+    let l = c .before .before .before .before .before .before in
+    let h = head l .0 in
+    let p = l .before .before .before .before .pre .0 .0 in
+    record {
+      a-in = omega (arith, p .even, c .before .before .wide .ensures);
+      c-in = omega (arith, p .even);
+      b-in = omega (arith, p .even, c .wide2 .ensures);
+      on = p .on;
+    }
+
+same-length : tie.Need-same-length Inv-loop μ-loop
+same-length c =
+    let l = c .before .before .before .before .before .before .before .before .before in
+    let h = head l .0 in
+    omega (arith, l .before .before .before .before .pre .1 .linked .next-long)
+
+same-length-2 : tie.Need-same-length-2 Inv-loop μ-loop
+same-length-2 c =
+    let l = c .before .before .before .before .before .before .before .before .before in
+    let h = head l .0 in
+    omega (arith, l .before .before .before .before .pre .1 .linked .prev-long)
+
+same-length-3 : tie.Need-same-length-3 Inv-loop μ-loop
+same-length-3 c = head (c .before .before .before .before .before .before .before .before .before) .0 .mark-long
+
+returns : tie.Need-returns Inv-loop μ-loop
+returns c =
+    let t = c .before .before .before .before .before .before .before in
+    let l = t .before .before in
+    turn-fall _ _ (many l) (l .loop .inv) (due t) (sym (said (c .before .before)) ∙ c .before .if2 .taken) (c .if3 .taken)
+
+remove-requires : tie.Need-remove-requires Inv-loop μ-loop
+remove-requires c κs =
+    let i = c .before .before .before in
+    let t = i .before .before .before .before .before .before .before in
+    let l = t .before .before in
+    turn-removable _ _ (many l) (l .loop .inv) (due t) (i .if3 .left)
+
+sub-left : tie.Need-sub-left Inv-loop μ-loop
+sub-left c =
+    let i = c .before .before .before .before .before .before .before .before .before .before in
+    let h = head (i .before .before .before .before .before .before .before .before .before) in
+    omega arith
+
+sub-seen : tie.Need-sub-seen Inv-loop μ-loop
+sub-seen c =
+    let r = c .before .before .before .before .before .before in
+    let i = r .before .before .before .before in
+    let l = i .before .before .before .before .before .before .before .before .before in
+    omega (arith, r .remove .ensures .fewer, l .loop .inv .seen-is)
+
+loop-less : tie.Need-loop-less Inv-loop μ-loop
+loop-less c =
+    let r = c .before .before .before .before .before .before in
+    let i = r .before .before .before .before in
+    let l = i .before .before .before .before .before .before .before .before .before in
+    let h = head l .0 in
+    omega (arith, r .remove .ensures .fewer, r .remove .ensures .small, l .loop .inv .seen-is)
+
+loop-again : tie.Need-loop-again Inv-loop μ-loop
+loop-again c =
+    let r = c .before .before .before .before .before .before in
+    let i = r .before .before .before .before in
+    let g = i .before .before in
+    let t = g .before .before .before .before .before in
+    let l = t .before .before in
+    turn-go _ _ (many l) (l .loop .inv) (due t) (sym (said g) ∙ i .before .if2 .taken) (i .if3 .left) (r .remove .ensures) _
+    (g .before .before .before .wide .ensures ∙ head l .0 .at .prev-is)
+
+slice-write-mark : tie.Need-slice-write-mark Inv-loop μ-loop
+slice-write-mark c = head (c .before .before .before .before .before .before .before .before) .0 .at .inside-marks
+
+add-seen : tie.Need-add-seen Inv-loop μ-loop
+add-seen c = let h = head (c .before .before .before .before .before .before .before .before) in omega arith
+
+loop-less-2 : tie.Need-loop-less-2 Inv-loop μ-loop
+loop-less-2 c =
+    let t = c .before .before .before .before .before .before in
+    let l = t .before .before in
+    let m = turn-more _ _ (many l) (l .loop .inv) (due t) in
+    omega arith
+
+loop-again-2 : tie.Need-loop-again-2 Inv-loop μ-loop
+loop-again-2 c =
+    let g = c .before in
+    let t = g .before .before .before .before .before in
+    let l = t .before .before in
+    turn-stay _ _ (many l) (l .loop .inv) (due t) (sym (said g) ∙ c .if2 .left) _ (g .before .wide2 .ensures ∙ head l .0 .at .next-is)
+
+sub-t29 : tie.Need-sub-t29 Inv-loop μ-loop
+sub-t29 c = let h = head (c .before .before) in omega arith
+
+add-t30 : tie.Need-add-t30 Inv-loop μ-loop
+add-t30 c = let h = head (c .before .before) in omega arith
+
+same-length-4 : tie.Need-same-length-4 Inv-loop μ-loop
+same-length-4 c = let l = c .before .before in let h = head l .0 in omega (arith, l .before .before .before .before .pre .1 .linked .next-long)
+
+same-length-5 : tie.Need-same-length-5 Inv-loop μ-loop
+same-length-5 c = let l = c .before .before in let h = head l .0 in omega (arith, l .before .before .before .before .pre .1 .linked .prev-long)
+
+same-length-6 : tie.Need-same-length-6 Inv-loop μ-loop
+same-length-6 c = head (c .before .before) .0 .mark-long
+
+returns-2 : tie.Need-returns-2 Inv-loop μ-loop
+returns-2 c =
+    let l = c .before .before in
+    let h = head l .0 in
+    turn-idle _ _ (many l) (l .loop .inv) (omega (arith, h .read, h .survives, c .if1 .left))
+
+pub round-spec : {M : Type 1} → statement M
+round-spec =
+    tie.close
+    (tie.spec
+    Inv-loop
+    μ-loop
+    loop-holds
+    slice-read-if1
+    add-made
+    mul-wide
+    slice-read-wide
+    wide-requires
+    mul-wide-2
+    slice-read-wide-2
+    wide-requires-2
+    goes-requires
+    same-length
+    same-length-2
+    same-length-3
+    returns
+    remove-requires
+    sub-left
+    sub-seen
+    loop-less
+    loop-again
+    slice-write-mark
+    add-seen
+    loop-less-2
+    loop-again-2
+    sub-t29
+    add-t30
+    same-length-4
+    same-length-5
+    same-length-6
+    returns-2)

@@ -1,0 +1,69 @@
+-- `ring::unmark_about` meets its contract: the rows hold the neighbours of p, and three marks are taken off one after the other.
+use borrow.Author.Needs.{needs}
+use native.Mathlib.Omega.{arith}
+use mathlib.Core.Path.{_∙_}
+use denote.Ref.{now}
+use Rattle.ring.proofs.Links.{Here, here, unmarked-about}
+use Rattle.ring.proofs.unmark_about.Statement.{statement}
+use Rattle.ring.proofs.unmark_about.Tie as tie
+
+-- What the rows hold at p.
+at : (c : tie.Start) → Here (now (c .args .mark)) (now (c .args .next)) (now (c .args .prev)) (c .args .p)
+at c = here (c .pre .1) _ (c .pre .0)
+
+mul-wide : tie.Need-mul-wide
+mul-wide c = let s = c .before .before .before in let h = at s in omega (arith, s .pre .1 .next-long, s .pre .1 .prev-long)
+
+shared-slice-read-wide : tie.Need-shared-slice-read-wide
+shared-slice-read-wide c = let s = c .before .before .before .before in let h = at s in omega (arith, s .pre .1 .next-long, s .pre .1 .prev-long)
+
+wide-requires : tie.Need-wide-requires
+wide-requires c κs = search needs
+
+mul-wide-2 : tie.Need-mul-wide-2
+mul-wide-2 c = let s = c .before .before .before .before .before in let h = at s in omega (arith, s .pre .1 .next-long, s .pre .1 .prev-long)
+
+shared-slice-read-wide-2 : tie.Need-shared-slice-read-wide-2
+shared-slice-read-wide-2 c = let s = c .before .before .before .before .before .before in let h = at s in omega (arith, s .pre .1 .next-long, s .pre .1 .prev-long)
+
+wide-requires-2 : tie.Need-wide-requires-2
+wide-requires-2 c κs = search needs
+
+unmark-requires : tie.Need-unmark-requires
+unmark-requires c κs = at (c .before .before .before .before .before .before .before .before) .inside-marks
+
+unmark-requires-2 : tie.Need-unmark-requires-2
+unmark-requires-2 c κs = let h = at (c .before .before .before .before .before .before .before .before .before .before .before .before) in omega (arith, c .before .before .before .unmark .kept .0, c .before .before .before .before .before .before .before .wide .ensures)
+
+unmark-requires-3 : tie.Need-unmark-requires-3
+unmark-requires-3 c κs = let h = at (c .before .before .before .before .before .before .before .before .before .before .before .before .before .before .before .before) in omega (arith, c .before .before .before .unmark2 .kept .0, c .before .before .before .before .before .before .before .unmark .kept .0, c .before .before .before .before .before .before .before .before .before .wide2 .ensures)
+
+add-result : tie.Need-add-result
+add-result c = search needs
+
+add-result-2 : tie.Need-add-result-2
+add-result-2 c = search needs
+
+same-length : tie.Need-same-length
+same-length c = search needs
+
+returns : tie.Need-returns
+returns c = let h = at (c .before .before .before .before .before .before .before .before .before .before .before .before .before .before .before .before .before .before .before) in unmarked-about (c .before .before .before .before .before .before .before .before .before .before .unmark .ensures) (c .before .before .before .before .before .before .unmark2 .ensures) (c .before .before .unmark3 .ensures) (c .before .before .before .before .before .before .before .before .before .before .before .before .before .before .wide .ensures ∙ h .next-is) (c .before .before .before .before .before .before .before .before .before .before .before .before .wide2 .ensures ∙ h .prev-is)
+
+pub unmark-about-spec : {M : Type 1} → statement M
+unmark-about-spec =
+    tie.close
+    (tie.spec
+    mul-wide
+    shared-slice-read-wide
+    wide-requires
+    mul-wide-2
+    shared-slice-read-wide-2
+    wide-requires-2
+    unmark-requires
+    unmark-requires-2
+    unmark-requires-3
+    add-result
+    add-result-2
+    same-length
+    returns)

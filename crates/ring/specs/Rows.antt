@@ -1,0 +1,63 @@
+-- The two rows that link a ring, and what the code asks and leaves of them and of the marks.
+use Prim.Native.Nat.{ℕ, _+_, _^_, _<_, _≤_}
+use mathlib.Core.Path.{_≡_}
+use mathlib.Core.Bool.{true, false}
+use mathlib.Core.List.{List}
+use lib.ListN.{length, getD, set}
+use Rattle.ring.specs.Walk.{unmarked, marked, removed, mark-at, Survivor, survivors, successor, predecessor, count, unmark, unmark-about, remove, fresh, Stage}
+use Rattle.ring.specs.Walk.Stage.{kept, collapsed}
+use Rattle.ring.specs.declared.Walked.{Walked}
+
+-- Each survivor has its successor in one row and its predecessor in the other.
+pub record Linked (m next prev : List ℕ) : Type 0 where
+  pub next-long : length next ≡ length m
+  pub prev-long : length prev ≡ length m
+  pub forward : (p : ℕ) → Survivor m p → getD next p 0 ≡ successor m p
+  pub backward : (p : ℕ) → Survivor m p → getD prev p 0 ≡ predecessor m p
+
+-- Three rows of one length, whose positions fit their elements.
+pub record Level (next prev mark : List ℕ) : Type 0 where
+  pub next-long : length next ≡ length mark
+  pub prev-long : length prev ≡ length mark
+  pub some : 1 ≤ length mark
+  pub few : length mark ≤ 2 ^ 32
+
+-- All n positions are linked, none marked.
+pub record AllLinked (n : ℕ) (mark next prev : List ℕ) : Type 0 where
+  pub marks : mark ≡ fresh n
+  pub linked : Linked mark next prev
+
+-- Position c is unmarked, and others survive beside it.
+pub record Removable (m next prev : List ℕ) (c : ℕ) : Type 0 where
+  pub due : mark-at m c ≡ unmarked
+  pub others : 1 < length (survivors m)
+  pub linked : Linked m next prev
+
+-- Position c is out of the ring, with no other mark changed, and p was its predecessor.
+pub record Unlinked (m : List ℕ) (c : ℕ) (m′ next prev : List ℕ) (p : ℕ) : Type 0 where
+  pub marks : m′ ≡ set m c removed
+  pub linked : Linked m′ next prev
+  pub before : p ≡ predecessor m c
+
+-- Position p is unmarked, which took so many marks off.
+pub record Unmarked (m : List ℕ) (p : ℕ) (m′ : List ℕ) (taken : ℕ) : Type 0 where
+  pub marks : m′ ≡ unmark m p
+  pub fewer : count marked m′ + taken ≡ count marked m
+  pub small : taken ≤ 1
+
+-- Position p and its neighbours are unmarked, which took so many marks off.
+pub record UnmarkedAbout (m : List ℕ) (p : ℕ) (m′ : List ℕ) (taken : ℕ) : Type 0 where
+  pub marks : m′ ≡ unmark-about m p
+  pub fewer : count marked m′ + taken ≡ count marked m
+  pub small : taken ≤ 3
+
+-- Vertex c is removed, which took so many marks off.
+pub record Removed (m : List ℕ) (c : ℕ) (m′ next prev : List ℕ) (taken : ℕ) : Type 0 where
+  pub marks : m′ ≡ remove m c
+  pub linked : Linked m′ next prev
+  pub fewer : count marked m′ + taken ≡ count marked m
+  pub small : taken ≤ 3
+
+-- How the code tells the end of a walk, with the survivors in the row of marks.
+abbrev pub ended : Walked → List ℕ → Stage
+ended w m = elim (w .kept) [ true ↦ kept (survivors m) (w .decisions) | false ↦ collapsed (w .decisions) ]

@@ -1,0 +1,32 @@
+-- Which vertex is to go.
+use mathlib.Core.Path.{_≡_}
+use mathlib.Core.Bool.{Bool, true, _||_}
+use mathlib.Core.List.{List}
+use Prim.Native.Nat.{ℕ, _+_, _*_, _<_}
+use lib.ListN.{length}
+use lib.IntN.{ℤ}
+use Rattle.grid.specs.Limits.{all-on-grid}
+use Rattle.grid.specs.Points.{at, same}
+use Rattle.grid.specs.Corners.{Corner, straight, back}
+use Rattle.ring.specs.declared.Rule.{Rule}
+use Rattle.ring.specs.declared.Rule.the-variants.{Collinear, Spike}
+
+-- Collinear cleaning removes a vertex with cross 0. Despiking removes one equal to either neighbour, or with cross 0 and dot below 0.
+unfoldable pub goes-at : Rule → Corner → Bool
+goes-at Collinear k = straight k
+goes-at Spike k = same (k .vertex) (k .before) || (same (k .vertex) (k .after) || back k)
+
+-- The corner at three positions of a row: a predecessor, a vertex and a successor.
+abbrev pub corner-of : List ℤ → ℕ → ℕ → ℕ → Corner
+corner-of row a c b = record { before = at row a; vertex = at row c; after = at row b }
+
+-- The rule on the positions of a row.
+abbrev pub goes : Rule → List ℤ → ℕ → ℕ → ℕ → Bool
+goes rule row a c b = goes-at rule (corner-of row a c b)
+
+-- Three positions of a row on the grid.
+pub record Vertices (row : List ℤ) (a c b : ℕ) : Type 0 where
+  pub a-in : 2 * a + 1 < length row
+  pub c-in : 2 * c + 1 < length row
+  pub b-in : 2 * b + 1 < length row
+  pub on : all-on-grid row ≡ true

@@ -1,0 +1,179 @@
+// The walk over the surviving positions of a ring: the rows that link it, the rule, and the walk itself.
+ghost use mathlib.Core.Path.{_≡_};
+ghost use Prim.Native.Nat.{_<_, _≤_, _^_};
+ghost use lib.ListN.{length};
+ghost use Rattle.grid.specs.Domain.{Contour};
+ghost use Rattle.ring.specs.Walk.{Survivor, walk as walk-of};
+ghost use Rattle.ring.specs.Rule.{Vertices, goes as goes-by};
+ghost use Rattle.ring.specs.Rows.{AllLinked, Level, Linked, Removable, Removed, Unlinked, Unmarked, UnmarkedAbout, ended};
+
+// A position of a row as an index.
+pub fn wide(x: u32) -> usize
+    ensures { λ r. ⌜ r ≡ x ⌝ }
+{
+    x as usize
+}
+
+// An index as a position of a row.
+fn narrow(x: usize) -> u32
+    requires { ⌜ x < 2 ^ 32 ⌝ }
+    ensures { λ r. ⌜ r ≡ x ⌝ }
+{
+    x as u32
+}
+
+// Links all positions in a ring, none marked.
+pub fn link(next: &mut [u32], prev: &mut [u32], mark: &mut [u8])
+    requires { ⌜ Level (now next) (now prev) (now mark) ⌝ }
+    ensures { λ r. ⌜ AllLinked (length (now (mark .entry))) (now (mark .exit)) (now (next .exit)) (now (prev .exit)) ⌝ }
+{
+    let n = mark.len();
+    mark[0] = 0;
+    prev[0] = narrow(n - 1);
+    let mut i: usize = 1;
+    while i < n {
+        mark[i] = 0;
+        prev[i] = narrow(i - 1);
+        next[i - 1] = narrow(i);
+        i += 1;
+    }
+    next[n - 1] = 0;
+}
+
+// Takes the mark off p, and says how many marks that was.
+fn unmark(mark: &mut [u8], p: usize) -> usize
+    requires { ⌜ p < length (now mark) ⌝ }
+    ensures { λ r. ⌜ Unmarked (now (mark .entry)) p (now (mark .exit)) r ⌝ }
+{
+    if mark[p] == 1 {
+        mark[p] = 0;
+        1
+    } else {
+        0
+    }
+}
+
+// Takes the marks off p and its neighbours, and says how many marks that was.
+fn unmark_about(next: &[u32], prev: &[u32], mark: &mut [u8], p: usize) -> usize
+    requires { ⌜ Survivor (now mark) p × Linked (now mark) (now next) (now prev) ⌝ }
+    ensures { λ r. ⌜ UnmarkedAbout (now (mark .entry)) p (now (mark .exit)) r ⌝ }
+{
+    let after = wide(next[p]);
+    let before = wide(prev[p]);
+    let first = unmark(mark, p);
+    let second = unmark(mark, after);
+    let third = unmark(mark, before);
+    first + second + third
+}
+
+// Takes c out of the rows, so that its neighbours are neighbours of each other, and says which was its predecessor.
+fn unlink(next: &mut [u32], prev: &mut [u32], mark: &mut [u8], c: usize) -> usize
+    requires { ⌜ Removable (now mark) (now next) (now prev) c ⌝ }
+    ensures { λ r. ⌜ Unlinked (now (mark .entry)) c (now (mark .exit)) (now (next .exit)) (now (prev .exit)) r ⌝ }
+{
+    let after = next[c];
+    let before = prev[c];
+    next[wide(before)] = after;
+    prev[wide(after)] = before;
+    mark[c] = 2;
+    wide(before)
+}
+
+// Removes vertex c, and unmarks its predecessor, that one's new successor and its predecessor. Says how many marks that took off.
+pub fn remove(next: &mut [u32], prev: &mut [u32], mark: &mut [u8], c: usize) -> usize
+    requires { ⌜ Removable (now mark) (now next) (now prev) c ⌝ }
+    ensures { λ r. ⌜ Removed (now (mark .entry)) c (now (mark .exit)) (now (next .exit)) (now (prev .exit)) r ⌝ }
+{
+    let before = unlink(next, prev, mark, c);
+    unmark_about(next, prev, mark, before)
+}
+
+// Which vertex is to go.
+pub enum Rule {
+    // One whose two edges have cross 0.
+    Collinear,
+    // One equal to either neighbour, or where the way turns back.
+    Spike,
+}
+
+// Whether the vertex at a position is to go, with these neighbours.
+pub fn goes(rule: Rule, points: &[i32], before: usize, at: usize, after: usize) -> bool
+    requires { ⌜ Vertices (now points) before at after ⌝ }
+    ensures { λ r. ⌜ r ≡ goes-by rule (now (points .entry)) before at after ⌝ }
+{
+    let a = grid::point_at(points, before);
+    let b = grid::point_at(points, at);
+    let c = grid::point_at(points, after);
+    match rule {
+        Rule::Collinear => grid::straight(a, b, c),
+        Rule::Spike => {
+            if grid::same(b, a) {
+                return true;
+            }
+            if grid::same(b, c) {
+                return true;
+            }
+            grid::turns_back(a, b, c)
+        }
+    }
+}
+
+// How a walk ended, and after how many decisions.
+pub struct Walked {
+    pub kept: bool,
+    pub decisions: usize,
+}
+
+// The walk of a ring that is linked, nothing marked. It stops at the first marked position: from there on nothing
+// goes any more, and each position that is not marked yet takes one decision.
+fn round(rule: Rule, points: &[i32], next: &mut [u32], prev: &mut [u32], mark: &mut [u8]) -> Walked
+    requires { ⌜ Contour (now points) (length (now mark)) × (3 ≤ length (now mark)) ⌝ }
+    requires { ⌜ AllLinked (length (now mark)) (now mark) (now next) (now prev) ⌝ }
+    ensures { λ r. ⌜ walk-of (goes-by rule (now (points .entry))) (length (now (mark .entry))) ≡ ended r (now (mark .exit)) ⌝ }
+{
+    let mut left = mark.len();
+    let mut seen: usize = 0;
+    let mut made: usize = 0;
+    let mut at: usize = 0;
+    while mark[at] == 0 {
+        made += 1;
+        let before = wide(prev[at]);
+        let after = wide(next[at]);
+        if goes(rule, points, before, at, after) {
+            if left <= 3 {
+                return Walked {
+                    kept: false,
+                    decisions: made,
+                };
+            }
+            let taken = remove(next, prev, mark, at);
+            left -= 1;
+            seen -= taken;
+            at = before;
+        } else {
+            mark[at] = 1;
+            seen += 1;
+            at = after;
+        }
+    }
+    Walked {
+        kept: true,
+        decisions: made + (left - seen),
+    }
+}
+
+// The walk of a contour of three points or more. Its marks tell the survivors.
+pub fn walk(
+    rule: Rule,
+    points: &[i32],
+    next: &mut [u32],
+    prev: &mut [u32],
+    mark: &mut [u8],
+) -> Walked
+    requires { ⌜ Contour (now points) (length (now mark)) × (3 ≤ length (now mark)) ⌝ }
+    requires { ⌜ (length (now next) ≡ length (now mark)) × (length (now prev) ≡ length (now mark)) ⌝ }
+    ensures { λ r. ⌜ walk-of (goes-by rule (now (points .entry))) (length (now (mark .entry))) ≡ ended r (now (mark .exit)) ⌝ }
+{
+    link(next, prev, mark);
+    round(rule, points, next, prev, mark)
+}
