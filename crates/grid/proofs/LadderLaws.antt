@@ -48,3 +48,11 @@ onward [] b r t e f = f
 onward ((c, zero) ∷ a) b r t e f = absurd t
 onward ((true, suc k) ∷ a) b r t e f = absurd (omega arith)
 onward ((false, suc k) ∷ a) b r t e f = past refl (onward a b r t e f)
+
+-- none of a ladder's rungs holds: none of its first part, and none of the rest
+pub cleared : (a b : List Rung) → T (numbered a) → first-of (a ++ b) ≡ 0 → (first-of a ≡ 0) × (first-of b ≡ 0)
+unfolding first-of
+cleared [] b t e = (refl, e)
+cleared ((c, zero) ∷ a) b t e = absurd t
+cleared ((true, suc k) ∷ a) b t e = absurd (omega arith)
+cleared ((false, suc k) ∷ a) b t e = cleared a b t e

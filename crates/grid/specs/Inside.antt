@@ -2,7 +2,7 @@
 use mathlib.Core.Path.{_≡_}
 use mathlib.Core.Bool.{false}
 use mathlib.Core.List.{List}
-use Prim.Native.Nat.{ℕ, _<_, _≤_}
+use Prim.Native.Nat.{ℕ, _-_, _<_, _≤_}
 use lib.ListN.{drop}
 use lib.IntN.{ℤ}
 use Rattle.grid.specs.declared.Point.{Point}
@@ -15,3 +15,8 @@ pub record Other (row : List ℤ) (n i : ℕ) (b : Point) (r : ℕ) : Type 0 whe
   pub within : r ≤ n
   pub skipped : differing b (drop i (points row)) ≡ differing b (drop r (points row))
   pub differs : r < n → same (at row r) b ≡ false
+
+-- first is the first position whose point differs from the last point
+pub record First (row : List ℤ) (n first : ℕ) : Type 0 where
+  pub other : Other row n 0 (at row (n - 1)) first
+  pub inside : first < n

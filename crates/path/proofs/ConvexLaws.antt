@@ -1,8 +1,8 @@
--- The loop over a contour's corners: what has been seen, and what is left to see.
+-- What has been seen of the corners, and the question as a whole.
 use mathlib.Core.Path.{_≡_, refl, sym, _∙_, ap}
-use mathlib.Core.Bool.{Bool, true, false, not, _&&_, _||_, or-true, or-false, or-assoc, true≢false}
+use mathlib.Core.Bool.{Bool, true, false, not, _&&_, _||_, or-true, or-false, true≢false}
 use mathlib.Core.List.{List, [], _∷_}
-use Prim.Native.Nat.{ℕ, suc, _+_, _-_, _<_, _≤_}
+use Prim.Native.Nat.{ℕ, _+_, _-_, _<_, _≤_}
 use native.Mathlib.Omega.{arith}
 use native.Mathlib.Decide.{decLe}
 use lib.Dec.{leb}
@@ -12,156 +12,76 @@ use lib.Signed.{ltZ}
 use borrow.Author.Tests.{le-leb, lt-leb}
 use Rattle.integers.proofs.Logic.{and-left, and-right}
 use Rattle.grid.specs.declared.Point.{Point}
-use Rattle.grid.specs.Points.{at, on, same, points, bend, turn, reverses}
-use Rattle.grid.specs.Corners.{differing, distinct-neighbours, Corner, corners-from, corners, some, left, right, back}
+use Rattle.grid.specs.Points.{at, points, bend, turn, reverses}
+use Rattle.grid.specs.Corners.{differing, corners, some, left, right, back}
 use Rattle.grid.specs.Domain.{count, Contour}
-use Rattle.grid.specs.Inside.{Other}
-use Rattle.grid.proofs.PointLaws.{at-on, sign-left, sign-right, sign-none}
-use Rattle.grid.proofs.RowLaws.{points-count, points-more, points-done}
-use Rattle.grid.proofs.CornerLaws.{differing-keep, last-kept, last-from, distinct-is, few-turn-nowhere}
+use Rattle.grid.specs.Inside.{Other, First}
+use Rattle.grid.proofs.PointLaws.{sign-left, sign-right, sign-none}
+use Rattle.grid.proofs.RowLaws.{points-count}
+use Rattle.grid.proofs.CornerLaws.{few-turn-nowhere}
+use Rattle.grid.proofs.AroundLaws.{corner, Tally, tally-more, tally-met, tally-all, tally-start, left-over, Around, around-next, around-none, around-count}
 use Rattle.path.specs.declared.Seen.{Seen}
 use Rattle.path.specs.Convex.{one-way, convex-left, is-convex}
-use Rattle.path.specs.Inside.{looked, First}
+use Rattle.path.specs.Inside.{looked}
 
 -- one corner more
 module _ (s : Seen) (a b c : Point) where
-  abbrev pub corner : Corner
-  corner = record { before = a; vertex = b; after = c }
-
-  pub looked-left : ltZ (pos 0) (turn a b c) ≡ true → record { left = true; right = s .right; back = s .back } ≡ looked s corner
+  pub looked-left : ltZ (pos 0) (turn a b c) ≡ true → record { left = true; right = s .right; back = s .back } ≡ looked s (corner a b c)
   looked-left t = simp (sign-left (bend a b c) t, or-true, or-false)
 
-  pub looked-right : ltZ (turn a b c) (pos 0) ≡ true → record { left = s .left; right = true; back = s .back } ≡ looked s corner
+  pub looked-right : ltZ (turn a b c) (pos 0) ≡ true → record { left = s .left; right = true; back = s .back } ≡ looked s (corner a b c)
   looked-right t = simp (sign-right (bend a b c) t, or-true, or-false)
 
   pub looked-none : (r : Bool) → ltZ (pos 0) (turn a b c) ≡ false → ltZ (turn a b c) (pos 0) ≡ false → r ≡ reverses a b c
-      → record { left = s .left; right = s .right; back = s .back || r } ≡ looked s corner
+      → record { left = s .left; right = s .right; back = s .back || r } ≡ looked s (corner a b c)
   looked-none r t u e = simp (sign-none (bend a b c) t u, or-false, e)
 
--- of the corners ks, those that are not left were seen
-pub record Split (s : Seen) (ks unseen : List Corner) : Type 0 where
-  pub lefts : some left ks ≡ (s .left || some left unseen)
-  pub rights : some right ks ≡ (s .right || some right unseen)
-  pub backs : some back ks ≡ (s .back || some back unseen)
+-- what the corners up to b have shown
+pub record Sight (s : Seen) (l : List Point) (o a b : Point) (unmet : List Point) : Type 0 where
+  pub lefts : Tally left (s .left) l o a b unmet
+  pub rights : Tally right (s .right) l o a b unmet
+  pub backs : Tally back (s .back) l o a b unmet
 
-split-none : (ks : List Corner) → Split (record { left = false; right = false; back = false }) ks ks
-split-none ks = record { lefts = refl; rights = refl; backs = refl }
+sight-more : {s : Seen} {l : List Point} {o a b c : Point} {unmet : List Point} → Sight s l o a b (c ∷ unmet) → Sight (looked s (corner a b c)) l o b c unmet
+sight-more x = record { lefts = tally-more (x .lefts); rights = tally-more (x .rights); backs = tally-more (x .backs) }
 
-split-more : {s : Seen} {ks : List Corner} (k : Corner) (unseen : List Corner) → Split s ks (k ∷ unseen) → Split (looked s k) ks unseen
-unfolding some
-split-more {s} k unseen p = record {
-  lefts = p .lefts ∙ sym (or-assoc (s .left) (left k) (some left unseen));
-  rights = p .rights ∙ sym (or-assoc (s .right) (right k) (some right unseen));
-  backs = p .backs ∙ sym (or-assoc (s .back) (back k) (some back unseen));
-}
+sight-all : {s : Seen} {l : List Point} {o a b : Point} → Sight s l o a b [] → let t = looked s (corner a b o) in (not (t .left && t .right) && not (t .back)) ≡ one-way (corners l)
+sight-all x = sym (rw (tally-all (x .lefts), tally-all (x .rights), tally-all (x .backs)))
 
-split-all : {s : Seen} {ks : List Corner} → Split s ks [] → (not (s .left && s .right) && not (s .back)) ≡ one-way ks
-unfolding some
-split-all {s} {ks} p =
-    let l = p .lefts ∙ or-false (s .left) in
-    let r = p .rights ∙ or-false (s .right) in
-    let b = p .backs ∙ or-false (s .back) in
-    sym (rw (l, r, b))
+-- both ways have been seen, which two points or fewer cannot show
+pub both-ways : {s : Seen} {l : List Point} {o a b : Point} {unmet : List Point} → Sight s l o a b unmet → (s .left && s .right) ≡ true → false ≡ convex-left l
+unfolding convex-left
+both-ways {s} {l} x e =
+    let p = tally-met (x .lefts) (and-left (s .left) (s .right) e) in
+    let q = tally-met (x .rights) (and-right (s .left) (s .right) e) in
+    rw (many p, p, q)
+  where
+    many : some left (corners l) ≡ true → leb (length l) 2 ≡ false
+    many p = go (decLe (length l) 2)
+      where
+        go : Dec (length l ≤ 2) → leb (length l) 2 ≡ false
+        go (yes h) = absurd (true≢false (sym p ∙ few-turn-nowhere (pos 1) refl l h))
+        go (no h) = lt-leb (length l) 2 (omega arith)
 
-module _ (row : List ℤ) where
-  -- the contour without equal neighbours
-  abbrev pub left-over : List Point
-  left-over = distinct-neighbours (points row)
+module _ (row : List ℤ) {n : ℕ} (c : Contour row n) where
+  pub sight-start : (first i : ℕ) → First row n first → Other row n (first + 1) (at row first) i
+      → Sight (record { left = false; right = false; back = false }) (left-over row) (at row first) (at row (n - 1)) (at row first) (differing (at row first) (drop i (points row)))
+  sight-start first i x y = record { lefts = tally-start row c first i x y left; rights = tally-start row c first i x y right; backs = tally-start row c first i x y back }
 
-  -- both ways have been seen, which two points or fewer cannot show
-  pub both-ways : {s : Seen} {unseen : List Corner} → Split s (corners left-over) unseen → (s .left && s .right) ≡ true → false ≡ convex-left left-over
-  unfolding convex-left
-  both-ways {s} {unseen} p e =
-      let l : some left (corners left-over) ≡ true = p .lefts ∙ ap (λ (t : Bool). t || some left unseen) (and-left (s .left) (s .right) e) in
-      let r : some right (corners left-over) ≡ true = p .rights ∙ ap (λ (t : Bool). t || some right unseen) (and-right (s .left) (s .right) e) in
-      rw (many l, l, r)
-    where
-      many : some left (corners left-over) ≡ true → leb (length left-over) 2 ≡ false
-      many l = go (decLe (length left-over) 2)
-        where
-          go : Dec (length left-over ≤ 2) → leb (length left-over) 2 ≡ false
-          go (yes h) = absurd (true≢false (sym l ∙ few-turn-nowhere (pos 1) refl left-over h))
-          go (no h) = lt-leb (length left-over) 2 (omega arith)
+  module _ {o a b : Point} {s : Seen} {kept i : ℕ} (w : Around row n a b kept i) (x : Sight s (left-over row) o a b (differing b (drop i (points row)))) where
+    pub sight-kept : i < n → Sight (looked s (corner a b (at row i))) (left-over row) o b (at row i) (differing (at row i) (drop (i + 1) (points row)))
+    sight-kept h = sight-more (rw (around-next row c w h) at x)
 
-  -- the loop: after kept points, on the way from a by b to position i, whose point is the next that differs
-  pub record Walked (n : ℕ) (o a b : Point) (s : Seen) (kept i : ℕ) : Type 0 where
-    pub within : i ≤ n
-    pub few : kept ≤ i
-    pub a-on : on a ≡ true
-    pub b-on : on b ≡ true
-    pub counted : length left-over ≡ kept + length (differing b (drop i (points row)))
-    pub split : Split s (corners left-over) (corners-from o a b (differing b (drop i (points row))))
-    pub differs : i < n → same (at row i) b ≡ false
+    module _ (e : n ≤ i) where
+      pub few-left : kept ≤ 2 → true ≡ convex-left (left-over row)
+      unfolding convex-left
+      few-left h = sym (ap (λ (t : Bool). t || one-way (corners (left-over row))) (le-leb (length (left-over row)) 2 (omega (arith, around-count row c w e))))
 
-  module _ {n : ℕ} (c : Contour row n) where
-    pub nothing-left : Other row n 0 (at row (n - 1)) n → 0 < n → left-over ≡ []
-    unfolding differing
-    nothing-left x h = distinct-is c h ∙ x .skipped ∙ ap (differing (at row (n - 1))) (points-done c n refl)
-
-    module _ (first i : ℕ) (x : First row n first) (y : Other row n (first + 1) (at row first) i) where
-      starts-with : left-over ≡ at row first ∷ differing (at row first) (drop (first + 1) (points row))
-      starts-with =
-          distinct-is c (omega (arith, x .inside)) ∙ x .other .skipped ∙ ap (differing (at row (n - 1))) (points-more c first (x .inside))
-          ∙ differing-keep (at row (n - 1)) (at row first) (drop (first + 1) (points row)) (x .other .differs (x .inside))
-
-      corners-start : corners left-over ≡ corners-from (at row first) (at row (n - 1)) (at row first) (differing (at row first) (drop (first + 1) (points row)))
-      unfolding corners
-      corners-start =
-          let o = at row first in
-          let rest = differing o (drop (first + 1) (points row)) in
-          let e : first + suc (n - suc first) ≡ n = omega (arith, x .inside) in
-          ap corners starts-with
-          ∙ ap (λ (l : Point). corners-from o l o rest) (last-kept o (drop (first + 1) (points row)) ∙ last-from c (n - suc first) first e)
-
-      pub walked-start : Walked n (at row first) (at row (n - 1)) (at row first) (record { left = false; right = false; back = false }) 1 i
-      walked-start =
-          let o = at row first in
-          record {
-            within = y .within;
-            few = omega (arith, y .from);
-            a-on = at-on row (n - 1) (c .on);
-            b-on = at-on row first (c .on);
-            counted = ap length (starts-with ∙ ap (λ (l : List Point). o ∷ l) (y .skipped)) ∙ omega arith;
-            split = rw (← corners-start ∙ ap (corners-from o (at row (n - 1)) o) (y .skipped)) (split-none (corners left-over));
-            differs = y .differs;
-          }
-
-    module _ {o a b : Point} {s : Seen} {kept i : ℕ} (w : Walked n o a b s kept i) where
-      kept-is : i < n → differing b (drop i (points row)) ≡ at row i ∷ differing (at row i) (drop (i + 1) (points row))
-      kept-is h = ap (differing b) (points-more c i h) ∙ differing-keep b (at row i) (drop (i + 1) (points row)) (w .differs h)
-
-      pub split-kept : i < n → Split (looked s (corner s a b (at row i))) (corners left-over) (corners-from o b (at row i) (differing (at row i) (drop (i + 1) (points row))))
-      unfolding corners-from
-      split-kept h = split-more _ _ (rw (kept-is h) at (w .split))
-
-      pub walked-keep : i < n → (j : ℕ) → Other row n (i + 1) (at row i) j → Walked n o b (at row i) (looked s (corner s a b (at row i))) (kept + 1) j
-      walked-keep h j y = record {
-        within = y .within;
-        few = omega (arith, w .few, y .from);
-        a-on = w .b-on;
-        b-on = at-on row i (c .on);
-        counted = w .counted ∙ ap (λ (l : List Point). kept + length l) (kept-is h ∙ ap (λ (l : List Point). at row i ∷ l) (y .skipped)) ∙ omega arith;
-        split = rw (← y .skipped) (split-kept h);
-        differs = y .differs;
-      }
-
-      module _ (e : n ≤ i) where
-        none : differing b (drop i (points row)) ≡ []
-        unfolding differing
-        none = let f : i ≡ n = omega (arith, w .within) in ap (differing b) (points-done c i f)
-
-        all-kept : length left-over ≡ kept
-        all-kept = w .counted ∙ ap (λ (l : List Point). kept + length l) none ∙ omega arith
-
-        pub few-left : kept ≤ 2 → true ≡ convex-left left-over
-        unfolding convex-left
-        few-left h = sym (ap (λ (t : Bool). t || one-way (corners left-over)) (le-leb (length left-over) 2 (omega (arith, all-kept))))
-
-        pub closed : 2 < kept → (t : Seen) → t ≡ looked s (corner s a b o) → (not (t .left && t .right) && not (t .back)) ≡ convex-left left-over
-        unfolding convex-left corners-from
-        closed h t f =
-            let m = lt-leb (length left-over) 2 (omega (arith, all-kept)) in
-            rw (f, m) (split-all (split-more _ [] (rw none at (w .split))))
+      pub closed : 2 < kept → (t : Seen) → t ≡ looked s (corner a b o) → (not (t .left && t .right) && not (t .back)) ≡ convex-left (left-over row)
+      unfolding convex-left
+      closed h t f =
+          let m = lt-leb (length (left-over row)) 2 (omega (arith, around-count row c w e)) in
+          rw (f, m) (sight-all (rw (around-none row c w e) at x))
 
 -- the question as a whole
 module _ (row : List ℤ) where

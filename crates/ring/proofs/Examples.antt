@@ -1,59 +1,74 @@
--- The walks of small contours, by the collinear rule and by the rule for spikes: the definition computes to them.
-use Prim.Native.Nat.{ℕ, _+_, _*_}
+-- Worked walks: the cases of the scope, and those that no W catches.
 use mathlib.Core.Path.{_≡_, refl}
 use mathlib.Core.List.{List, [], _∷_}
-use mathlib.Core.Bool.{Bool, _&&_, _||_}
-use lib.ListN.{getD}
-use lib.Dec.{ltb, eqb}
-use Rattle.ring.specs.Walk.{survivors-from, others, successor, predecessor, count, unmark, unmark-about, remove, decide, look, looks, walk}
+use Prim.Native.Nat.{ℕ, _/_}
+use lib.IntN.{ℤ, pos}
+use lib.ListN.{length}
+use Rattle.grid.specs.Points.{bend, reverses}
+use Rattle.ring.specs.declared.Rule.{Rule}
+use Rattle.ring.specs.declared.Rule.the-variants.{Collinear, Spike}
+use Rattle.ring.specs.Walk.{survivors-from, others, successor, predecessor, count, unmark, unmark-about, remove, decide, look, looks, walk, Stage}
 use Rattle.ring.specs.Walk.Stage.{kept, collapsed}
+use Rattle.ring.specs.Rule.{goes-at, goes}
 
--- A contour is a row x, y, x, y, here of natural numbers.
-module _ (row : List ℕ) where
-  abbrev x : ℕ → ℕ
-  x p = getD row (2 * p) 0
+-- a row of small numbers
+abbrev row : List ℕ → List ℤ
+row [] = []
+row (n ∷ l) = pos n ∷ row l
 
-  abbrev y : ℕ → ℕ
-  y p = getD row (2 * p + 1) 0
+-- the walk of such a row
+abbrev walked : Rule → List ℕ → Stage
+walked rule l = walk (goes rule (row l)) (length l / 2)
 
-  -- The edges at b have cross 0, with the terms that are subtracted on the other side.
-  abbrev collinear : ℕ → ℕ → ℕ → Bool
-  collinear a b c = eqb (x a * y b + x b * y c + x c * y a) (y a * x b + y b * x c + y c * x a)
+abbrev Both : List ℕ → Stage → Type 0
+Both l w = (walked Collinear l ≡ w) × (walked Spike l ≡ w)
 
-  -- They have dot below 0, in the same way.
-  abbrev reverses : ℕ → ℕ → ℕ → Bool
-  reverses a b c = ltb (x a * x b + x b * x c + y a * y b + y b * y c) (x b * x b + x a * x c + y b * y b + y a * y c)
+w1 : Both [] (collapsed 0)
+unfolding survivors-from others successor predecessor count unmark unmark-about remove decide look looks walk goes-at bend reverses
+w1 = (refl, refl)
 
-  abbrev equal : ℕ → ℕ → Bool
-  equal a b = eqb (x a) (x b) && eqb (y a) (y b)
+w2 : Both (0 ∷ 0 ∷ 1 ∷ 0 ∷ 2 ∷ 0 ∷ []) (collapsed 1)
+unfolding survivors-from others successor predecessor count unmark unmark-about remove decide look looks walk goes-at bend reverses
+w2 = (refl, refl)
 
-  -- The vertex equals a neighbour, or its edges have cross 0 and dot below 0.
-  abbrev spike : ℕ → ℕ → ℕ → Bool
-  spike a b c = equal a b || equal b c || (collinear a b c && reverses a b c)
+w3 : Both (0 ∷ 0 ∷ 4 ∷ 0 ∷ 0 ∷ 4 ∷ []) (kept (0 ∷ 1 ∷ 2 ∷ []) 3)
+unfolding survivors-from others successor predecessor count unmark unmark-about remove decide look looks walk goes-at bend reverses
+w3 = (refl, refl)
 
--- The first vertex goes, and only three survive.
-w2 : walk (collinear (0 ∷ 0 ∷ 1 ∷ 0 ∷ 2 ∷ 0 ∷ [])) 3 ≡ collapsed 1
-unfolding survivors-from others successor predecessor count unmark unmark-about remove decide look looks walk
-w2 = refl
-
-w4 : walk (collinear (0 ∷ 0 ∷ 2 ∷ 0 ∷ 4 ∷ 0 ∷ 4 ∷ 4 ∷ 0 ∷ 4 ∷ [])) 5 ≡ kept (0 ∷ 2 ∷ 3 ∷ 4 ∷ []) 6
-unfolding survivors-from others successor predecessor count unmark unmark-about remove decide look looks walk
+w4 : walked Collinear (0 ∷ 0 ∷ 2 ∷ 0 ∷ 4 ∷ 0 ∷ 4 ∷ 4 ∷ 0 ∷ 4 ∷ []) ≡ kept (0 ∷ 2 ∷ 3 ∷ 4 ∷ []) 6
+unfolding survivors-from others successor predecessor count unmark unmark-about remove decide look looks walk goes-at bend reverses
 w4 = refl
 
--- With only P unmarked it would take 8 decisions.
-w6 : walk (collinear (0 ∷ 0 ∷ 4 ∷ 0 ∷ 4 ∷ 4 ∷ 4 ∷ 8 ∷ 4 ∷ 4 ∷ 0 ∷ 4 ∷ [])) 6 ≡ kept (0 ∷ 1 ∷ 4 ∷ 5 ∷ []) 9
-unfolding survivors-from others successor predecessor count unmark unmark-about remove decide look looks walk
-w6 = refl
+w5 : walked Spike (0 ∷ 0 ∷ 2 ∷ 0 ∷ 4 ∷ 0 ∷ 4 ∷ 4 ∷ 0 ∷ 4 ∷ []) ≡ kept (0 ∷ 1 ∷ 2 ∷ 3 ∷ 4 ∷ []) 5
+unfolding survivors-from others successor predecessor count unmark unmark-about remove decide look looks walk goes-at bend reverses
+w5 = refl
 
--- Without unmarking P's new successor this walk would take 6 decisions, and the next two would keep position 0.
-successor-decides-again : walk (collinear (0 ∷ 0 ∷ 0 ∷ 1 ∷ 1 ∷ 0 ∷ 2 ∷ 0 ∷ [])) 4 ≡ kept (0 ∷ 1 ∷ 2 ∷ []) 7
-unfolding survivors-from others successor predecessor count unmark unmark-about remove decide look looks walk
+-- with only P unmarked it would take 8 decisions
+w6 : Both (0 ∷ 0 ∷ 4 ∷ 0 ∷ 4 ∷ 4 ∷ 4 ∷ 8 ∷ 4 ∷ 4 ∷ 0 ∷ 4 ∷ []) (kept (0 ∷ 1 ∷ 4 ∷ 5 ∷ []) 9)
+unfolding survivors-from others successor predecessor count unmark unmark-about remove decide look looks walk goes-at bend reverses
+w6 = (refl, refl)
+
+w7 : Both (0 ∷ 0 ∷ 0 ∷ 0 ∷ 4 ∷ 0 ∷ 0 ∷ 4 ∷ []) (kept (1 ∷ 2 ∷ 3 ∷ []) 4)
+unfolding survivors-from others successor predecessor count unmark unmark-about remove decide look looks walk goes-at bend reverses
+w7 = (refl, refl)
+
+w10 : Both (0 ∷ 0 ∷ 4 ∷ 4 ∷ 4 ∷ 0 ∷ 0 ∷ 4 ∷ []) (kept (0 ∷ 1 ∷ 2 ∷ 3 ∷ []) 4)
+unfolding survivors-from others successor predecessor count unmark unmark-about remove decide look looks walk goes-at bend reverses
+w10 = (refl, refl)
+
+w12 : Both (0 ∷ 0 ∷ 4 ∷ 0 ∷ 4 ∷ 0 ∷ []) (collapsed 1)
+unfolding survivors-from others successor predecessor count unmark unmark-about remove decide look looks walk goes-at bend reverses
+w12 = (refl, refl)
+
+-- without unmarking P's new successor this would take 6 decisions, and the next two would keep position 0
+successor-decides-again : walked Collinear (0 ∷ 0 ∷ 0 ∷ 1 ∷ 1 ∷ 0 ∷ 2 ∷ 0 ∷ []) ≡ kept (0 ∷ 1 ∷ 2 ∷ []) 7
+unfolding survivors-from others successor predecessor count unmark unmark-about remove decide look looks walk goes-at bend reverses
 successor-decides-again = refl
 
-successor-goes : walk (collinear (0 ∷ 0 ∷ 1 ∷ 0 ∷ 0 ∷ 1 ∷ 2 ∷ 0 ∷ 0 ∷ 0 ∷ 2 ∷ 1 ∷ [])) 6 ≡ kept (1 ∷ 2 ∷ 3 ∷ []) 12
-unfolding survivors-from others successor predecessor count unmark unmark-about remove decide look looks walk
+successor-goes : walked Collinear (0 ∷ 0 ∷ 1 ∷ 0 ∷ 0 ∷ 1 ∷ 2 ∷ 0 ∷ 0 ∷ 0 ∷ 2 ∷ 1 ∷ []) ≡ kept (1 ∷ 2 ∷ 3 ∷ []) 12
+unfolding survivors-from others successor predecessor count unmark unmark-about remove decide look looks walk goes-at bend reverses
 successor-goes = refl
 
-successor-goes-despiked : walk (spike (1 ∷ 0 ∷ 3 ∷ 0 ∷ 0 ∷ 1 ∷ 2 ∷ 0 ∷ 0 ∷ 0 ∷ [])) 5 ≡ kept (1 ∷ 2 ∷ 3 ∷ []) 10
-unfolding survivors-from others successor predecessor count unmark unmark-about remove decide look looks walk
+successor-goes-despiked : walked Spike (1 ∷ 0 ∷ 3 ∷ 0 ∷ 0 ∷ 1 ∷ 2 ∷ 0 ∷ 0 ∷ 0 ∷ []) ≡ kept (1 ∷ 2 ∷ 3 ∷ []) 10
+unfolding survivors-from others successor predecessor count unmark unmark-about remove decide look looks walk goes-at bend reverses
 successor-goes-despiked = refl

@@ -7,9 +7,10 @@ use lib.ListN.{length}
 use Rattle.grid.specs.Points.{at}
 use Rattle.grid.specs.Inside.{Other}
 use Rattle.grid.proofs.DomainLaws.{in-domain}
+use Rattle.grid.proofs.AroundLaws.{nothing-left}
 use Rattle.grid.proofs.VerdictLaws.{verdict-refused, verdict-given}
 use Rattle.path.specs.Convex.{convex}
-use Rattle.path.proofs.ConvexLaws.{nothing-left, convex-few, convex-many, convex-nothing}
+use Rattle.path.proofs.ConvexLaws.{convex-few, convex-many, convex-nothing}
 use Rattle.path.proofs.is_convex.Statement.{statement}
 use Rattle.path.proofs.is_convex.Tie as tie
 

@@ -1,0 +1,4 @@
+pub mod RowLaws
+pub mod OutcomeLaws
+pub mod VerdictLaws
+pub mod Cases

@@ -1,0 +1,4 @@
+pub mod Verdicts
+pub mod Outcome
+pub mod Part
+pub mod Inside

@@ -1,0 +1,32 @@
+-- Whether a contour is simple, and whether it has no spikes.
+use mathlib.Core.Bool.{Bool, not, _&&_}
+use mathlib.Core.List.{List}
+use lib.Dec.{leb}
+use lib.ListN.{length}
+use lib.IntN.{ℤ}
+use Rattle.grid.specs.declared.Point.{Point}
+use Rattle.grid.specs.declared.Verdict.{Verdict}
+use Rattle.grid.specs.Points.{points}
+use Rattle.grid.specs.Corners.{distinct-neighbours, corners, some, straight, back}
+use Rattle.grid.specs.Ladder.{first-of}
+use Rattle.grid.specs.Domain.{domain}
+use Rattle.grid.specs.Verdicts.{verdict}
+
+-- three or more points, and no vertex whose two edges have cross 0
+unfoldable pub is-simple : List Point → Bool
+is-simple l = leb 3 (length l) && not (some straight (corners l))
+
+-- three or more are left, and no vertex has cross 0 with dot below 0
+unfoldable pub no-spike-left : List Point → Bool
+no-spike-left l = leb 3 (length l) && not (some back (corners l))
+
+-- three or more points; equal neighbours skipped, no spike is left
+unfoldable pub no-spikes : List Point → Bool
+no-spikes l = leb 3 (length l) && no-spike-left (distinct-neighbours l)
+
+-- the answers
+unfoldable pub simple : List ℤ → Verdict
+simple row = verdict (first-of (domain row)) (is-simple (points row))
+
+unfoldable pub spike-free : List ℤ → Verdict
+spike-free row = verdict (first-of (domain row)) (no-spikes (points row))

@@ -1,0 +1,8 @@
+// The cleaners of one contour, their verdicts, and the call that hands back what they kept.
+mod cleaning;
+pub mod despike;
+mod part;
+pub mod simple;
+
+pub use cleaning::Cleaned;
+pub use part::kept_part;
