@@ -8,10 +8,9 @@ use lib.IntN.{pos, _+ℤ_}
 use Rattle.integers.specs.Polynomial.{Po, #, num, _:+_, _:-_, _:*_}
 use Rattle.integers.proofs.Polynomial.{ring, ring-by}
 use Rattle.grid.specs.declared.Point.{Point}
-use Rattle.grid.specs.Points.{cross, bend}
+use Rattle.grid.specs.Points.{origin, cross, bend}
 use Rattle.grid.specs.Neighbours.{following, preceding, leaving-out}
 use Rattle.grid.specs.Area.{around, exact}
-use Rattle.grid.proofs.RowLaws.{origin}
 
 abbrev :cross : Po → Po → Po → Po → Po
 :cross ax ay bx by = ax :* by :- ay :* bx

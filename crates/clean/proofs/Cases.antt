@@ -20,11 +20,14 @@ abbrev answered : Bool → Verdict
 answered b = record { reply = 0; yes = b }
 
 -- a row of small numbers
-abbrev row : List ℕ → List ℤ
+abbrev pub row : List ℕ → List ℤ
 row [] = []
 row (n ∷ l) = pos n ∷ row l
 
-abbrev W4 : List ℤ
+abbrev pub W3 : List ℤ
+W3 = row (0 ∷ 0 ∷ 4 ∷ 0 ∷ 0 ∷ 4 ∷ [])
+
+abbrev pub W4 : List ℤ
 W4 = row (0 ∷ 0 ∷ 2 ∷ 0 ∷ 4 ∷ 0 ∷ 4 ∷ 4 ∷ 0 ∷ 4 ∷ [])
 
 abbrev W7 : List ℤ

@@ -6,14 +6,15 @@ use native.Mathlib.Omega.{arith}
 use native.Mathlib.Numerals.{add-one}
 use lib.ListN.{length, getD, drop}
 use lib.Seq.{drop-cons, drop-length}
-use lib.IntN.{ℤ, pos}
-use Rattle.grid.specs.declared.Point.{Point}
-use Rattle.grid.specs.Points.{at, points}
+use lib.IntN.{ℤ}
+use Rattle.grid.specs.Points.{at, origin, points}
 use Rattle.grid.specs.Domain.{count, Contour}
 
--- past the end of a row there is only the origin
-abbrev pub origin : Point
-origin = record { x = pos 0; y = pos 0 }
+-- inside a list the default doesn't matter
+pub any-default : {A : Type 0} (l : List A) (j : ℕ) (d e : A) → j < length l → getD l j d ≡ getD l j e
+any-default [] j d e h = absurd (omega arith)
+any-default (x ∷ l) zero d e h = refl
+any-default (x ∷ l) (suc j) d e h = any-default l j d e (omega arith)
 
 pub points-count : (row : List ℤ) → length (points row) ≡ count row
 unfolding points

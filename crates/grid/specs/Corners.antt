@@ -1,10 +1,13 @@
 -- The corners of a closed contour, and the points that make one.
 use mathlib.Core.Bool.{Bool, true, false, _&&_, _||_}
 use mathlib.Core.List.{List, [], _∷_}
+use Prim.Native.Nat.{ℕ}
+use lib.ListN.{getD}
 use lib.IntN.{ℤ, pos, negsuc}
 use Rattle.integers.specs.Equal.{eqZ}
 use Rattle.grid.specs.declared.Point.{Point}
-use Rattle.grid.specs.Points.{same, turn, reverses}
+use Rattle.grid.specs.Points.{origin, same, turn, reverses}
+use Rattle.grid.specs.Neighbours.{preceding, following}
 
 -- the last point, where a stands before the first
 unfoldable pub last : Point → List Point → Point
@@ -59,3 +62,7 @@ straight k = eqZ (turn-at k) (pos 0)
 -- cross 0 with dot below 0
 abbrev pub back : Corner → Bool
 back k = straight k && reverses (k .before) (k .vertex) (k .after)
+
+-- the corner at number j of a closed contour
+abbrev pub corner-in : List Point → ℕ → Corner
+corner-in l j = record { before = preceding origin l j; vertex = getD l j origin; after = following origin l j }

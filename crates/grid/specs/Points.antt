@@ -16,6 +16,10 @@ use Rattle.grid.specs.Limits.{limit, on-grid}
 abbrev pub at : List ℤ → ℕ → Point
 at row i = record { x = getD row (2 * i) (pos 0); y = getD row (2 * i + 1) (pos 0) }
 
+-- the point 0, 0, which stands for none
+abbrev pub origin : Point
+origin = record { x = pos 0; y = pos 0 }
+
 -- the points of a row
 unfoldable pub points : List ℤ → List Point
 points [] = []

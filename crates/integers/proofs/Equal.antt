@@ -15,7 +15,7 @@ eqZ-true (pos a) (negsuc b) e = absurd (subst T (sym e) tt)
 eqZ-true (negsuc a) (pos b) e = absurd (subst T (sym e) tt)
 eqZ-true (negsuc a) (negsuc b) e = ap negsuc (eqb-true a b e)
 
-eqZ-same : (a : ℤ) → eqZ a a ≡ true
+pub eqZ-same : (a : ℤ) → eqZ a a ≡ true
 eqZ-same (pos a) = eq-eqb a a refl
 eqZ-same (negsuc a) = eq-eqb a a refl
 

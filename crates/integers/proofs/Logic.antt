@@ -1,6 +1,6 @@
--- What a conjunction of tests says.
+-- What a conjunction that holds says, and a disjunction that does not.
 use mathlib.Core.Path.{_≡_, refl, sym, subst}
-use mathlib.Core.Bool.{Bool, true, false, _&&_}
+use mathlib.Core.Bool.{Bool, true, false, _&&_, _||_}
 use lib.Dec.{T}
 
 pub and-left : (a b : Bool) → (a && b) ≡ true → a ≡ true
@@ -10,3 +10,11 @@ and-left false b e = e
 pub and-right : (a b : Bool) → (a && b) ≡ true → b ≡ true
 and-right true b e = e
 and-right false b e = absurd (subst T (sym e) tt)
+
+pub or-left : (a b : Bool) → (a || b) ≡ false → a ≡ false
+or-left true b e = e
+or-left false b e = refl
+
+pub or-right : (a b : Bool) → (a || b) ≡ false → b ≡ false
+or-right true b e = absurd (subst T e tt)
+or-right false b e = e

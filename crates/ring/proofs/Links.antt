@@ -9,7 +9,7 @@ use lib.Seq.{getD-set-same, getD-set-other}
 use Rattle.ring.specs.Walk.{unmarked, marked, removed, mark-at, Survivor, successor, predecessor, count, unmark-about, remove}
 use Rattle.ring.specs.Rows.{Linked, Removable, Unlinked, Unmarked, UnmarkedAbout, Removed}
 use Rattle.ring.proofs.Cases.{same?}
-use Rattle.ring.proofs.Lists.{any-default}
+use Rattle.grid.proofs.RowLaws.{any-default}
 use Rattle.ring.proofs.Marks.{inside, recount, unmark-yes, unmark-no}
 use Rattle.ring.proofs.Survivors.{Same, same-sym, same-survivor}
 use Rattle.ring.proofs.Neighbours.{successor-survives, predecessor-survives, not-alone, gap-successor, gap-predecessor, far-successor, far-predecessor, same-successor, same-predecessor}

@@ -11,7 +11,8 @@ use Rattle.ring.specs.Walk.{removed, mark-at, Survivor, survivors-from, 
 use Rattle.ring.specs.Promises.{Rising, would-go}
 use Rattle.grid.specs.Neighbours.{preceding, following, leaving-out}
 use Rattle.ring.proofs.Cases.{less?}
-use Rattle.ring.proofs.Lists.{any-default, last-append}
+use Rattle.ring.proofs.Lists.{last-append}
+use Rattle.grid.proofs.RowLaws.{any-default}
 use Rattle.ring.proofs.Survivors.{survivors-yes, survivors-no, survivors-gap, Parted, parted, listed}
 use Rattle.ring.proofs.Neighbours.{others-at}
 

@@ -1,17 +1,9 @@
 -- What the kit lacks of lists: the last element, where two ways to cut one list meet, and membership by a cut.
-use Prim.Native.Nat.{ℕ, zero, suc, _<_}
-use native.Mathlib.Omega.{arith}
+use Prim.Native.Nat.{ℕ}
 use mathlib.Core.Path.{_≡_, refl, sym, ap}
 use mathlib.Core.Logic.{_⊎_, inl, inr, ⊎-elim}
 use mathlib.Core.List.{List, [], _∷_, _++_, List·Memᴰ, List·Memᴰ·head, List·Memᴰ·tail, head-eq-of-cons-eq, tail-eq-of-cons-eq}
-use lib.ListN.{length, getD}
 use Rattle.ring.specs.Walk.{last}
-
--- Inside a row the default doesn't matter.
-pub any-default : (m : List ℕ) (p d e : ℕ) → p < length m → getD m p d ≡ getD m p e
-any-default [] p d e h = omega arith
-any-default (x ∷ m) zero d e h = refl
-any-default (x ∷ m) (suc p) d e h = any-default m p d e (omega arith)
 
 pub last-append : (l : List ℕ) (x : ℕ) (r : List ℕ) (d : ℕ) → last (l ++ x ∷ r) d ≡ last r x
 last-append [] x r d = refl

@@ -9,7 +9,7 @@ use lib.ListN.{length, getD, set}
 use Rattle.ring.specs.Walk.{unmarked, marked, removed, mark-at, Survivor, survivors, successor, predecessor, count, to-go, walk}
 use Rattle.ring.specs.Walk.Stage.{kept, collapsed}
 use Rattle.ring.specs.Rows.{Linked, AllLinked, Removable, Removed}
-use Rattle.ring.proofs.Lists.{any-default}
+use Rattle.grid.proofs.RowLaws.{any-default}
 use Rattle.ring.proofs.Marks.{fresh-marked}
 use Rattle.ring.proofs.Survivors.{survivor-count, fresh-count}
 use Rattle.ring.proofs.Changes.{same-set, mark-counts, remove-counts}

@@ -1,0 +1,158 @@
+-- Which contours a cleaner gives back as they are, and how the verdicts tell them.
+use mathlib.Core.Path.{_≡_, refl, sym, _∙_, ap}
+use mathlib.Core.Bool.{true, false, not}
+use mathlib.Core.List.{List, [], _∷_}
+use Prim.Native.Nat.{ℕ, zero, suc, _+_, _*_, _<_, _≤_}
+use native.Mathlib.Omega.{arith}
+use lib.Dec.{leb}
+use lib.IntN.{ℤ, pos}
+use lib.ListN.{length, getD, take, drop, drop-of-length-le}
+use lib.Seq.{drop-cons, take-append-seam}
+use borrow.Author.Tests.{le-leb, not-true}
+use Rattle.integers.proofs.Logic.{and-right, or-left, or-right}
+use Rattle.grid.specs.declared.Point.{Point}
+use Rattle.grid.specs.Points.{at, origin, points, same}
+use Rattle.grid.specs.Corners.{corner-in, corners, some, straight, back, distinct-neighbours}
+use Rattle.grid.specs.Neighbours.{preceding, following}
+use Rattle.grid.specs.Ladder.{first-of}
+use Rattle.grid.specs.Domain.{count, Contour}
+use Rattle.grid.proofs.RowLaws.{points-count, points-length}
+use Rattle.grid.proofs.CornerLaws.{no-corner, corner-none, all-distinct, distinct-before, distinct-after}
+use Rattle.ring.specs.declared.Rule.{Rule}
+use Rattle.ring.specs.declared.Rule.the-variants.{Collinear, Spike}
+use Rattle.ring.specs.Walk.{survivors-from, survivors, fresh, walk}
+use Rattle.ring.specs.Walk.Stage.{kept}
+use Rattle.ring.specs.Rule.{goes-at, goes}
+use Rattle.ring.specs.Promises.{Rising, Settled}
+use Rattle.ring.proofs.Survivors.{fresh-count}
+use Rattle.ring.proofs.Listed.{place, to-go-listed}
+use Rattle.ring.proofs.Theorems.{kept-clean, unchanged-after-n}
+use Rattle.clean.specs.Verdicts.{is-simple, no-spike-left, no-spikes}
+use Rattle.clean.specs.Outcome.{refusals, chosen, front, zeroed, answer, Left, left, outcome}
+use Rattle.clean.proofs.OutcomeLaws.{accepted, outcome-done}
+use Rattle.clean.proofs.Picked.{would-go-picked, picked-all}
+use Rattle.clean.proofs.Theorems.{kept-in-order}
+
+-- no vertex of the contour would go
+abbrev pub Stands : Rule → List Point → Type 0
+Stands rule l = (j : ℕ) → j < length l → goes-at rule (corner-in l j) ≡ false
+
+module _ (rule : Rule) (row : List ℤ) {n : ℕ} (c : Contour row n) (many : 3 ≤ n) where
+  -- where nothing is to go, all is kept, after exactly n decisions
+  pub stands-unchanged : Stands rule (points row) → walk (goes rule row) n ≡ kept (survivors (fresh n)) n
+  stands-unchanged f = unchanged-after-n (goes rule row) n many settled
+    where
+      settled : Settled (goes rule row) (fresh n)
+      settled q x =
+          let a = place (fresh n) q x in
+          let l = a .1 .inside in
+          let h : a .0 < length (points row) = omega (arith, l, fresh-count n, points-length c) in
+          to-go-listed (goes rule row) (a .1) ∙ would-go-picked row rule (survivors (fresh n)) (a .0) l ∙ rw (picked-all row c) (f (a .0) h)
+
+  -- and where all is kept, nothing was to go
+  pub unchanged-stands : {k : ℕ} → walk (goes rule row) n ≡ kept (survivors (fresh n)) k → Stands rule (points row)
+  unchanged-stands e j h =
+      let l : j < length (survivors (fresh n)) = omega (arith, fresh-count n, points-length c) in
+      rw (← picked-all row c) (sym (would-go-picked row rule (survivors (fresh n)) j l) ∙ kept-clean (goes rule row) n e j l)
+
+-- the numbers of all positions are the row itself
+module _ (row : List ℤ) {n : ℕ} (c : Contour row n) where
+  all-numbers : (m k : ℕ) → k + m ≡ n → chosen row (survivors-from k (fresh m)) ≡ drop (2 * k) row
+  unfolding chosen survivors-from
+  all-numbers zero k e = let l : length row ≤ 2 * k = omega (arith, c .even) in sym (drop-of-length-le row l)
+  all-numbers (suc m) k e =
+      let two : 2 * suc k ≡ suc (suc (2 * k)) = omega arith in
+      let one : 2 * k + 1 ≡ suc (2 * k) = omega arith in
+      let x = drop-cons row (2 * k) (pos 0) (omega (arith, c .even)) in
+      let y = drop-cons row (suc (2 * k)) (pos 0) (omega (arith, c .even)) in
+      rw (one, x, y, ← two) (ap (λ (l : List ℤ). getD row (2 * k) (pos 0) ∷ getD row (suc (2 * k)) (pos 0) ∷ l) (all-numbers m (suc k) (omega arith)))
+
+  pub chosen-all : chosen row (survivors (fresh n)) ≡ row
+  chosen-all = all-numbers n 0 (omega arith)
+
+-- as many rising positions as there are places are all of them
+rising-few : (low high : ℕ) (s : List ℕ) → low ≤ high → Rising low high s → length s + low ≤ high
+rising-few low high [] h r = omega arith
+rising-few low high (x ∷ s) h r = omega (arith, r .0, r .1, rising-few (suc x) high s (omega (arith, r .1)) (r .2))
+
+rising-all : (m low high : ℕ) (s : List ℕ) → low + m ≡ high → Rising low high s → length s ≡ m → s ≡ survivors-from low (fresh m)
+unfolding survivors-from
+rising-all zero low high [] g r e = refl
+rising-all zero low high (x ∷ s) g r e = absurd (omega arith)
+rising-all (suc m) low high [] g r e = absurd (omega arith)
+rising-all (suc m) low high (x ∷ s) g r e =
+    let h = rising-few (suc x) high s (omega (arith, r .1)) (r .2) in
+    let f : x ≡ low = omega (arith, r .0, h) in
+    rw f (ap (λ (l : List ℕ). low ∷ l) (rising-all m (suc low) high s (omega arith) (rw f at (r .2)) (omega arith)))
+
+-- A call that is not refused, on a contour of three points or more.
+module _ (rule : Rule) (row : List ℤ) (next prev mark : List ℕ) (out : List ℤ)
+    (room : first-of (refusals row (length next) (length prev) (length mark) (length out)) ≡ 0) (many : 3 ≤ count row)
+    (o : Left) (is : o ≡ outcome rule row next prev mark out) where
+  contour : Contour row (count row)
+  contour = accepted row (length next) (length prev) (length mark) (length out) room .contour
+
+  -- the contour came back as it was: all its points, after as many decisions
+  pub record Unchanged : Type 0 where
+    pub answer-is : o .answer ≡ answer 0 (count row) (count row)
+    pub points-are : take (2 * count row) (o .out) ≡ row
+
+  -- with nothing to remove the contour comes back unchanged after n
+  pub nothing-to-remove : Stands rule (points row) → Unchanged
+  nothing-to-remove f =
+      let e = stands-unchanged rule row contour many f in
+      let d : o ≡ left (answer 0 (count row) (count row)) (zeroed (count row) next) (zeroed (count row) prev) (zeroed (count row) mark) (front row out) =
+      is ∙ outcome-done rule row next prev mark out room ∙ rw (e, fresh-count (count row), chosen-all row contour) in
+      record { answer-is = ap (λ (w : Left). w .answer) d; points-are = rw (d, ← contour .even) (take-append-seam row (drop (length row) out)) }
+
+  -- a contour of which all points are kept had nothing to remove
+  pub all-kept-stands : o .answer .reply ≡ 0 → o .answer .points ≡ count row → Stands rule (points row)
+  all-kept-stands zero-reply all =
+      let x = kept-in-order rule row next prev mark out room many o is zero-reply in
+      let s : x .positions ≡ survivors (fresh (count row)) = rising-all (count row) 0 (count row) (x .positions) (omega arith) (x .rising) (sym (x .count-is) ∙ all) in
+      unchanged-stands rule row contour many (x .walk-is ∙ ap (λ (l : List ℕ). kept l (o .answer .decisions)) s)
+
+-- the verdicts say which contours stand
+module _ (l : List Point) where
+  pub simple-stands : is-simple l ≡ true → Stands Collinear l
+  unfolding is-simple goes-at
+  simple-stands e j h = no-corner straight l (not-true _ (and-right (leb 3 (length l)) (not (some straight (corners l))) e)) j h
+
+  pub stands-simple : 3 ≤ length l → Stands Collinear l → is-simple l ≡ true
+  unfolding is-simple goes-at
+  stands-simple many f = rw (le-leb 3 (length l) many, corner-none straight l f)
+
+  pub stands-spike-free : 3 ≤ length l → Stands Spike l → (no-spikes l ≡ true) × (distinct-neighbours l ≡ l)
+  unfolding no-spikes no-spike-left goes-at
+  stands-spike-free many f =
+      let d = all-distinct l (λ j h. or-left _ _ (f j h)) in
+      let b = corner-none back l (λ j h. or-right (same (getD l j origin) (following origin l j)) (back (corner-in l j)) (or-right (same (getD l j origin) (preceding origin l j)) _ (f j h))) in
+      (rw (d, le-leb 3 (length l) many, b), d)
+
+  pub spike-free-stands : no-spikes l ≡ true → distinct-neighbours l ≡ l → Stands Spike l
+  unfolding no-spikes no-spike-left goes-at
+  spike-free-stands e d j h =
+      let n : no-spike-left l ≡ true = ap no-spike-left (sym d) ∙ and-right (leb 3 (length l)) (no-spike-left (distinct-neighbours l)) e in
+      let b = no-corner back l (not-true _ (and-right (leb 3 (length l)) (not (some back (corners l))) n)) j h in
+      rw (distinct-before l d j h, distinct-after l d j h, b)
+
+-- is_simple holds exactly of the contours that simplified gives back unchanged
+module _ (row : List ℤ) (next prev mark : List ℕ) (out : List ℤ)
+    (room : first-of (refusals row (length next) (length prev) (length mark) (length out)) ≡ 0) (many : 3 ≤ count row) (o : Left) where
+  many-points : 3 ≤ length (points row)
+  many-points = omega (arith, points-count row)
+
+  module _ (is : o ≡ outcome Collinear row next prev mark out) where
+    pub simple-is-unchanged : is-simple (points row) ≡ true → Unchanged Collinear row next prev mark out room many o is
+    simple-is-unchanged e = nothing-to-remove Collinear row next prev mark out room many o is (simple-stands (points row) e)
+
+    pub unchanged-is-simple : o .answer .reply ≡ 0 → o .answer .points ≡ count row → is-simple (points row) ≡ true
+    unchanged-is-simple z a = stands-simple (points row) many-points (all-kept-stands Collinear row next prev mark out room many o is z a)
+
+  -- despiked gives back unchanged exactly the contours without spikes and without equal neighbours
+  module _ (is : o ≡ outcome Spike row next prev mark out) where
+    pub spike-free-is-unchanged : no-spikes (points row) ≡ true → distinct-neighbours (points row) ≡ points row → Unchanged Spike row next prev mark out room many o is
+    spike-free-is-unchanged e d = nothing-to-remove Spike row next prev mark out room many o is (spike-free-stands (points row) e d)
+
+    pub unchanged-is-spike-free : o .answer .reply ≡ 0 → o .answer .points ≡ count row → (no-spikes (points row) ≡ true) × (distinct-neighbours (points row) ≡ points row)
+    unchanged-is-spike-free z a = stands-spike-free (points row) many-points (all-kept-stands Spike row next prev mark out room many o is z a)
