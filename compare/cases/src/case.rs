@@ -1,34 +1,45 @@
 //! One line of the list, written and read.
 
+use crate::cleaner::Cleaner;
 use crate::point::Point;
+use crate::rows::{Lengths, MOST_OUT, MOST_SCRATCH};
 use std::fmt;
 use std::str::FromStr;
 
-/// The first byte of a contour's line.
+/// The first byte of a line names its kind.
 const CONTOUR: &str = "c";
+const CLEANING: &str = "w";
 
-/// A row is at most this long: one point more than a contour may have.
+/// A contour's row is at most this long: one point more than a contour may have.
 const MOST_NUMBERS: usize = 131_074;
 
-/// A contour and the point asked about. The contour's row is `numbers`, `times` over.
+/// What is asked of a contour. The contour's row is `numbers`, `times` over.
 #[derive(Clone, Debug, PartialEq, Eq)]
 pub struct Case {
-    pub asked: Point,
+    pub kind: Kind,
     pub numbers: Vec<i32>,
     pub times: usize,
 }
 
+#[derive(Clone, Copy, Debug, PartialEq, Eq)]
+pub enum Kind {
+    /// Every question about the contour; one is about a point.
+    Contour { asked: Point },
+    /// One cleaning, with rows of these lengths.
+    Cleaning { cleaner: Cleaner, lent: Lengths },
+}
+
 impl Case {
-    pub fn new(asked: Point, numbers: &[i32]) -> Case {
+    pub fn new(kind: Kind, numbers: &[i32]) -> Case {
         Case {
-            asked,
+            kind,
             numbers: numbers.to_vec(),
             times: 1,
         }
     }
 
     pub fn contour(asked: Point, points: &[Point]) -> Case {
-        Case::new(asked, &points.concat())
+        Case::new(Kind::Contour { asked }, &points.concat())
     }
 
     pub fn wound(self, times: usize) -> Case {
@@ -42,14 +53,25 @@ impl Case {
 
 impl fmt::Display for Case {
     fn fmt(&self, out: &mut fmt::Formatter) -> fmt::Result {
-        out.write_str(CONTOUR)?;
-        for number in self.asked.iter().chain(&self.numbers) {
+        write!(out, "{}", self.kind)?;
+        for number in &self.numbers {
             write!(out, " {number}")?;
         }
         if self.times > 1 {
             write!(out, " *{}", self.times)?;
         }
         Ok(())
+    }
+}
+
+impl fmt::Display for Kind {
+    fn fmt(&self, out: &mut fmt::Formatter) -> fmt::Result {
+        match *self {
+            Kind::Contour { asked: [x, y] } => write!(out, "{CONTOUR} {x} {y}"),
+            Kind::Cleaning { cleaner, lent } => {
+                write!(out, "{CLEANING} {} {lent}", cleaner.number())
+            }
+        }
     }
 }
 
@@ -61,19 +83,48 @@ impl FromStr for Case {
             Some((line, times)) => (line, number(times)?),
             None => (line, 1),
         };
-        let mut words = line.split(' ');
-        if words.next() != Some(CONTOUR) {
-            return Err("no kind of case begins so".into());
-        }
+        let words = &mut line.split(' ');
+        let kind = kind(words)?;
         let numbers = words.map(number).collect::<Result<Vec<i32>, String>>()?;
-        let [x, y, ref row @ ..] = numbers[..] else {
-            return Err("the asked point is missing".into());
-        };
-        if times == 0 || row.len().saturating_mul(times) > MOST_NUMBERS {
-            return Err(format!("{} numbers {times} times are no row", row.len()));
+        if times == 0 || numbers.len().saturating_mul(times) > MOST_NUMBERS {
+            return Err(format!(
+                "{} numbers {times} times are no row",
+                numbers.len()
+            ));
         }
-        Ok(Case::new([x, y], row).wound(times))
+        Ok(Case::new(kind, &numbers).wound(times))
     }
+}
+
+/// The kind, and the numbers that stand before the contour's.
+fn kind<'a>(words: &mut impl Iterator<Item = &'a str>) -> Result<Kind, String> {
+    match words.next() {
+        Some(CONTOUR) => Ok(Kind::Contour {
+            asked: [next_number(words)?, next_number(words)?],
+        }),
+        Some(CLEANING) => Ok(Kind::Cleaning {
+            cleaner: Cleaner::numbered(next_number(words)?).ok_or("no cleaner has that number")?,
+            lent: Lengths {
+                next: length(words, MOST_SCRATCH)?,
+                prev: length(words, MOST_SCRATCH)?,
+                mark: length(words, MOST_SCRATCH)?,
+                out: length(words, MOST_OUT)?,
+            },
+        }),
+        _ => Err("no kind of case begins so".into()),
+    }
+}
+
+fn length<'a>(words: &mut impl Iterator<Item = &'a str>, most: usize) -> Result<usize, String> {
+    let length = next_number(words)?;
+    if length > most {
+        return Err(format!("no row has {length} entries"));
+    }
+    Ok(length)
+}
+
+fn next_number<'a, T: FromStr>(words: &mut impl Iterator<Item = &'a str>) -> Result<T, String> {
+    number(words.next().ok_or("the line is too short")?)
 }
 
 fn number<T: FromStr>(word: &str) -> Result<T, String> {
@@ -94,6 +145,9 @@ mod tests {
             "c 0 0",
             "c -1 2 3",
             "c 0 0 -5 7 *16384",
+            "w 0 3 3 3 6 0 0 4 0 0 4",
+            "w 1 0 0 0 0",
+            "w 1 65600 0 65600 131200 -5 7 *16384",
         ] {
             let case: Case = line.parse().unwrap();
             assert_eq!(case.to_string(), line);
@@ -102,8 +156,10 @@ mod tests {
 
     #[test]
     fn a_row_is_its_numbers_repeated() {
-        let case: Case = "c 0 0 1 2 3 *2".parse().unwrap();
-        assert_eq!(case.row(), [1, 2, 3, 1, 2, 3]);
+        for line in ["c 0 0 1 2 3 *2", "w 0 3 3 3 6 1 2 3 *2"] {
+            let case: Case = line.parse().unwrap();
+            assert_eq!(case.row(), [1, 2, 3, 1, 2, 3]);
+        }
     }
 
     #[test]
@@ -120,6 +176,18 @@ mod tests {
             assert!(line.parse::<Case>().is_err(), "{line}");
         }
         for line in ["c 0 0 *0", "c 0 0 1 *131075", "c 0 0 1 *2 3", "c *2"] {
+            assert!(line.parse::<Case>().is_err(), "{line}");
+        }
+        for line in [
+            "w",
+            "w 0 1 1 1",
+            "w 2 1 1 1 2",
+            "w 0 -1 1 1 2",
+            "w 0 65601 1 1 2",
+            "w 0 1 65601 1 2",
+            "w 0 1 1 65601 2",
+            "w 0 1 1 1 131201",
+        ] {
             assert!(line.parse::<Case>().is_err(), "{line}");
         }
     }

@@ -1,8 +1,8 @@
 //! Contours to be refused: for an odd count, a number off the grid, or both.
 
 use crate::asked;
-use crate::case::Case;
-use crate::point::LIMIT;
+use crate::case::{Case, Kind};
+use crate::point::{Point, LIMIT};
 use crate::rng::Rng;
 use crate::shapes::scattered;
 
@@ -27,20 +27,21 @@ pub fn cases() -> Vec<Case> {
 /// A short contour with one to three damages; two may undo each other.
 fn damaged(rng: &mut Rng) -> Case {
     let contour = scattered(rng.below(12), rng.pick(&[3, LIMIT]), rng);
-    let mut case = Case::contour(asked::about(&contour, rng), &contour);
+    let mut asked = asked::about(&contour, rng);
+    let mut numbers = contour.concat();
     for _ in 0..rng.pick(&[1, 1, 2, 3]) {
-        damage(&mut case, rng);
+        damage(&mut asked, &mut numbers, rng);
     }
-    case
+    Case::new(Kind::Contour { asked }, &numbers)
 }
 
-fn damage(case: &mut Case, rng: &mut Rng) {
+fn damage(asked: &mut Point, numbers: &mut Vec<i32>, rng: &mut Rng) {
     match rng.below(3) {
-        0 => case.numbers.push(0),
-        1 => case.asked[rng.below(2)] = rng.pick(&OFF_GRID),
+        0 => numbers.push(0),
+        1 => asked[rng.below(2)] = rng.pick(&OFF_GRID),
         _ => {
-            let place = rng.below(case.numbers.len());
-            if let Some(number) = case.numbers.get_mut(place) {
+            let place = rng.below(numbers.len());
+            if let Some(number) = numbers.get_mut(place) {
                 *number = rng.pick(&OFF_GRID);
             }
         }

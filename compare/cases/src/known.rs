@@ -12,7 +12,8 @@ const WHOLE_GRID: [Point; 4] = [
     [-LIMIT, LIMIT],
 ];
 
-fn lines(lines: &[&str]) -> Vec<Case> {
+/// Cases as the list writes them.
+pub fn lines(lines: &[&str]) -> Vec<Case> {
     let read = |line: &&str| line.parse().expect("a sound line");
     lines.iter().map(read).collect()
 }
@@ -167,5 +168,15 @@ fn order() -> Vec<Case> {
         // Empty, and the asked point off the grid.
         "c 536870913 -536870913",
         "c 2147483647 -2147483648",
+    ])
+}
+
+/// Three contours that the worked cases do not replace: only they tell whether a
+/// removal unmarks the predecessor's new successor.
+pub fn successors() -> Vec<Case> {
+    lines(&[
+        "c 0 0 0 0 0 1 1 0 2 0",
+        "c 1 0 0 0 1 0 0 1 2 0 0 0 2 1",
+        "c 1 1 1 0 3 0 0 1 2 0 0 0",
     ])
 }

@@ -2,14 +2,12 @@
 
 use crate::asked;
 use crate::case::Case;
-use crate::point::{Point, LIMIT};
+use crate::point::{Point, LIMIT, MOST_POINTS};
 use crate::rng::Rng;
 use crate::shapes::{
     at_ends, convex, scattered, star, turned, with_dent, with_repeats, with_spike,
     with_straight_runs,
 };
-
-const MOST_POINTS: usize = 65_536;
 
 /// Short contours repeated, up to the largest count; the areas of the huge ones wrap.
 pub fn wound() -> Vec<Case> {

@@ -4,14 +4,20 @@
 mod answers;
 mod asked;
 mod case;
+mod checksum;
+mod cleaner;
 mod damaged;
 mod known;
+mod lent;
 mod long;
 mod point;
 mod random;
+mod reply;
 mod rng;
+mod rows;
 mod shapes;
 mod tiny;
+mod unclean;
 
 use case::Case;
 use std::io::{self, BufRead, BufWriter, Write};
@@ -53,7 +59,8 @@ fn write_answers(list: impl BufRead, mut out: impl Write) -> Outcome {
     Ok(out.flush()?)
 }
 
-/// Every case, in the order of the list: the worked ones first, the longest last.
+/// Every case, in the order of the list: contours of every form, then those for the
+/// cleaners, then the cleanings with rows of given lengths.
 fn list() -> Vec<Case> {
     [
         known::worked(),
@@ -65,6 +72,27 @@ fn list() -> Vec<Case> {
         damaged::cases(),
         long::wound(),
         long::written_out(),
+        known::successors(),
+        unclean::from_every_start(),
+        unclean::collapsing(),
+        unclean::random(),
+        unclean::long(),
+        lent::around_the_need(),
+        lent::chosen(),
+        lent::random(),
+        lent::large(),
     ]
     .concat()
+}
+
+#[cfg(test)]
+mod tests {
+    use super::{list, Case};
+
+    #[test]
+    fn every_case_of_the_list_is_read_as_it_was_written() {
+        for case in list() {
+            assert_eq!(case.to_string().parse::<Case>(), Ok(case));
+        }
+    }
 }

@@ -5,6 +5,9 @@ pub type Point = [i32; 2];
 /// The largest coordinate of the grid; the smallest is its negative.
 pub const LIMIT: i32 = 536_870_912;
 
+/// The most points of a contour.
+pub const MOST_POINTS: usize = 65_536;
+
 pub fn plus(a: Point, b: Point) -> Point {
     [a[0] + b[0], a[1] + b[1]]
 }

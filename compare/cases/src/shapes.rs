@@ -76,6 +76,13 @@ pub fn laps(count: usize, rng: &mut Rng) -> Vec<Point> {
     signs.take(4 * count).map(pulled_in).collect()
 }
 
+/// A way, and the same way back to its start.
+pub fn there_and_back(way: &[Point]) -> Vec<Point> {
+    let between = way.len().saturating_sub(1).max(1);
+    let back = way[1..between].iter().rev();
+    way.iter().chain(back).copied().collect()
+}
+
 /// The same ring from another start, half the time the other way round.
 pub fn turned(mut contour: Vec<Point>, rng: &mut Rng) -> Vec<Point> {
     let start = rng.below(contour.len());

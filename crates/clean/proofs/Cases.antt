@@ -9,6 +9,7 @@ use Rattle.grid.specs.declared.Verdict.{Verdict}
 use Rattle.grid.specs.Limits.{limit, most, on-grid, all-on-grid}
 use Rattle.grid.specs.Points.{points, bend, reverses}
 use Rattle.grid.specs.Corners.{last, differing, distinct-neighbours, corners-from, corners, some}
+use Rattle.grid.specs.Area.{around, exact}
 use Rattle.grid.specs.Ladder.{first-of}
 use Rattle.ring.specs.declared.Rule.the-variants.{Collinear, Spike}
 use Rattle.ring.specs.Walk.{survivors-from, others, successor, predecessor, count, unmark, unmark-about, remove, decide, look, looks, walk}
@@ -61,6 +62,11 @@ w10-simple = refl
 w12-spikes : spike-free W12 ≡ answered false
 unfolding limit most on-grid all-on-grid points bend reverses last differing distinct-neighbours corners-from corners some first-of no-spike-left no-spikes spike-free
 w12-spikes = refl
+
+-- W10 has no area, and is kept
+w10-kept : outcome Collinear W10 (replicate 4 9) (replicate 4 9) (replicate 4 9) (row (replicate 8 9)) ≡ left (answer 0 4 4) (replicate 4 0) (replicate 4 0) (replicate 4 0) W10
+unfolding survivors-from others successor predecessor count unmark unmark-about remove decide look looks walk goes-at bend reverses limit most on-grid all-on-grid around exact points first-of chosen outcome
+w10-kept = refl
 
 -- W4 with rows one entry longer than they must be, holding 9s: what is kept, what is zeroed, and what stands
 w4-rows : outcome Collinear W4 (replicate 6 9) (replicate 6 9) (replicate 6 9) (row (replicate 11 9)) ≡ left (answer 0 4 6) (0 ∷ 0 ∷ 0 ∷ 0 ∷ 0 ∷ 9 ∷ []) (0 ∷ 0 ∷ 0 ∷ 0 ∷ 0 ∷ 9 ∷ []) (0 ∷ 0 ∷ 0 ∷ 0 ∷ 0 ∷ 9 ∷ []) (row (0 ∷ 0 ∷ 4 ∷ 0 ∷ 4 ∷ 4 ∷ 0 ∷ 4 ∷ 9 ∷ 9 ∷ 9 ∷ []))

@@ -1,10 +1,14 @@
 // The answers of a case, and the line that says them.
-ghost use Prim.Native.Nat.{_+_, _≤_};
+ghost use Prim.Native.Nat.{_≤_};
+use crate::cleaner;
+use crate::cleaner::Cleaner;
+use crate::cleaner::Summary;
+use crate::column;
 use crate::number;
 use crate::text;
 use crate::text::TEXT;
 use area::Area;
-use path::Verdict;
+use grid::Verdict;
 
 // What the library answers of a contour and a point.
 pub struct Answers {
@@ -13,6 +17,10 @@ pub struct Answers {
     pub clockwise: Verdict,
     pub convex: Verdict,
     pub contains: Verdict,
+    pub simple: Verdict,
+    pub no_spikes: Verdict,
+    pub simplified: Summary,
+    pub despiked: Summary,
 }
 
 // Asks the library of a contour and the point x, y.
@@ -22,71 +30,52 @@ pub fn ask(points: &[i32], x: i32, y: i32) -> Answers {
     let clockwise = path::is_clockwise_ordered(points);
     let convex = path::is_convex(points);
     let contains = path::contains_point(points, x, y);
+    let simple = clean::simple::is_simple(points);
+    let no_spikes = clean::despike::has_no_spikes(points);
+    let simplified = cleaner::sum_up(Cleaner::Simplified, points);
+    let despiked = cleaner::sum_up(Cleaner::Despiked, points);
     Answers {
         area_two,
         area,
         clockwise,
         convex,
         contains,
+        simple,
+        no_spikes,
+        simplified,
+        despiked,
     }
 }
 
 // Puts the line of answers of a case into `text`, and answers how long it is.
 pub fn put_answers(text: &mut [u8; TEXT], case: u64, answers: Answers) -> usize
-    ensures { λ r. ⌜ r ≤ 256 ⌝ }
+    ensures { λ r. ⌜ r ≤ 512 ⌝ }
 {
     let area_two = answers.area_two;
     let area = answers.area;
     let clockwise = answers.clockwise;
     let convex = answers.convex;
     let contains = answers.contains;
+    let simple = answers.simple;
+    let no_spikes = answers.no_spikes;
+    let simplified = answers.simplified;
+    let despiked = answers.despiked;
     let mut at = number::put_unsigned(text, 0, case);
-    at = put_area(text, at, area_two);
-    at = put_area(text, at, area);
-    at = put_verdict(text, at, clockwise);
-    at = put_verdict(text, at, convex);
-    at = put_verdict(text, at, contains);
+    at = column::put_area(text, at, area_two);
+    at = column::put_area(text, at, area);
+    at = column::put_verdict(text, at, clockwise);
+    at = column::put_verdict(text, at, convex);
+    at = column::put_verdict(text, at, contains);
+    at = column::put_verdict(text, at, simple);
+    at = column::put_verdict(text, at, no_spikes);
+    at = column::put_summary(text, at, simplified);
+    at = column::put_summary(text, at, despiked);
     text::put(text, at, b"\n")
-}
-
-// Puts a space and an area, or why there is none, into `text` from `at` on.
-fn put_area(text: &mut [u8; TEXT], at: usize, area: Area) -> usize
-    requires { ⌜ at + 22 ≤ 256 ⌝ }
-    ensures { λ r. ⌜ r ≤ at + 22 ⌝ }
-{
-    if area.reply != 0 {
-        return put_reply(text, at, area.reply);
-    }
-    let behind = text::put(text, at, b" ");
-    number::put_signed(text, behind, area.value)
-}
-
-// Puts a space and a verdict, or why there is none, into `text` from `at` on.
-fn put_verdict(text: &mut [u8; TEXT], at: usize, verdict: Verdict) -> usize
-    requires { ⌜ at + 22 ≤ 256 ⌝ }
-    ensures { λ r. ⌜ r ≤ at + 22 ⌝ }
-{
-    if verdict.reply != 0 {
-        return put_reply(text, at, verdict.reply);
-    }
-    if verdict.yes {
-        return text::put(text, at, b" yes");
-    }
-    text::put(text, at, b" no")
-}
-
-// Puts a space and the number of a reply that is no answer into `text` from `at` on.
-fn put_reply(text: &mut [u8; TEXT], at: usize, reply: u32) -> usize
-    requires { ⌜ at + 22 ≤ 256 ⌝ }
-    ensures { λ r. ⌜ r ≤ at + 22 ⌝ }
-{
-    let behind = text::put(text, at, b" !");
-    number::put_unsigned(text, behind, reply as u64)
 }
 
 // Puts the report of a damaged list into `text`, and answers how long it is.
 pub fn put_damage(text: &mut [u8; TEXT], line: u64, place: u64) -> usize
-    ensures { λ r. ⌜ r ≤ 256 ⌝ }
+    ensures { λ r. ⌜ r ≤ 512 ⌝ }
 {
     let mut at = text::put(text, 0, b"damaged: line ");
     at = number::put_unsigned(text, at, line);

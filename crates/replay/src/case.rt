@@ -2,6 +2,7 @@
 ghost use Prim.Native.Nat.{_≤_};
 ghost use Rattle.replay.specs.Buffer.{Held};
 use crate::contour;
+use crate::lent;
 use crate::row::ROW;
 use crate::source::BUFFER;
 use crate::source::Source;
@@ -23,11 +24,12 @@ pub fn replay(
 ) -> Replayed
     requires { ⌜ Held start ⌝ }
     ensures { λ r. ⌜ Held (r .source) ⌝ }
-    ensures { λ r. ⌜ r .length ≤ 256 ⌝ }
+    ensures { λ r. ⌜ r .length ≤ 512 ⌝ }
 {
     let kind = start.here;
     match kind {
         b'c' => contour::replay(start.step(bytes), bytes, row, text, case),
+        b'w' => lent::replay(start.step(bytes), bytes, row, text, case),
         _ => Replayed {
             length: 0,
             source: start.mark_damaged(),

@@ -20,7 +20,7 @@ pub fn replay(
 ) -> Replayed
     requires { ⌜ Held start ⌝ }
     ensures { λ r. ⌜ Held (r .source) ⌝ }
-    ensures { λ r. ⌜ r .length ≤ 256 ⌝ }
+    ensures { λ r. ⌜ r .length ≤ 512 ⌝ }
 {
     let x = number::read(start.past(bytes, b' '), bytes);
     let y = number::read(x.source.past(bytes, b' '), bytes);
@@ -38,7 +38,7 @@ pub fn replay(
 // Asks the library of the first `count` numbers of `row`, and puts its answers into `text`.
 fn put(text: &mut [u8; TEXT], case: u64, row: &[i32; ROW], count: usize, x: i32, y: i32) -> usize
     requires { ⌜ count ≤ 131074 ⌝ }
-    ensures { λ r. ⌜ r ≤ 256 ⌝ }
+    ensures { λ r. ⌜ r ≤ 512 ⌝ }
 {
     let whole: &[i32] = row;
     answer::put_answers(text, case, answer::ask(&whole[0..count], x, y))

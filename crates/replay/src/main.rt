@@ -4,7 +4,12 @@
 // that is damaged is replayed up to the first byte that cannot stand where it does, and that place is written.
 mod answer;
 mod case;
+mod checksum;
+mod cleaner;
+mod cleaning;
+mod column;
 mod contour;
+mod lent;
 mod list;
 mod number;
 mod row;
@@ -22,7 +27,7 @@ fn main() {
     let mut text = [0u8; TEXT];
     if io::write_all(
         STDOUT_FILENO,
-        b"case area_two area clockwise convex contains\n",
+        b"case area_two area clockwise convex contains simple no_spikes simplified despiked\n",
     ) {
         list::replay(&mut bytes, &mut row, &mut text);
     }

@@ -96,7 +96,7 @@ pub fn read(start: Source, bytes: &mut [u8; BUFFER]) -> Number
 
 // Puts the digits of `value` into `text` from `at` on, and answers where they end.
 pub fn put_unsigned(text: &mut [u8; TEXT], at: usize, value: u64) -> usize
-    requires { ⌜ at + 20 ≤ 256 ⌝ }
+    requires { ⌜ at + 20 ≤ 512 ⌝ }
     ensures { λ r. ⌜ r ≤ at + 20 ⌝ }
 {
     let mut digits = [0u8; 20];
@@ -105,7 +105,7 @@ pub fn put_unsigned(text: &mut [u8; TEXT], at: usize, value: u64) -> usize
 }
 
 // How far `value` is from zero.
-fn magnitude(value: i64) -> u64
+pub fn magnitude(value: i64) -> u64
     ensures { λ r. ⌜ r ≡ natAbs value ⌝ }
 {
     if value < 0 {
@@ -117,7 +117,7 @@ fn magnitude(value: i64) -> u64
 
 // Puts `value` into `text` from `at` on, and answers where it ends.
 pub fn put_signed(text: &mut [u8; TEXT], at: usize, value: i64) -> usize
-    requires { ⌜ at + 21 ≤ 256 ⌝ }
+    requires { ⌜ at + 21 ≤ 512 ⌝ }
     ensures { λ r. ⌜ r ≤ at + 21 ⌝ }
 {
     let size = magnitude(value);

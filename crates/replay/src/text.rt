@@ -4,12 +4,12 @@ ghost use mathlib.Core.Path.{_≡_};
 ghost use lib.ListN.{length};
 use libc::STDOUT_FILENO;
 
-// Room for the longest line: six numbers of at most 21 bytes, and the spaces and words around them.
-pub const TEXT: usize = 256;
+// Room for the longest line: nine numbers of at most 21 bytes, and the spaces and words around them.
+pub const TEXT: usize = 512;
 
 // Puts `word` into `text` from `at` on, and answers where it ends.
 pub fn put(text: &mut [u8; TEXT], at: usize, word: &[u8]) -> usize
-    requires { ⌜ at + length (now word) ≤ 256 ⌝ }
+    requires { ⌜ at + length (now word) ≤ 512 ⌝ }
     ensures { λ r. ⌜ r ≡ at + length (now (word .entry)) ⌝ }
 {
     for i in 0..word.len() {
@@ -20,7 +20,7 @@ pub fn put(text: &mut [u8; TEXT], at: usize, word: &[u8]) -> usize
 
 // Writes the first `count` bytes of `text` to standard output, and answers whether that went well.
 pub fn write(text: &[u8; TEXT], count: usize) -> bool
-    requires { ⌜ count ≤ 256 ⌝ }
+    requires { ⌜ count ≤ 512 ⌝ }
 {
     let whole: &[u8] = text;
     io::write_all(STDOUT_FILENO, &whole[0..count])
