@@ -11,6 +11,7 @@ use Rattle.grid.specs.Points.{points, bend, reverses}
 use Rattle.grid.specs.Corners.{last, differing, distinct-neighbours, corners-from, corners, some}
 use Rattle.grid.specs.Area.{around, exact}
 use Rattle.grid.specs.Ladder.{first-of}
+use Rattle.grid.specs.Cases.{row, W4, W7, W8, W10, W12}
 use Rattle.ring.specs.declared.Rule.the-variants.{Collinear, Spike}
 use Rattle.ring.specs.Walk.{survivors-from, others, successor, predecessor, count, unmark, unmark-about, remove, decide, look, looks, walk}
 use Rattle.ring.specs.Rule.{goes-at}
@@ -19,29 +20,6 @@ use Rattle.clean.specs.Outcome.{chosen, left, answer, outcome}
 
 abbrev answered : Bool → Verdict
 answered b = record { reply = 0; yes = b }
-
--- a row of small numbers
-abbrev pub row : List ℕ → List ℤ
-row [] = []
-row (n ∷ l) = pos n ∷ row l
-
-abbrev pub W3 : List ℤ
-W3 = row (0 ∷ 0 ∷ 4 ∷ 0 ∷ 0 ∷ 4 ∷ [])
-
-abbrev pub W4 : List ℤ
-W4 = row (0 ∷ 0 ∷ 2 ∷ 0 ∷ 4 ∷ 0 ∷ 4 ∷ 4 ∷ 0 ∷ 4 ∷ [])
-
-abbrev W7 : List ℤ
-W7 = row (0 ∷ 0 ∷ 0 ∷ 0 ∷ 4 ∷ 0 ∷ 0 ∷ 4 ∷ [])
-
-abbrev W10 : List ℤ
-W10 = row (0 ∷ 0 ∷ 4 ∷ 4 ∷ 4 ∷ 0 ∷ 0 ∷ 4 ∷ [])
-
-abbrev W12 : List ℤ
-W12 = row (0 ∷ 0 ∷ 4 ∷ 0 ∷ 4 ∷ 0 ∷ [])
-
-abbrev W8 : List ℤ
-W8 = pos 0 ∷ pos 10 ∷ pos 6 ∷ negsuc 7 ∷ negsuc 9 ∷ pos 3 ∷ pos 10 ∷ pos 3 ∷ negsuc 5 ∷ negsuc 7 ∷ []
 
 w4-not-simple : simple W4 ≡ answered false
 unfolding limit most on-grid all-on-grid points bend reverses last differing distinct-neighbours corners-from corners some first-of is-simple simple

@@ -7,3 +7,4 @@ pub mod Ladder
 pub mod Domain
 pub mod Verdicts
 pub mod Inside
+pub mod Cases

@@ -11,6 +11,7 @@ use Rattle.grid.specs.Points.{points, bend, reverses}
 use Rattle.grid.specs.Corners.{last, differing, distinct-neighbours, corners-from, corners, some}
 use Rattle.grid.specs.Area.{around, exact, wrapped}
 use Rattle.grid.specs.Ladder.{first-of}
+use Rattle.grid.specs.Cases.{W1, W2, W3, W8, W9, W10, W11, W12}
 use Rattle.path.specs.Convex.{convex-left, is-convex, convex}
 use Rattle.path.specs.Clockwise.{clockwise}
 use Rattle.path.specs.Contains.{crosses, odd, contained, contains}
@@ -21,33 +22,12 @@ answered b = record { reply = 0; yes = b }
 abbrev refused : ℕ → Verdict
 refused k = record { reply = k; yes = false }
 
-abbrev W2 : List ℤ
-W2 = pos 0 ∷ pos 0 ∷ pos 1 ∷ pos 0 ∷ pos 2 ∷ pos 0 ∷ []
-
-abbrev W3 : List ℤ
-W3 = pos 0 ∷ pos 0 ∷ pos 4 ∷ pos 0 ∷ pos 0 ∷ pos 4 ∷ []
-
-abbrev W8 : List ℤ
-W8 = pos 0 ∷ pos 10 ∷ pos 6 ∷ negsuc 7 ∷ negsuc 9 ∷ pos 3 ∷ pos 10 ∷ pos 3 ∷ negsuc 5 ∷ negsuc 7 ∷ []
-
-abbrev W9 : List ℤ
-W9 = pos 0 ∷ pos 0 ∷ pos 4 ∷ pos 0 ∷ pos 4 ∷ pos 4 ∷ pos 0 ∷ pos 4 ∷ []
-
-abbrev W10 : List ℤ
-W10 = pos 0 ∷ pos 0 ∷ pos 4 ∷ pos 4 ∷ pos 4 ∷ pos 0 ∷ pos 0 ∷ pos 4 ∷ []
-
-abbrev W11 : List ℤ
-W11 = pos 0 ∷ pos 0 ∷ pos 0 ∷ pos 1 ∷ pos 1 ∷ pos 0 ∷ []
-
-abbrev W12 : List ℤ
-W12 = pos 0 ∷ pos 0 ∷ pos 4 ∷ pos 0 ∷ pos 4 ∷ pos 0 ∷ []
-
-w1 : (convex [] ≡ answered true) × (clockwise [] ≡ refused 8) × (contains [] (pos 0) (pos 0) ≡ answered false)
+w1 : (convex W1 ≡ answered true) × (clockwise W1 ≡ refused 8) × (contains W1 (pos 0) (pos 0) ≡ answered false)
 unfolding limit most on-grid all-on-grid first-of points is-convex convex clockwise contained contains
 w1 = (refl, refl, refl)
 
 -- 536,870,912 may be asked about, 536,870,913 may not
-w1-asked : (contains [] (pos 536870912) (pos 0) ≡ answered false) × (contains [] (pos 536870913) (pos 0) ≡ refused 3)
+w1-asked : (contains W1 (pos 536870912) (pos 0) ≡ answered false) × (contains W1 (pos 536870913) (pos 0) ≡ refused 3)
 unfolding limit most on-grid all-on-grid first-of points contained contains
 w1-asked = (refl, refl)
 
