@@ -9,11 +9,12 @@ use Rattle.grid.specs.Limits.{limit, most, on-grid, all-on-grid}
 use Rattle.grid.specs.Points.{bend, reverses}
 use Rattle.grid.specs.Ladder.{first-of}
 use Rattle.grid.specs.Cases.{W3, W4}
+use Rattle.grid.specs.Rows.{front}
 use Rattle.ring.specs.declared.Rule.{Rule}
 use Rattle.ring.specs.declared.Rule.the-variants.{Collinear, Spike}
 use Rattle.ring.specs.Walk.{survivors-from, others, successor, predecessor, count, unmark, unmark-about, remove, decide, look, looks, walk}
 use Rattle.ring.specs.Rule.{goes-at}
-use Rattle.clean.specs.Outcome.{front, chosen, outcome}
+use Rattle.clean.specs.Outcome.{chosen, outcome}
 
 -- three rows of scratch of the same length, all 0
 abbrev scratch : ℕ → List ℕ

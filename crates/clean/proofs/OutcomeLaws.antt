@@ -10,6 +10,7 @@ use lib.Seq.{length-take-le}
 use borrow.Author.Tests.{ltb-false}
 use Rattle.grid.specs.Ladder.{first-of}
 use Rattle.grid.specs.Domain.{count, domain, Contour}
+use Rattle.grid.specs.Rows.{front}
 use Rattle.grid.proofs.LadderLaws.{clear, cleared}
 use Rattle.grid.proofs.DomainLaws.{in-domain}
 use Rattle.ring.specs.declared.Rule.{Rule}
@@ -20,7 +21,7 @@ use Rattle.ring.specs.Rule.{goes}
 use Rattle.ring.specs.Rows.{ended}
 use Rattle.ring.proofs.Ends.{walk-few}
 use Rattle.clean.specs.declared.cleaning.Cleaned.{Cleaned}
-use Rattle.clean.specs.Outcome.{refusals, scratch, room, walked, chosen, told, written, front, zeroed, answer, left, outcome}
+use Rattle.clean.specs.Outcome.{refusals, scratch, room, walked, chosen, told, written, zeroed, answer, left, outcome}
 use Rattle.clean.specs.Inside.{Ready, Settled, Swept}
 
 -- what a cleaning that is not refused may count on

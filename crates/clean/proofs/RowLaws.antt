@@ -8,9 +8,10 @@ use lib.IntN.{ℤ, pos}
 use lib.ListN.{length, getD, set, drop, replicate, length-set, length-append, drop-of-length-le}
 use lib.Seq.{drop-cons, drop-length}
 use borrow.Author.Fill.{fill-none, fill-more}
+use Rattle.grid.specs.Rows.{front}
 use Rattle.ring.specs.Walk.{survivors-from, survivors}
 use Rattle.ring.proofs.Survivors.{survivors-yes, survivors-no}
-use Rattle.clean.specs.Outcome.{chosen, front}
+use Rattle.clean.specs.Outcome.{chosen}
 
 pub length-chosen : (row : List ℤ) (s : List ℕ) → length (chosen row s) ≡ 2 * length s
 unfolding chosen

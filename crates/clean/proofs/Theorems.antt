@@ -15,6 +15,7 @@ use Rattle.grid.specs.Neighbours.{leaving-out}
 use Rattle.grid.specs.Area.{exact}
 use Rattle.grid.specs.Ladder.{first-of}
 use Rattle.grid.specs.Domain.{count, Contour}
+use Rattle.grid.specs.Rows.{front}
 use Rattle.area.proofs.Removal.{removed, three-points, bend-turned}
 use Rattle.ring.specs.declared.Rule.{Rule}
 use Rattle.ring.specs.Walk.{Stage, walk}
@@ -23,7 +24,7 @@ use Rattle.ring.specs.Rule.{goes-at, goes}
 use Rattle.ring.specs.Promises.{EndedWithin, Rising, Preserved}
 use Rattle.ring.proofs.RuleLaws.{cross-at, goes-cross}
 use Rattle.ring.proofs.Theorems.{ends-in-4n-9, kept-rising, kept-clean, kept-preserves, collapsed-at-three}
-use Rattle.clean.specs.Outcome.{refusals, walked, chosen, front, zeroed, answer, told, written, Left, left, outcome}
+use Rattle.clean.specs.Outcome.{refusals, walked, chosen, zeroed, answer, told, written, Left, left, outcome}
 use Rattle.clean.proofs.OutcomeLaws.{accepted, outcome-done}
 use Rattle.clean.proofs.RowLaws.{length-chosen}
 use Rattle.clean.proofs.Picked.{picked, points-chosen, picked-leaving, would-go-picked, picked-all}

@@ -16,6 +16,7 @@ use Rattle.grid.specs.Corners.{corner-in, corners, some, straight, back, distin
 use Rattle.grid.specs.Neighbours.{preceding, following}
 use Rattle.grid.specs.Ladder.{first-of}
 use Rattle.grid.specs.Domain.{count, Contour}
+use Rattle.grid.specs.Rows.{front}
 use Rattle.grid.proofs.RowLaws.{points-count, points-length}
 use Rattle.grid.proofs.CornerLaws.{no-corner, corner-none, all-distinct, distinct-before, distinct-after}
 use Rattle.ring.specs.declared.Rule.{Rule}
@@ -28,7 +29,7 @@ use Rattle.ring.proofs.Survivors.{fresh-count}
 use Rattle.ring.proofs.Listed.{place, to-go-listed}
 use Rattle.ring.proofs.Theorems.{kept-clean, unchanged-after-n}
 use Rattle.clean.specs.Verdicts.{is-simple, no-spike-left, no-spikes}
-use Rattle.clean.specs.Outcome.{refusals, chosen, front, zeroed, answer, Left, left, outcome}
+use Rattle.clean.specs.Outcome.{refusals, chosen, zeroed, answer, Left, left, outcome}
 use Rattle.clean.proofs.OutcomeLaws.{accepted, outcome-done}
 use Rattle.clean.proofs.Picked.{would-go-picked, picked-all}
 use Rattle.clean.proofs.Theorems.{kept-in-order}

@@ -1,10 +1,11 @@
 -- What a cleaning answers, and what it leaves in the rows that are lent to it.
 use mathlib.Core.List.{List, [], _∷_, _++_}
 use Prim.Native.Nat.{ℕ, zero, suc, _+_, _*_}
-use lib.ListN.{length, drop, getD, replicate}
+use lib.ListN.{length, getD, replicate}
 use lib.IntN.{ℤ, pos}
 use lib.Dec.{ltb}
 use Rattle.grid.specs.Ladder.{Rung, first-of}
+use Rattle.grid.specs.Rows.{front}
 use Rattle.grid.specs.Domain.{count, domain}
 use Rattle.ring.specs.declared.Rule.{Rule}
 use Rattle.ring.specs.Walk.{Stage, walk}
@@ -32,10 +33,6 @@ walked rule row = walk (goes rule row) (count row)
 unfoldable pub chosen : List ℤ → List ℕ → List ℤ
 chosen row [] = []
 chosen row (i ∷ s) = getD row (2 * i) (pos 0) ∷ getD row (2 * i + 1) (pos 0) ∷ chosen row s
-
--- a row with new numbers in front, the rest as it was
-abbrev pub front : {A : Type 0} → List A → List A → List A
-front new row = new ++ drop (length new) row
 
 -- a row with its first n entries 0, the rest as it was
 abbrev pub zeroed : ℕ → List ℕ → List ℕ

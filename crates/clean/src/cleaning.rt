@@ -4,8 +4,9 @@ ghost use Prim.Native.Nat.{_+_, _*_, _<_, _≤_};
 ghost use lib.IntN.{pos};
 ghost use lib.ListN.{length, getD, set, replicate};
 ghost use Rattle.grid.specs.Ladder.{first-of};
+ghost use Rattle.grid.specs.Rows.{front};
 ghost use Rattle.ring.specs.Walk.{survivors};
-ghost use Rattle.clean.specs.Outcome.{refusals, chosen, front, left, outcome};
+ghost use Rattle.clean.specs.Outcome.{refusals, chosen, left, outcome};
 ghost use Rattle.clean.specs.Inside.{Ready, Settled, Swept};
 use ring::Rule;
 

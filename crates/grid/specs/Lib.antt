@@ -6,5 +6,6 @@ pub mod Area
 pub mod Ladder
 pub mod Domain
 pub mod Verdicts
+pub mod Rows
 pub mod Inside
 pub mod Cases
