@@ -1,0 +1,13 @@
+pub mod ListLaws
+pub mod SpanLaws
+pub mod RefusalLaws
+pub mod RowLaws
+pub mod AnswerLaws
+pub mod PartLaws
+pub mod PackLaws
+pub mod AddLaws
+pub mod SetLaws
+pub mod Walks
+pub mod WrittenLaws
+pub mod Examples
+pub mod Theorems

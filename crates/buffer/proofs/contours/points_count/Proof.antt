@@ -1,0 +1,18 @@
+-- `buffer::contours::points_count` meets its contract.
+use Rattle.buffer.specs.Contours.{points-count}
+use borrow.Author.Needs.{needs}
+use Rattle.buffer.proofs.contours.points_count.Statement.{statement}
+use Rattle.buffer.proofs.contours.points_count.Tie as tie
+
+refused-requires : tie.Need-refused-requires
+refused-requires c κs = search needs
+
+count-requires : tie.Need-count-requires
+count-requires c κs = search needs
+
+returns : tie.Need-returns
+unfolding points-count
+returns c = cc
+
+pub points-count-spec : {M : Type 1} → statement M
+points-count-spec = tie.close (tie.spec refused-requires count-requires returns)

@@ -1,0 +1,38 @@
+-- `buffer::contours::set_with_contour` meets its contract.
+use mathlib.Core.Path.{_∙_}
+use mathlib.Core.List.{[], _∷_}
+use native.Mathlib.Omega.{arith}
+use Rattle.grid.specs.Domain.{domain}
+use Rattle.buffer.specs.Sets.{whole}
+use Rattle.buffer.proofs.SpanLaws.{one-movable}
+use Rattle.buffer.proofs.AnswerLaws.{stored-told}
+use borrow.Author.Needs.{needs}
+use Rattle.buffer.proofs.contours.set_with_contour.Statement.{statement}
+use Rattle.buffer.proofs.contours.set_with_contour.Tie as tie
+
+domain-requires : tie.Need-domain-requires
+domain-requires c κs = search needs
+
+slice-aggregate-pack : tie.Need-slice-aggregate-pack
+slice-aggregate-pack c = search needs
+
+pack-requires : tie.Need-pack-requires
+pack-requires c κs = λ z. one-movable _ 0 (omega arith)
+
+same-length : tie.Need-same-length
+same-length c = search needs
+
+same-length-2 : tie.Need-same-length-2
+same-length-2 c = search needs
+
+returns : tie.Need-returns
+returns c =
+    let s = c .before .before .before .before .before .before .before .args in
+    c .before .before .pack .ensures
+    ∙ stored-told (s .contour .now) (whole (s .contour .now) ∷ []) [] (s .out .now)
+    (s .records .now) [] (domain (s .contour .now)) tt _ (c .before .before .before .before .before .before .domain .ensures)
+
+pub set-with-contour-spec : {M : Type 1} → statement M
+set-with-contour-spec =
+    tie.close
+    (tie.spec domain-requires slice-aggregate-pack pack-requires same-length same-length-2 returns)

@@ -1,0 +1,18 @@
+-- `buffer::shapes::shapes_count` meets its contract.
+use Rattle.buffer.specs.Shapes.{shapes-count}
+use borrow.Author.Needs.{needs}
+use Rattle.buffer.proofs.shapes.shapes_count.Statement.{statement}
+use Rattle.buffer.proofs.shapes.shapes_count.Tie as tie
+
+refused-requires : tie.Need-refused-requires
+refused-requires c κs = search needs
+
+count-requires : tie.Need-count-requires
+count-requires c κs = search needs
+
+returns : tie.Need-returns
+unfolding shapes-count
+returns c = cc
+
+pub shapes-count-spec : {M : Type 1} → statement M
+shapes-count-spec = tie.close (tie.spec refused-requires count-requires returns)

@@ -1,0 +1,7 @@
+pub mod Spans
+pub mod Sets
+pub mod Rows
+pub mod Refusals
+pub mod Answers
+pub mod Contours
+pub mod Shapes

@@ -1,0 +1,51 @@
+// The answers of the calls on sets.
+ghost use mathlib.Core.Path.{_≡_};
+ghost use Rattle.grid.specs.Verdicts.{verdict as verdict-of};
+ghost use Rattle.buffer.specs.Answers.{counted as counted-of, packed};
+use grid::Verdict;
+
+// A count: its reply number, and 0 where it is refused.
+pub struct Counted {
+    pub reply: u32,
+    pub count: usize,
+}
+
+// What packing wrote: its reply number, and how many of each; 0 where it is refused, and no shapes in a contour set.
+pub struct Packed {
+    pub reply: u32,
+    pub points: usize,
+    pub contours: usize,
+    pub shapes: usize,
+}
+
+// No where it is refused, or the answer.
+pub fn verdict(refusal: u32, yes: bool) -> Verdict
+    ensures { λ r. ⌜ r ≡ verdict-of refusal yes ⌝ }
+{
+    Verdict {
+        reply: refusal,
+        yes: (refusal == 0) & yes,
+    }
+}
+
+// 0 where it is refused, or the count.
+pub fn count(refusal: u32, n: usize) -> Counted
+    ensures { λ r. ⌜ r ≡ counted-of refusal n ⌝ }
+{
+    Counted {
+        reply: refusal,
+        count: if refusal == 0 { n } else { 0 },
+    }
+}
+
+// Nothing was written.
+pub fn refused(refusal: u32) -> Packed
+    ensures { λ r. ⌜ r ≡ packed refusal 0 0 0 ⌝ }
+{
+    Packed {
+        reply: refusal,
+        points: 0,
+        contours: 0,
+        shapes: 0,
+    }
+}

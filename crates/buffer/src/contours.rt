@@ -1,0 +1,186 @@
+// Contour sets: points, and the ranges of their contours.
+ghost use mathlib.Core.Path.{_≡_};
+ghost use mathlib.Core.List.{[]};
+ghost use Rattle.grid.specs.Ladder.{first-of};
+ghost use Rattle.buffer.specs.Spans.{spans, Movable};
+ghost use Rattle.buffer.specs.Refusals.{told};
+ghost use Rattle.buffer.specs.Answers.{left, stored};
+ghost use Rattle.buffer.specs.Contours.{refusals, is-empty, is-single, points-count, contours-count, contour-at, first-contour, with-contour, with-shape, with-shapes, with-one-more};
+use crate::answer;
+use crate::answer::Counted;
+use crate::answer::Packed;
+use crate::copy;
+use crate::parts;
+use crate::ranges;
+use crate::refusal;
+use crate::shapes;
+use grid::Verdict;
+
+// What every call asks of a contour set: 0, or the number of its first refusal.
+pub fn refused(points: &[i32], ranges: &[[usize; 2]]) -> u32
+    ensures { λ r. ⌜ r ≡ first-of (refusals (now (points .entry)) (now (ranges .entry))) ⌝ }
+{
+    refusal::of_set(points, ranges::sound(ranges, points.len() / 2))
+}
+
+// Whether the set has no points, even with ranges.
+pub fn is_empty(points: &[i32], ranges: &[[usize; 2]]) -> Verdict
+    ensures { λ r. ⌜ r ≡ is-empty (now (points .entry)) (now (ranges .entry)) ⌝ }
+{
+    answer::verdict(refused(points, ranges), points.len() / 2 == 0)
+}
+
+// Whether the set has exactly one contour.
+pub fn is_single_contour(points: &[i32], ranges: &[[usize; 2]]) -> Verdict
+    ensures { λ r. ⌜ r ≡ is-single (now (points .entry)) (now (ranges .entry)) ⌝ }
+{
+    answer::verdict(refused(points, ranges), ranges.len() == 1)
+}
+
+// How many points the set has.
+pub fn points_count(points: &[i32], ranges: &[[usize; 2]]) -> Counted
+    ensures { λ r. ⌜ r ≡ points-count (now (points .entry)) (now (ranges .entry)) ⌝ }
+{
+    answer::count(refused(points, ranges), points.len() / 2)
+}
+
+// How many contours the set has.
+pub fn contours_count(points: &[i32], ranges: &[[usize; 2]]) -> Counted
+    ensures { λ r. ⌜ r ≡ contours-count (now (points .entry)) (now (ranges .entry)) ⌝ }
+{
+    answer::count(refused(points, ranges), ranges.len())
+}
+
+// Contour number k, as a part of the points; the empty part where it is not there.
+pub fn contour<'a>(points: &'a [i32], ranges: &[[usize; 2]], k: usize) -> &'a [i32]
+    ensures { λ r. ⌜ now r ≡ contour-at (now (points .entry)) (now (ranges .entry)) k ⌝ }
+{
+    if refused(points, ranges) != 0 {
+        return &points[..0];
+    }
+    if ranges.len() <= k {
+        return &points[..0];
+    }
+    parts::named(points, ranges, k)
+}
+
+// The first contour, as a part of the points: all of them where there are no ranges.
+pub fn first_contour<'a>(points: &'a [i32], ranges: &[[usize; 2]]) -> &'a [i32]
+    ensures { λ r. ⌜ now r ≡ first-contour (now (points .entry)) (now (ranges .entry)) ⌝ }
+{
+    if ranges.len() != 0 {
+        return contour(points, ranges, 0);
+    }
+    if grid::domain(points) != 0 {
+        return &points[..0];
+    }
+    points
+}
+
+// Packs contours, unless they are refused.
+fn pack(
+    refusal: u32,
+    points: &[i32],
+    ranges: &[[usize; 2]],
+    out: &mut [i32],
+    records: &mut [[usize; 2]],
+) -> Packed
+    requires { ⌜ (refusal ≡ 0 → Movable (now ranges) 0) ⌝ }
+    ensures { λ r. ⌜
+        left r (now (out .exit)) (now (records .exit)) []
+        ≡ stored (told refusal) (now (points .entry)) (spans (now (ranges .entry))) []
+        (now (out .entry)) (now (records .entry)) []
+        ⌝ }
+{
+    let room = (points.len() <= out.len()) & (ranges.len() <= records.len());
+    let first = refusal::or_room(refusal, room);
+    if first != 0 {
+        return answer::refused(first);
+    }
+    copy::numbers(points, out, 0);
+    copy::records(ranges, records, 0, 0);
+    Packed {
+        reply: grid::reply::DONE,
+        points: points.len() / 2,
+        contours: ranges.len(),
+        shapes: 0,
+    }
+}
+
+// Packs one contour.
+pub fn set_with_contour(contour: &[i32], out: &mut [i32], records: &mut [[usize; 2]]) -> Packed
+    ensures { λ r. ⌜
+        left r (now (out .exit)) (now (records .exit)) []
+        ≡ with-contour (now (contour .entry)) (now (out .entry)) (now (records .entry))
+        ⌝ }
+{
+    let refusal = grid::domain(contour);
+    let one = [[0, contour.len() / 2]];
+    pack(refusal, contour, &one, out, records)
+}
+
+// Packs the contours of a shape.
+pub fn set_with_shape(
+    points: &[i32],
+    ranges: &[[usize; 2]],
+    out: &mut [i32],
+    records: &mut [[usize; 2]],
+) -> Packed
+    ensures { λ r. ⌜
+        left r (now (out .exit)) (now (records .exit)) []
+        ≡ with-shape (now (points .entry)) (now (ranges .entry)) (now (out .entry)) (now (records .entry))
+        ⌝ }
+{
+    let refusal = refused(points, ranges);
+    pack(refusal, points, ranges, out, records)
+}
+
+// Packs the contours of shapes; where a shape ends is dropped.
+pub fn set_with_shapes(
+    points: &[i32],
+    contours: &[[usize; 2]],
+    shapes: &[[usize; 2]],
+    out: &mut [i32],
+    records: &mut [[usize; 2]],
+) -> Packed
+    ensures { λ r. ⌜
+        left r (now (out .exit)) (now (records .exit)) []
+        ≡ with-shapes (now (points .entry)) (now (contours .entry)) (now (shapes .entry))
+        (now (out .entry)) (now (records .entry))
+        ⌝ }
+{
+    let refusal = shapes::refused(points, contours, shapes);
+    pack(refusal, points, contours, out, records)
+}
+
+// Writes the set and one contour more.
+pub fn add_contour(
+    points: &[i32],
+    ranges: &[[usize; 2]],
+    contour: &[i32],
+    out: &mut [i32],
+    records: &mut [[usize; 2]],
+) -> Packed
+    ensures { λ r. ⌜
+        left r (now (out .exit)) (now (records .exit)) []
+        ≡ with-one-more (now (points .entry)) (now (ranges .entry)) (now (contour .entry))
+        (now (out .entry)) (now (records .entry))
+        ⌝ }
+{
+    let n = points.len() / 2;
+    let refusal = refusal::of_both(points, contour, ranges::sound(ranges, n));
+    let room = (points.len() + contour.len() <= out.len()) & (ranges.len() + 1 <= records.len());
+    let first = refusal::or_room(refusal, room);
+    if first != 0 {
+        return answer::refused(first);
+    }
+    let one = [[0, contour.len() / 2]];
+    copy::both_numbers(points, contour, out);
+    copy::both_records(ranges, &one, n, records);
+    Packed {
+        reply: grid::reply::DONE,
+        points: n + contour.len() / 2,
+        contours: ranges.len() + 1,
+        shapes: 0,
+    }
+}

@@ -1,0 +1,11 @@
+// Sets of contours and of shapes, flat: points, and the ranges that name their parts.
+mod answer;
+pub mod contours;
+mod copy;
+mod parts;
+pub mod ranges;
+mod refusal;
+pub mod shapes;
+
+pub use answer::Counted;
+pub use answer::Packed;
