@@ -17,7 +17,7 @@ use Rattle.grid.proofs.LadderLaws.First.{here, past, foot}
 use Rattle.area.specs.declared.answer.Area.{Area}
 use Rattle.area.specs.Answers.{answer, refusals, doubled, half}
 
-answer-refused : (k : ℕ) (z : ℤ) → (k ≡ 0 → ⊥) → record { reply = k; value = pos 0 } ≡ answer k z
+pub answer-refused : (k : ℕ) (z : ℤ) → (k ≡ 0 → ⊥) → record { reply = k; value = pos 0 } ≡ answer k z
 answer-refused zero z n = absurd (n refl)
 answer-refused (suc k) z n = refl
 
@@ -49,7 +49,7 @@ unfolding doubled
 value-is row r e z = ap (λ (a : Area). a .value) e ∙ ap (λ (k : ℕ). answer k (reported (points row)) .value) z
 
 -- an area's half
-answer-half : (k : ℕ) (z : ℤ) → record { reply = answer k z .reply; value = halved (answer k z .value) } ≡ answer k (halved z)
+pub answer-half : (k : ℕ) (z : ℤ) → record { reply = answer k z .reply; value = halved (answer k z .value) } ≡ answer k (halved z)
 answer-half zero z = refl
 answer-half (suc k) z = refl
 

@@ -30,7 +30,7 @@ fn added(total: u64, t: i64) -> u64
 }
 
 // The bits of an i64, read as one.
-fn signed(bits: u64) -> i64
+pub fn signed(bits: u64) -> i64
     ensures { λ r. ⌜ r ≡ toZ w64 bits ⌝ }
 {
     if bits < 9_223_372_036_854_775_808 {

@@ -2,7 +2,7 @@
 mod answer;
 pub mod contours;
 mod copy;
-mod parts;
+pub mod parts;
 pub mod ranges;
 mod refusal;
 pub mod shapes;

@@ -4,7 +4,7 @@ use mathlib.Core.Bool.{Bool, true, false, _&&_, and-assoc}
 use mathlib.Core.List.{List, [], _∷_}
 use Prim.Native.Nat.{ℕ, zero, suc, _+_, _<_}
 use native.Mathlib.Numerals.{add-one}
-use lib.ListN.{length, getD, drop}
+use lib.ListN.{length, getD, take, drop}
 use lib.Seq.{drop-cons, drop-length}
 use lib.IntN.{ℤ, pos, negℤ}
 use lib.Signed.{leZ}
@@ -43,3 +43,16 @@ pub all-on-grid-none : (row : List ℤ) (i : ℕ) (sofar : Bool) → i ≡ lengt
 unfolding all-on-grid
 all-on-grid-none row i true e = rw (e, drop-length row)
 all-on-grid-none row i false e = refl
+
+-- a part of a row on the grid is on the grid
+pub on-dropped : (n : ℕ) (row : List ℤ) → all-on-grid row ≡ true → all-on-grid (drop n row) ≡ true
+unfolding all-on-grid
+on-dropped zero row e = e
+on-dropped (suc n) [] e = e
+on-dropped (suc n) (z ∷ row) e = on-dropped n row (and-right (on-grid z) (all-on-grid row) e)
+
+pub on-taken : (n : ℕ) (row : List ℤ) → all-on-grid row ≡ true → all-on-grid (take n row) ≡ true
+unfolding all-on-grid
+on-taken zero row e = refl
+on-taken (suc n) [] e = e
+on-taken (suc n) (z ∷ row) e = rw (and-left (on-grid z) (all-on-grid row) e) (on-taken n row (and-right (on-grid z) (all-on-grid row) e))

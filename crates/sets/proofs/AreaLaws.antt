@@ -1,0 +1,110 @@
+-- The area of a set, contour by contour.
+use mathlib.Core.Path.{_≡_, refl, sym, _∙_, ap}
+use mathlib.Core.Bool.{Bool, true, false, not}
+use mathlib.Core.List.{List, [], _∷_, _++_}
+use Prim.Native.Nat.{ℕ, _+_, _%_, _<_, _≤_, _^_}
+use native.Mathlib.Omega.{arith}
+use lib.Dec.{eqb}
+use lib.ListN.{length, getD, drop}
+use lib.IntN.{ℤ, pos, _+ℤ_, +ℤ-assoc, +ℤ-comm, +ℤ-idl, +ℤ-idr}
+use mir.Syntax.{w64}
+use mir.Val.{toZ}
+use Rattle.integers.specs.Modulo.{mod64}
+use Rattle.integers.proofs.Modulo.{mod64-add, wrap-add}
+use Rattle.grid.specs.Points.{points}
+use Rattle.grid.specs.Area.{wrapped, reported, halved}
+use Rattle.grid.specs.Ladder.{Rung, first-of}
+use Rattle.grid.specs.Domain.{count, domain}
+use Rattle.grid.proofs.LadderLaws.{first-is, onward, stopped, clear, cleared}
+use Rattle.grid.proofs.LadderLaws.First.{past, foot}
+use Rattle.area.specs.declared.answer.Area.{Area}
+use Rattle.area.specs.Answers as A
+use Rattle.area.proofs.AnswerLaws.{reply-is, value-is, answer-refused, answer-half}
+use Rattle.buffer.specs.Spans.{span, spans}
+use Rattle.buffer.specs.Sets.{contour, contours}
+use Rattle.buffer.specs.Contours.{refusals}
+use Rattle.buffer.proofs.RefusalLaws.{found}
+use Rattle.sets.specs.Verdicts.{every}
+use Rattle.sets.specs.Area.{filled, empty, sum, reported-sum, area-refusals, doubled, half}
+use Rattle.sets.proofs.PartLaws.{next-part, no-part, Left, one-passes}
+
+-- what a contour in the domain answers
+module _ (row : List ℤ) (r : Area) (e : r ≡ A.doubled row) (z : first-of (domain row) ≡ 0) where
+  pub part-empty : (r .reply ≡ 0 → ⊥) → filled row ≡ false
+  part-empty n = ap not (go (eqb (count row) 0) (λ f. n (reply-is row r e ∙ f)))
+    where
+      go : (b : Bool) → (first-of (domain row ++ (b, 8) ∷ []) ≡ 0 → ⊥) → b ≡ true
+      go true n = refl
+      go false n = absurd (n (sym (first-is (domain row ++ (false, 8) ∷ []) 0 (onward (domain row) _ 0 tt z (past refl foot)))))
+
+  module _ (f : r .reply ≡ 0) where
+    taken : first-of (A.refusals row) ≡ 0
+    taken = sym (reply-is row r e) ∙ f
+
+    pub part-filled : filled row ≡ true
+    part-filled = ap not (clear (A.empty row) tt (cleared (domain row) (A.empty row) tt taken .1) .0)
+
+    pub part-value : r .value ≡ reported (points row)
+    part-value = value-is row r e taken
+
+-- a number's residue goes onto a sum
+added : (s b r : ℕ) (v t : ℤ) → b ≡ mod64 v → r ≡ (s + b) % 2 ^ 64 → mod64 (pos s +ℤ (v +ℤ t)) ≡ mod64 (pos r +ℤ t)
+added s b r v t e f =
+    let g : r ≡ mod64 (pos s +ℤ v) = wrap-add s b r f ∙ ap mod64 (+ℤ-comm (pos s) (pos b)) ∙ ap (λ (n : ℕ). mod64 (pos n +ℤ pos s)) e ∙ mod64-add v (pos s) ∙ ap mod64 (+ℤ-comm v (pos s)) in
+    ap mod64 (sym (+ℤ-assoc (pos s) v t)) ∙ sym (mod64-add (pos s +ℤ v) t) ∙ ap (λ (n : ℕ). mod64 (pos n +ℤ t)) (sym g)
+
+-- a set that no other call refuses
+module _ (p : List ℤ) (cs : List (List ℕ)) (z : first-of (refusals p cs) ≡ 0) where
+  told : (b : Bool) → every filled (contours p (spans cs)) ≡ b → A.answer (first-of ((not b, 8) ∷ [])) (reported-sum (contours p (spans cs))) ≡ doubled p cs
+  unfolding doubled
+  told b e =
+      let l : List Rung = empty (contours p (spans cs)) in
+      rw (← e) (ap (λ (k : ℕ). A.answer k (reported-sum (contours p (spans cs)))) (first-is (area-refusals p cs) (first-of l) (onward (refusals p cs) l (first-of l) tt z (found l (first-of l) refl))))
+
+  pub set-empty : every filled (contours p (spans cs)) ≡ false → record { reply = 8; value = pos 0 } ≡ doubled p cs
+  unfolding first-of
+  set-empty e = told false e
+
+  pub set-filled : (v : ℤ) → every filled (contours p (spans cs)) ≡ true → v ≡ reported-sum (contours p (spans cs)) → record { reply = 0; value = v } ≡ doubled p cs
+  unfolding first-of
+  set-filled v e f = rw f (told true e)
+
+-- a loop's sum, before it adds contour number i
+module _ (p : List ℤ) (cs : List (List ℕ)) where
+  abbrev set : List (List ℤ)
+  set = contours p (spans cs)
+
+  pub record Gathered (s i : ℕ) : Type 0 where
+    pub within : i ≤ length cs
+    pub small : s < 2 ^ 64
+    pub left : Left filled p cs 0 i
+    pub is : mod64 (sum set) ≡ mod64 (pos s +ℤ sum (drop i set))
+
+  pub gathered-none : Gathered 0 0
+  gathered-none = record { within = omega arith; small = omega arith; left = refl; is = ap mod64 (sym (+ℤ-idl (sum set))) }
+
+  module _ {s i : ℕ} (g : Gathered s i) where
+    pub gathered-more : i < length cs → (b r : ℕ) → filled (contour p (span (getD cs i []))) ≡ true → b ≡ mod64 (reported (points (contour p (span (getD cs i []))))) → r ≡ (s + b) % 2 ^ 64 → Gathered r (i + 1)
+    unfolding sum
+    gathered-more h b r n e f = record {
+      within = omega arith;
+      small = omega arith;
+      left = one-passes filled p cs 0 i (g .left) h n;
+      is = g .is ∙ ap (λ (l : List (List ℤ)). mod64 (pos s +ℤ sum l)) (next-part p cs i h) ∙ added s b r (reported (points (contour p (span (getD cs i []))))) (sum (drop (i + 1) set)) e f;
+    }
+
+    pub gathered-all : length cs ≤ i → toZ w64 s ≡ reported-sum set
+    unfolding sum wrapped mod64
+    gathered-all h =
+        let k : mod64 (sum set) ≡ s = g .is ∙ ap (λ (l : List (List ℤ)). mod64 (pos s +ℤ sum l)) (no-part p cs i h) ∙ ap mod64 (+ℤ-idr (pos s)) ∙ omega (arith, g .small) in
+        rw k
+
+-- the answers
+module _ (p : List ℤ) (cs : List (List ℕ)) where
+  pub set-refused : (k : ℕ) → k ≡ first-of (refusals p cs) → (k ≡ 0 → ⊥) → record { reply = k; value = pos 0 } ≡ doubled p cs
+  unfolding doubled
+  set-refused k e n = rw (← first-is (area-refusals p cs) k (stopped (refusals p cs) _ k e n)) (answer-refused k _ n)
+
+  pub set-half : (r : Area) → r ≡ doubled p cs → record { reply = r .reply; value = halved (r .value) } ≡ half p cs
+  unfolding doubled half
+  set-half r e = rw e (answer-half (first-of (area-refusals p cs)) (reported-sum (contours p (spans cs))))

@@ -1,0 +1,87 @@
+-- Worked examples.
+use mathlib.Core.Path.{_≡_, refl}
+use mathlib.Core.Bool.{Bool, true, false, xor}
+use mathlib.Core.List.{List, [], _∷_, _++_}
+use Prim.Native.Nat.{ℕ}
+use lib.IntN.{ℤ, pos, negsuc}
+use Rattle.integers.specs.Modulo.{mod64}
+use Rattle.grid.specs.declared.Verdict.{Verdict}
+use Rattle.grid.specs.Limits.{limit, most, on-grid, all-on-grid}
+use Rattle.grid.specs.Points.{points, bend, reverses}
+use Rattle.grid.specs.Corners.{last, differing, distinct-neighbours, corners-from, corners, some}
+use Rattle.grid.specs.Area.{around, exact, wrapped}
+use Rattle.grid.specs.Ladder.{first-of}
+use Rattle.grid.specs.Cases.{row, W3, W11}
+use Rattle.path.specs.Contains.{crosses, odd, contained}
+use Rattle.clean.specs.Verdicts.{is-simple, no-spike-left, no-spikes}
+use Rattle.buffer.specs.Spans.{sound-from}
+use Rattle.sets.specs.Verdicts.{every, verdict-by, simple, spike-free}
+use Rattle.sets.specs.Area.{sum, doubled, half}
+use Rattle.sets.specs.Contains.{inside, in-shape}
+
+infixl 70 _to_
+-- a range
+abbrev _to_ : ℕ → ℕ → List ℕ
+_to_ a b = a ∷ b ∷ []
+
+abbrev answered : Bool → Verdict
+answered b = record { reply = 0; yes = b }
+
+abbrev refused : ℕ → Verdict
+refused k = record { reply = k; yes = false }
+
+-- a triangle with a point on one of its sides
+abbrev straight : List ℤ
+straight = row (0 ∷ 0 ∷ 2 ∷ 0 ∷ 4 ∷ 0 ∷ 0 ∷ 4 ∷ [])
+
+-- a set of no contours is simple and without spikes, and one with an empty contour is neither
+of-none :
+    (simple [] [] ≡ answered true)
+    × (spike-free [] [] ≡ answered true)
+    × (simple [] (0 to 0 ∷ []) ≡ answered false)
+    × (spike-free [] (0 to 0 ∷ []) ≡ answered false)
+unfolding limit most on-grid all-on-grid points first-of sound-from is-simple no-spikes every verdict-by
+of-none = (refl, refl, refl, refl)
+
+-- one contour decides: the straight vertex is no spike
+of-two :
+    (simple (W3 ++ W3) (0 to 3 ∷ 3 to 6 ∷ []) ≡ answered true)
+    × (simple (W3 ++ straight) (0 to 3 ∷ 3 to 7 ∷ []) ≡ answered false)
+    × (spike-free (W3 ++ straight) (0 to 3 ∷ 3 to 7 ∷ []) ≡ answered true)
+unfolding limit most on-grid all-on-grid points bend reverses last differing distinct-neighbours corners-from corners some first-of sound-from is-simple no-spike-left no-spikes every verdict-by
+of-two = (refl, refl, refl)
+
+-- points without ranges
+loose : (simple W3 [] ≡ refused 6) × (in-shape W3 [] (pos 536870913) (pos 0) ≡ refused 6) × (doubled W3 [] ≡ record { reply = 6; value = pos 0 })
+unfolding limit most on-grid all-on-grid first-of sound-from verdict-by in-shape doubled
+loose = (refl, refl, refl)
+
+-- 16 and 16; the halves of -1 and -3 are cut toward zero
+areas :
+    (doubled [] [] ≡ record { reply = 0; value = pos 0 })
+    × (doubled (W3 ++ W3) (0 to 3 ∷ 3 to 6 ∷ []) ≡ record { reply = 0; value = pos 32 })
+    × (half W11 (0 to 3 ∷ []) ≡ record { reply = 0; value = pos 0 })
+    × (half (row (0 ∷ 0 ∷ 0 ∷ 3 ∷ 1 ∷ 0 ∷ [])) (0 to 3 ∷ []) ≡ record { reply = 0; value = negsuc 0 })
+unfolding mod64 limit most on-grid all-on-grid points around exact wrapped first-of sound-from every sum doubled half
+areas = (refl, refl, refl, refl)
+
+-- an empty contour anywhere
+empties :
+    (doubled W3 (0 to 3 ∷ 3 to 3 ∷ []) ≡ record { reply = 8; value = pos 0 })
+    × (half W3 (0 to 0 ∷ 0 to 3 ∷ []) ≡ record { reply = 8; value = pos 0 })
+unfolding mod64 limit most on-grid all-on-grid points around exact wrapped first-of sound-from every sum doubled half
+empties = (refl, refl)
+
+-- a square with a square hole
+abbrev square : List ℤ
+square = row (0 ∷ 0 ∷ 8 ∷ 0 ∷ 8 ∷ 8 ∷ 0 ∷ 8 ∷ []) ++ row (2 ∷ 2 ∷ 6 ∷ 2 ∷ 6 ∷ 6 ∷ 2 ∷ 6 ∷ [])
+
+-- between outline and hole, in the hole, outside, and off the grid; an empty shape contains nothing
+shapes :
+    (in-shape square (0 to 4 ∷ 4 to 8 ∷ []) (pos 1) (pos 4) ≡ answered true)
+    × (in-shape square (0 to 4 ∷ 4 to 8 ∷ []) (pos 4) (pos 4) ≡ answered false)
+    × (in-shape square (0 to 4 ∷ 4 to 8 ∷ []) (pos 9) (pos 4) ≡ answered false)
+    × (in-shape square (0 to 4 ∷ 4 to 8 ∷ []) (pos 536870913) (pos 4) ≡ refused 3)
+    × (in-shape [] [] (pos 0) (pos 0) ≡ answered false)
+unfolding xor limit most on-grid all-on-grid points last first-of sound-from crosses odd contained every inside in-shape
+shapes = (refl, refl, refl, refl, refl)

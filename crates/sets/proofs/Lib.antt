@@ -1,0 +1,5 @@
+pub mod PartLaws
+pub mod PassLaws
+pub mod ContainsLaws
+pub mod AreaLaws
+pub mod Cases

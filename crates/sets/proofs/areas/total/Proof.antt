@@ -1,0 +1,109 @@
+-- `sets::areas::total` meets its contract: the sum and what is left to add make up the sum of all.
+use borrow.Author.Needs.{needs, sfits-of}
+use mathlib.Core.Path.{_≡_, _∙_, ap}
+use mathlib.Core.List.{List, []}
+use Prim.Native.Nat.{_-_}
+use lib.ListN.{length, getD}
+use lib.IntN.{ℤ}
+use mir.Facts.{toZ-ofZ}
+use Rattle.integers.specs.Modulo.{mod64}
+use Rattle.grid.specs.Ladder.{first-of}
+use Rattle.grid.specs.Domain.{domain}
+use Rattle.area.specs.Answers.{doubled}
+use Rattle.buffer.specs.Spans.{span}
+use Rattle.buffer.specs.Sets.{contour}
+use Rattle.sets.specs.Area.{filled}
+use Rattle.sets.proofs.PartLaws.{part-named, part-in-domain, one-fails, all-pass}
+use Rattle.sets.proofs.AreaLaws.{part-empty, part-filled, part-value, set-empty, set-filled, Gathered, gathered-none, gathered-more, gathered-all}
+use Rattle.sets.proofs.areas.total.Statement.{statement}
+use Rattle.sets.proofs.areas.total.Tie as tie
+
+abbrev Inv-loop : tie.InvT-loop
+Inv-loop points ranges sum₀ i₀ sum i = Gathered points ranges sum i
+
+abbrev μ-loop : tie.MeasureT-loop
+μ-loop points ranges sum₀ i₀ sum i = length ranges - i
+
+-- the contour that is named, what it answers, and that it is in the domain
+module _ (c : tie.After-area-two Inv-loop μ-loop) where
+  part : List ℤ
+  part = let l = c .before .before .before in contour (l .before .args .points .now) (span (getD (l .before .args .ranges .now) (l .loop .i) []))
+
+  answered : c .area-two .result ≡ doubled part
+  unfolding part
+  answered = c .area-two .ensures ∙ ap doubled (c .before .named .ensures)
+
+  in-domain : first-of (domain part) ≡ 0
+  unfolding part
+  in-domain = let l = c .before .before .before in part-in-domain (l .before .args .points .now) (l .before .args .ranges .now) (l .loop .i) (l .before .pre) (c .before .before .loop-test .taken)
+
+loop-holds : tie.Need-loop-holds Inv-loop μ-loop
+loop-holds c = gathered-none (c .args .points .now) (c .args .ranges .now)
+
+named-requires : tie.Need-named-requires Inv-loop μ-loop
+named-requires c κs = let s = c .before .before in part-named (s .args .points .now) (s .args .ranges .now) (c .before .loop .i) (s .pre) (c .loop-test .taken)
+
+area-two-requires : tie.Need-area-two-requires Inv-loop μ-loop
+area-two-requires c κs = search needs
+
+returns : tie.Need-returns Inv-loop μ-loop
+unfolding part
+returns c =
+    let a = c .before .before in
+    let l = a .before .before .before in
+    let p = l .before .args .points .now in
+    let cs = l .before .args .ranges .now in
+    set-empty p cs (l .before .pre) (one-fails filled p cs 0 (l .loop .i) (l .loop .inv .left) (a .before .before .loop-test .taken) (part-empty (part a) (a .area-two .result) (answered a) (in-domain a) (c .if1 .taken)))
+
+bits-requires : tie.Need-bits-requires Inv-loop μ-loop
+bits-requires c κs = search needs
+
+wrapping-add-u64-requires : tie.Need-wrapping-add-u64-requires Inv-loop μ-loop
+wrapping-add-u64-requires c κs = search needs
+
+add-i : tie.Need-add-i Inv-loop μ-loop
+add-i c = search needs
+
+loop-less : tie.Need-loop-less Inv-loop μ-loop
+loop-less c = search needs
+
+loop-again : tie.Need-loop-again Inv-loop μ-loop
+unfolding part
+loop-again c =
+    let t = c .before .before in
+    let a = t .before .before .before in
+    let l = a .before .before .before in
+    let z = t .before .if1 .left in
+    gathered-more (l .before .args .points .now) (l .before .args .ranges .now) (l .loop .inv) (a .before .before .loop-test .taken) _ _
+    (part-filled (part a) (a .area-two .result) (answered a) (in-domain a) z)
+    (c .before .bits .ensures ∙ ap mod64 (toZ-ofZ {z = a .area-two .result .value} (sfits-of (t .struct-told .given .1 .0 .1)) ∙ part-value (part a) (a .area-two .result) (answered a) (in-domain a) z))
+    (c .wrapping-add-u64 .ensures)
+
+signed-requires : tie.Need-signed-requires Inv-loop μ-loop
+signed-requires c κs = search needs
+
+returns-2 : tie.Need-returns-2 Inv-loop μ-loop
+returns-2 c =
+    let l = c .before .before in
+    let p = l .before .args .points .now in
+    let cs = l .before .args .ranges .now in
+    set-filled p cs (l .before .pre) _ (all-pass filled p cs 0 (l .loop .i) (l .loop .inv .left) (c .before .loop-test .left))
+    (toZ-ofZ (sfits-of (c .signed .ok)) ∙ c .signed .ensures ∙ gathered-all p cs (l .loop .inv) (c .before .loop-test .left))
+
+pub total-spec : {M : Type 1} → statement M
+total-spec =
+    tie.close
+    (tie.spec
+    Inv-loop
+    μ-loop
+    loop-holds
+    named-requires
+    area-two-requires
+    returns
+    bits-requires
+    wrapping-add-u64-requires
+    add-i
+    loop-less
+    loop-again
+    signed-requires
+    returns-2)

@@ -1,0 +1,56 @@
+// Whether every contour of a set passes the verdict that goes with a rule.
+ghost use mathlib.Core.Path.{_≡_};
+ghost use Rattle.grid.specs.Points.{points as points-of};
+ghost use Rattle.grid.specs.Ladder.{first-of};
+ghost use Rattle.grid.specs.Domain.{domain};
+ghost use Rattle.buffer.specs.Spans.{spans};
+ghost use Rattle.buffer.specs.Sets.{contours};
+ghost use Rattle.buffer.specs.Contours.{refusals};
+ghost use Rattle.sets.specs.Verdicts.{passes as passes-by, all-pass as all-pass-by, verdict-by};
+use buffer::parts;
+use grid::Verdict;
+use ring::Rule;
+
+// Whether a contour passes.
+fn passes(rule: Rule, contour: &[i32]) -> bool
+    requires { ⌜ first-of (domain (now contour)) ≡ 0 ⌝ }
+    ensures { λ r. ⌜ r ≡ passes-by rule (points-of (now (contour .entry))) ⌝ }
+{
+    let v = match rule {
+        Rule::Collinear => clean::simple::is_simple(contour),
+        Rule::Spike => clean::despike::has_no_spikes(contour),
+    };
+    v.yes
+}
+
+// Whether every contour passes, of a set that no call refuses.
+fn all_pass(rule: Rule, points: &[i32], ranges: &[[usize; 2]]) -> bool
+    requires { ⌜ first-of (refusals (now points) (now ranges)) ≡ 0 ⌝ }
+    ensures { λ r. ⌜ r ≡ all-pass-by rule (contours (now (points .entry)) (spans (now (ranges .entry)))) ⌝ }
+{
+    let mut i: usize = 0;
+    while i < ranges.len() {
+        if !passes(rule, parts::named(points, ranges, i)) {
+            return false;
+        }
+        i += 1;
+    }
+    true
+}
+
+// The answer.
+pub fn verdict(rule: Rule, points: &[i32], ranges: &[[usize; 2]]) -> Verdict
+    ensures { λ r. ⌜ r ≡ verdict-by rule (now (points .entry)) (now (ranges .entry)) ⌝ }
+{
+    let refusal = buffer::contours::refused(points, ranges);
+    if refusal != 0 {
+        return Verdict {
+            reply: refusal,
+            yes: false,
+        };
+    }
+    Verdict {
+        reply: grid::reply::DONE,
+        yes: all_pass(rule, points, ranges),
+    }
+}
