@@ -76,14 +76,14 @@ impl fmt::Display for Answers {
     }
 }
 
-fn column<T>(reply: &Reply<T>, said: fn(&T) -> String) -> String {
+pub fn column<T>(reply: &Reply<T>, said: fn(&T) -> String) -> String {
     match reply {
         Ok(value) => said(value),
         Err(refusal) => format!("!{refusal}"),
     }
 }
 
-fn yes_or_no(yes: &bool) -> String {
+pub fn yes_or_no(yes: &bool) -> String {
     if *yes { "yes" } else { "no" }.to_string()
 }
 

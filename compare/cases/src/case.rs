@@ -11,7 +11,7 @@ const CONTOUR: &str = "c";
 const CLEANING: &str = "w";
 
 /// A contour's row is at most this long: one point more than a contour may have.
-const MOST_NUMBERS: usize = 131_074;
+pub const MOST_NUMBERS: usize = 131_074;
 
 /// What is asked of a contour. The contour's row is `numbers`, `times` over.
 #[derive(Clone, Debug, PartialEq, Eq)]
@@ -79,10 +79,7 @@ impl FromStr for Case {
     type Err = String;
 
     fn from_str(line: &str) -> Result<Case, String> {
-        let (line, times) = match line.rsplit_once(" *") {
-            Some((line, times)) => (line, number(times)?),
-            None => (line, 1),
-        };
+        let (line, times) = row_of(line)?;
         let words = &mut line.split(' ');
         let kind = kind(words)?;
         let numbers = words.map(number).collect::<Result<Vec<i32>, String>>()?;
@@ -115,7 +112,15 @@ fn kind<'a>(words: &mut impl Iterator<Item = &'a str>) -> Result<Kind, String> {
     }
 }
 
-fn length<'a>(words: &mut impl Iterator<Item = &'a str>, most: usize) -> Result<usize, String> {
+/// The line before the star, and how often its row's numbers stand in the row.
+pub fn row_of(line: &str) -> Result<(&str, usize), String> {
+    match line.rsplit_once(" *") {
+        Some((line, times)) => Ok((line, number(times)?)),
+        None => Ok((line, 1)),
+    }
+}
+
+pub fn length<'a>(words: &mut impl Iterator<Item = &'a str>, most: usize) -> Result<usize, String> {
     let length = next_number(words)?;
     if length > most {
         return Err(format!("no row has {length} entries"));
@@ -123,11 +128,11 @@ fn length<'a>(words: &mut impl Iterator<Item = &'a str>, most: usize) -> Result<
     Ok(length)
 }
 
-fn next_number<'a, T: FromStr>(words: &mut impl Iterator<Item = &'a str>) -> Result<T, String> {
+pub fn next_number<'a, T: FromStr>(words: &mut impl Iterator<Item = &'a str>) -> Result<T, String> {
     number(words.next().ok_or("the line is too short")?)
 }
 
-fn number<T: FromStr>(word: &str) -> Result<T, String> {
+pub fn number<T: FromStr>(word: &str) -> Result<T, String> {
     match word.parse() {
         Ok(number) if !word.starts_with('+') => Ok(number),
         _ => Err(format!("{word:?} is no number")),

@@ -6,7 +6,7 @@ use crate::point::{Point, LIMIT};
 use crate::rng::Rng;
 use crate::shapes::scattered;
 
-const OFF_GRID: [i32; 8] = [
+pub const OFF_GRID: [i32; 8] = [
     LIMIT + 1,
     LIMIT + 2,
     1 << 30,

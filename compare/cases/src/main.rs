@@ -1,5 +1,5 @@
-//! `cases list` writes the list of cases; `cases answers` reads a list and writes the
-//! answers of the Rust original to it.
+//! `cases list` writes the list of cases of a program; `cases answers` reads a list and
+//! writes the answers of the Rust original to it.
 
 mod answers;
 mod asked;
@@ -15,20 +15,25 @@ mod random;
 mod reply;
 mod rng;
 mod rows;
+mod sets;
 mod shapes;
 mod tiny;
 mod unclean;
 
 use case::Case;
+use std::fmt::Display;
 use std::io::{self, BufRead, BufWriter, Write};
 use std::process::ExitCode;
+use std::str::FromStr;
 
 fn main() -> ExitCode {
     let words: Vec<String> = std::env::args().skip(1).collect();
     let outcome = match words.iter().map(String::as_str).collect::<Vec<_>>()[..] {
-        ["list"] => write_list(BufWriter::new(io::stdout().lock())),
-        ["answers"] => write_answers(io::stdin().lock(), BufWriter::new(io::stdout().lock())),
-        _ => Err("usage: cases list | cases answers <list".into()),
+        ["list", "replay"] => write_list(&list()),
+        ["list", "replay_sets"] => write_list(&sets::list()),
+        ["answers", "replay"] => write_answers(answers::HEADER, answers::answer),
+        ["answers", "replay_sets"] => write_answers(sets::HEADER, sets::answer),
+        _ => Err("usage: cases list PROGRAM | cases answers PROGRAM <list".into()),
     };
     match outcome {
         Ok(()) => ExitCode::SUCCESS,
@@ -41,25 +46,28 @@ fn main() -> ExitCode {
 
 type Outcome = Result<(), Box<dyn std::error::Error>>;
 
-fn write_list(mut out: impl Write) -> Outcome {
-    for case in list() {
+fn write_list<C: Display>(cases: &[C]) -> Outcome {
+    let mut out = BufWriter::new(io::stdout().lock());
+    for case in cases {
         writeln!(out, "{case}")?;
     }
     Ok(out.flush()?)
 }
 
-fn write_answers(list: impl BufRead, mut out: impl Write) -> Outcome {
-    writeln!(out, "{}", answers::HEADER)?;
-    for (line, number) in list.lines().zip(1..) {
-        let case: Case = line?
+/// Reads a list on standard input, and writes the header and a line for each case.
+fn write_answers<C: FromStr<Err = String>>(header: &str, answer: fn(&C) -> String) -> Outcome {
+    let mut out = BufWriter::new(io::stdout().lock());
+    writeln!(out, "{header}")?;
+    for (line, number) in io::stdin().lock().lines().zip(1..) {
+        let case: C = line?
             .parse()
             .map_err(|problem| format!("line {number}: {problem}"))?;
-        writeln!(out, "{number} {}", answers::answer(&case))?;
+        writeln!(out, "{number} {}", answer(&case))?;
     }
     Ok(out.flush()?)
 }
 
-/// Every case, in the order of the list: contours of every form, then those for the
+/// Every case of a contour, in the order of the list: contours of every form, then those for the
 /// cleaners, then the cleanings with rows of given lengths.
 fn list() -> Vec<Case> {
     [

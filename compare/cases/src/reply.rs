@@ -1,4 +1,4 @@
-//! Document 01's replies to a call on one contour.
+//! Document 01's replies.
 
 use crate::point::{LIMIT, MOST_POINTS};
 
@@ -8,6 +8,7 @@ pub const TOO_MANY: u8 = 2;
 pub const OFF_GRID: u8 = 3;
 pub const SCRATCH: u8 = 4;
 pub const ROOM: u8 = 5;
+pub const RANGES: u8 = 6;
 pub const COLLAPSED: u8 = 7;
 pub const EMPTY: u8 = 8;
 

@@ -41,6 +41,14 @@ three-points a b c =
     (:cross (# 2 :- # 0) (# 3 :- # 1) (# 4 :- # 2) (# 5 :- # 3))
     (a .x ∷ a .y ∷ b .x ∷ b .y ∷ c .x ∷ c .y ∷ []) refl
 
+-- under three points there is no area
+pub few-points : (l : List Point) → length l < 3 → exact l ≡ pos 0
+unfolding exact around
+few-points [] h = refl
+few-points (a ∷ []) h = ring (:cross (# 0) (# 1) (# 0) (# 1)) (num (pos 0)) (a .x ∷ a .y ∷ []) refl
+few-points (a ∷ b ∷ []) h = ring (:cross (# 0) (# 1) (# 2) (# 3) :+ :cross (# 2) (# 3) (# 0) (# 1)) (num (pos 0)) (a .x ∷ a .y ∷ b .x ∷ b .y ∷ []) refl
+few-points (a ∷ b ∷ c ∷ l) h = absurd (omega arith)
+
 -- on the way from a, number j of the points is left out
 along-removed : (o a : Point) (s : List Point) (j : ℕ) → j < length s
     → around o a s ≡ around o a (leaving-out s j) +ℤ bend (getD (a ∷ s) j origin) (getD s j origin) (getD s (suc j) o)

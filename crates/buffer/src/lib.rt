@@ -1,7 +1,7 @@
 // Sets of contours and of shapes, flat: points, and the ranges that name their parts.
 mod answer;
 pub mod contours;
-mod copy;
+pub mod copy;
 pub mod parts;
 pub mod ranges;
 mod refusal;

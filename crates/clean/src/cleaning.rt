@@ -70,7 +70,7 @@ fn write(points: &[i32], mark: &[u8], out: &mut [i32]) -> usize
     kept
 }
 
-fn zero(row: &mut [u32])
+pub fn zero(row: &mut [u32])
     ensures { λ r. ⌜ now (row .exit) ≡ replicate (length (now (row .entry))) 0 ⌝ }
 {
     let mut i: usize = 0;
@@ -80,7 +80,7 @@ fn zero(row: &mut [u32])
     }
 }
 
-fn zero_bytes(row: &mut [u8])
+pub fn zero_bytes(row: &mut [u8])
     ensures { λ r. ⌜ now (row .exit) ≡ replicate (length (now (row .entry))) 0 ⌝ }
 {
     let mut i: usize = 0;

@@ -1,5 +1,5 @@
 // The cleaners of one contour, their verdicts, and the call that hands back what they kept.
-mod cleaning;
+pub mod cleaning;
 pub mod despike;
 mod part;
 pub mod simple;

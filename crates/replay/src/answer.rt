@@ -3,11 +3,12 @@ ghost use Prim.Native.Nat.{_≤_};
 use crate::cleaner;
 use crate::cleaner::Cleaner;
 use crate::cleaner::Summary;
-use crate::column;
-use crate::number;
-use crate::text;
-use crate::text::TEXT;
+use crate::outcome;
 use area::Area;
+use cases::column;
+use cases::number;
+use cases::text;
+use cases::text::TEXT;
 use grid::Verdict;
 
 // What the library answers of a contour and a point.
@@ -61,25 +62,14 @@ pub fn put_answers(text: &mut [u8; TEXT], case: u64, answers: Answers) -> usize
     let simplified = answers.simplified;
     let despiked = answers.despiked;
     let mut at = number::put_unsigned(text, 0, case);
-    at = column::put_area(text, at, area_two);
-    at = column::put_area(text, at, area);
+    at = outcome::put_area(text, at, area_two);
+    at = outcome::put_area(text, at, area);
     at = column::put_verdict(text, at, clockwise);
     at = column::put_verdict(text, at, convex);
     at = column::put_verdict(text, at, contains);
     at = column::put_verdict(text, at, simple);
     at = column::put_verdict(text, at, no_spikes);
-    at = column::put_summary(text, at, simplified);
-    at = column::put_summary(text, at, despiked);
-    text::put(text, at, b"\n")
-}
-
-// Puts the report of a damaged list into `text`, and answers how long it is.
-pub fn put_damage(text: &mut [u8; TEXT], line: u64, place: u64) -> usize
-    ensures { λ r. ⌜ r ≤ 512 ⌝ }
-{
-    let mut at = text::put(text, 0, b"damaged: line ");
-    at = number::put_unsigned(text, at, line);
-    at = text::put(text, at, b", byte ");
-    at = number::put_unsigned(text, at, place);
+    at = outcome::put_summary(text, at, simplified);
+    at = outcome::put_summary(text, at, despiked);
     text::put(text, at, b"\n")
 }

@@ -1,18 +1,13 @@
 // A case of the list, whatever its kind.
 ghost use Prim.Native.Nat.{_≤_};
-ghost use Rattle.replay.specs.Buffer.{Held};
+ghost use Rattle.cases.specs.Buffer.{Held};
 use crate::contour;
 use crate::lent;
-use crate::row::ROW;
-use crate::source::BUFFER;
-use crate::source::Source;
-use crate::text::TEXT;
-
-// A case that was replayed: how long its line of answers is, and the end of its line in the list.
-pub struct Replayed {
-    pub length: usize,
-    pub source: Source,
-}
+use cases::line::Replayed;
+use cases::row::ROW;
+use cases::source::BUFFER;
+use cases::source::Source;
+use cases::text::TEXT;
 
 // Reads a case, whose first byte names its kind, and puts its answers into `text`.
 pub fn replay(

@@ -1,7 +1,7 @@
 // The two cleaners, and what a line says of a cleaned contour.
 ghost use Prim.Native.Nat.{_≤_};
 ghost use lib.ListN.{length};
-use crate::checksum;
+use cases::checksum;
 use clean::Cleaned;
 
 pub enum Cleaner {

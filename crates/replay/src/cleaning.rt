@@ -1,13 +1,13 @@
 // A cleaning with rows of given lengths, and the line that says how it went.
 ghost use Prim.Native.Nat.{_+_, _≤_};
 ghost use Rattle.replay.specs.Lengths.{Lendable};
-use crate::checksum;
 use crate::cleaner;
 use crate::cleaner::Cleaner;
-use crate::column;
-use crate::number;
-use crate::text;
-use crate::text::TEXT;
+use cases::checksum;
+use cases::column;
+use cases::number;
+use cases::text;
+use cases::text::TEXT;
 use clean::Cleaned;
 
 // The longest scratch and the longest output that can be lent.

@@ -1,14 +1,14 @@
 // A case of the kind `c`: a point, and a contour of which the library is asked.
 ghost use Prim.Native.Nat.{_≤_};
-ghost use Rattle.replay.specs.Buffer.{Held};
+ghost use Rattle.cases.specs.Buffer.{Held};
 use crate::answer;
-use crate::case::Replayed;
-use crate::number;
-use crate::row;
-use crate::row::ROW;
-use crate::source::BUFFER;
-use crate::source::Source;
-use crate::text::TEXT;
+use cases::line::Replayed;
+use cases::number;
+use cases::row;
+use cases::row::ROW;
+use cases::source::BUFFER;
+use cases::source::Source;
+use cases::text::TEXT;
 
 // Reads the case from behind its kind, and puts its answers into `text`.
 pub fn replay(

@@ -1,20 +1,19 @@
 // A case of the kind `w`: a contour to be cleaned with rows of given lengths.
 ghost use Prim.Native.Nat.{_≤_};
-ghost use Rattle.replay.specs.Buffer.{Held};
+ghost use Rattle.cases.specs.Buffer.{Held};
 ghost use Rattle.replay.specs.Lengths.{Lendable};
-use crate::case::Replayed;
 use crate::cleaner::Cleaner;
 use crate::cleaning;
 use crate::cleaning::Lengths;
 use crate::cleaning::OUT;
 use crate::cleaning::SCRATCH;
-use crate::number;
-use crate::number::Digits;
-use crate::row;
-use crate::row::ROW;
-use crate::source::BUFFER;
-use crate::source::Source;
-use crate::text::TEXT;
+use cases::line::Replayed;
+use cases::number;
+use cases::row;
+use cases::row::ROW;
+use cases::source::BUFFER;
+use cases::source::Source;
+use cases::text::TEXT;
 
 // Which cleaner is asked, with rows of which lengths, and the byte after that.
 pub struct Asked {
@@ -58,11 +57,11 @@ fn read_asked(start: Source, bytes: &mut [u8; BUFFER]) -> Asked
     ensures { λ r. ⌜ Held (r .source) ⌝ }
     ensures { λ r. ⌜ Lendable (r .lengths) ⌝ }
 {
-    let which = read_up_to(start, bytes, 1);
-    let next = read_up_to(which.source, bytes, SCRATCH as u64);
-    let prev = read_up_to(next.source, bytes, SCRATCH as u64);
-    let mark = read_up_to(prev.source, bytes, SCRATCH as u64);
-    let out = read_up_to(mark.source, bytes, OUT as u64);
+    let which = number::read_up_to(start, bytes, 1);
+    let next = number::read_up_to(which.source, bytes, SCRATCH as u64);
+    let prev = number::read_up_to(next.source, bytes, SCRATCH as u64);
+    let mark = number::read_up_to(prev.source, bytes, SCRATCH as u64);
+    let out = number::read_up_to(mark.source, bytes, OUT as u64);
     let source = out.source;
     Asked {
         cleaner: numbered(which.value),
@@ -74,16 +73,6 @@ fn read_asked(start: Source, bytes: &mut [u8; BUFFER]) -> Asked
         },
         source,
     }
-}
-
-// Reads a space and a number up to `most`.
-fn read_up_to(start: Source, bytes: &mut [u8; BUFFER], most: u64) -> Digits
-    requires { ⌜ Held start ⌝ }
-    requires { ⌜ most ≤ 2147483648 ⌝ }
-    ensures { λ r. ⌜ Held (r .source) ⌝ }
-    ensures { λ r. ⌜ r .value ≤ most ⌝ }
-{
-    number::read_digits(start.past(bytes, b' '), bytes, most)
 }
 
 fn numbered(number: u64) -> Cleaner {

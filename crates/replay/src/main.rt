@@ -4,22 +4,17 @@
 // that is damaged is replayed up to the first byte that cannot stand where it does, and that place is written.
 mod answer;
 mod case;
-mod checksum;
 mod cleaner;
 mod cleaning;
-mod column;
 mod contour;
 mod lent;
 mod list;
-mod number;
-mod row;
-mod source;
-mod text;
+mod outcome;
 
+use cases::row::ROW;
+use cases::source::BUFFER;
+use cases::text::TEXT;
 use libc::STDOUT_FILENO;
-use row::ROW;
-use source::BUFFER;
-use text::TEXT;
 
 fn main() {
     let mut bytes = [0u8; BUFFER];

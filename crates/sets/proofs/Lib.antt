@@ -2,4 +2,14 @@ pub mod PartLaws
 pub mod PassLaws
 pub mod ContainsLaws
 pub mod AreaLaws
+pub mod FateLaws
+pub mod PlaceLaws
+pub mod LaterLaws
+pub mod ShapeLaws
+pub mod AfterLaws
+pub mod CleanLaws
+pub mod EachLaws
+pub mod Kept
 pub mod Cases
+pub mod CleaningCases
+pub mod Idle

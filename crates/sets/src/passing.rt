@@ -12,7 +12,7 @@ use grid::Verdict;
 use ring::Rule;
 
 // Whether a contour passes.
-fn passes(rule: Rule, contour: &[i32]) -> bool
+pub fn passes(rule: Rule, contour: &[i32]) -> bool
     requires { ⌜ first-of (domain (now contour)) ≡ 0 ⌝ }
     ensures { λ r. ⌜ r ≡ passes-by rule (points-of (now (contour .entry))) ⌝ }
 {

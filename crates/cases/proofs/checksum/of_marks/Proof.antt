@@ -1,0 +1,28 @@
+-- `cases::checksum::of_marks` is safe and ends. The loop's invariant: the end of its range is the row's length, and the sum is below 2^32. Assumes nothing.
+use Prim.Native.Nat.{_≤_, _<_, _-_}
+use mathlib.Core.Path.{_≡_}
+use borrow.Author.Needs.{needs}
+use lib.ListN.{length}
+use Rattle.cases.proofs.checksum.of_marks.Statement.{statement}
+use Rattle.cases.proofs.checksum.of_marks.Tie as tie
+
+abbrev Inv-loop : tie.InvT-loop
+Inv-loop row sum₀ i₀ i-end sum i = (i ≤ i-end) × (i-end ≡ length row) × (sum < 4294967296)
+
+abbrev μ-loop : tie.MeasureT-loop
+μ-loop row sum₀ i₀ i-end sum i = i-end - i
+
+pub of-marks-spec : {M : Type 1} → statement M
+of-marks-spec =
+    tie.close
+    (tie.spec
+    Inv-loop
+    μ-loop
+    (λ c. search needs)
+    (λ c. search needs)
+    (λ c κs. search needs)
+    (λ c κs. search needs)
+    (λ c. search needs)
+    (λ c. search needs)
+    (λ c. search needs)
+    (λ c. search needs))

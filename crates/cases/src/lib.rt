@@ -1,0 +1,8 @@
+// Lists of cases: read byte by byte, a line a case, and answered by a line each.
+pub mod checksum;
+pub mod column;
+pub mod line;
+pub mod number;
+pub mod row;
+pub mod source;
+pub mod text;

@@ -1,0 +1,123 @@
+-- What is written, once contours are cleaned one after the other.
+use mathlib.Core.Path.{_≡_, refl, sym, _∙_, ap, ap₂}
+use mathlib.Core.Bool.{true, false}
+use mathlib.Core.List.{List, [], _∷_, _++_, map, append-assoc, append-nil}
+use Prim.Native.Nat.{ℕ, suc, _+_, _*_, _≤_, _<_}
+use native.Mathlib.Omega.{arith}
+use lib.IntN.{ℤ}
+use lib.ListN.{length, take, drop, set, length-drop, length-append, length-set, take-append-drop}
+use lib.Seq.{take-at, drop-at, drop-drop, set-split, length-take-le}
+use Rattle.grid.specs.Domain.{count, Contour}
+use Rattle.ring.specs.declared.Rule.{Rule}
+use Rattle.buffer.specs.Spans.{rows, laid}
+use Rattle.buffer.specs.Sets.{joined}
+use Rattle.buffer.specs.Rows.{placed}
+use Rattle.sets.specs.declared.cleaning.Place.{Place}
+use Rattle.sets.specs.Fates.{Fate, fate, Stay, and-later, later, ShapeFate, behind, shape-fate}
+use Rattle.sets.specs.Fates.Fate.{stays, gone}
+use Rattle.sets.specs.Fates.ShapeFate.{stands, fallen}
+use Rattle.sets.specs.Inside.{Reached, reached, placing, run, Tested, tested, outline, run-shape, Room}
+use Rattle.sets.proofs.FateLaws.{Smaller, fate-smaller}
+use Rattle.sets.proofs.PlaceLaws.{joined-more, room-rest}
+
+module _ {A : Type 0} (xs : List A) (a : ℕ) where
+  pub placed-none : placed a [] xs ≡ xs
+  placed-none =
+      let z : a + 0 ≡ a = omega arith in
+      ap₂ (λ (l : List A) (n : ℕ). l ++ drop n xs) (append-nil (take a xs)) z ∙ take-append-drop a xs
+
+  pub placed-long : (d : List A) → a + length d ≤ length xs → length (placed a d xs) ≡ length xs
+  placed-long d h =
+      length-append (take a xs ++ d) (drop (a + length d) xs)
+      ∙ omega (arith, length-append (take a xs) d, length-take-le a xs (omega arith), length-drop (a + length d) xs)
+
+  pub placed-behind : (d e : List A) (b : ℕ) → a + length d ≤ length xs → b ≡ a + length d → placed b e (placed a d xs) ≡ placed a (d ++ e) xs
+  placed-behind d e b h q =
+      let n : length (take a xs ++ d) ≡ b = length-append (take a xs) d ∙ omega (arith, length-take-le a xs (omega arith)) in
+      let m : a + length d + length e ≡ a + length (d ++ e) = omega (arith, length-append d e) in
+      ap₂ (λ (k l : List A). k ++ e ++ l)
+      (take-at (take a xs ++ d) (drop (a + length d) xs) b n)
+      (sym (drop-drop (length e) b (placed a d xs)) ∙ ap (drop (length e)) (drop-at (take a xs ++ d) (drop (a + length d) xs) b n) ∙ drop-drop (length e) (a + length d) xs)
+      ∙ ap₂ (λ (l : List A) (k : ℕ). l ++ drop k xs) (append-assoc (take a xs) d e) m
+
+-- a range that is written
+pub set-placed : {A : Type 0} (xs : List A) (k : ℕ) (v : A) → k < length xs → set xs k v ≡ placed k (v ∷ []) xs
+set-placed {A} xs k v h =
+    let n : suc k ≡ k + 1 = omega arith in
+    set-split xs k v h ∙ ap (λ (j : ℕ). take k xs ++ (v ∷ drop j xs)) n ∙ sym (append-assoc (take k xs) (v ∷ []) (drop (k + 1) xs))
+
+-- contours that stay, laid behind what is written
+abbrev pub after : Stay → Reached → Reached
+after t s =
+    reached
+    (record { points = s .place .points + count (joined (t .contours)); contours = s .place .contours + length (t .contours); decisions = s .place .decisions + t .decisions })
+    (placed (2 * s .place .points) (joined (t .contours)) (s .points))
+    (placed (s .place .contours) (rows (laid (s .place .points) (map count (t .contours)))) (s .contours))
+
+same-reached : {p q : Place} {a b : List ℤ} {k l : List (List ℕ)} → p ≡ q → a ≡ b → k ≡ l → reached p a k ≡ reached q b l
+same-reached e f g = cc
+
+same-place : {a b k l m n : ℕ} → a ≡ b → k ≡ l → m ≡ n → _≡_ {A = Place} (record { points = a; contours = k; decisions = m }) (record { points = b; contours = l; decisions = n })
+same-place e f g = cc
+
+pub after-none : (s : Reached) → s ≡ after (record { contours = []; decisions = 0 }) s
+unfolding joined laid
+after-none s = same-reached (same-place (omega arith) (omega arith) (omega arith)) (sym (placed-none (s .points) (2 * s .place .points))) (sym (placed-none (s .contours) (s .place .contours)))
+
+pub after-first : (c : List ℤ) (w : Fate) → Smaller c w → (s : Reached) → 2 * s .place .points + length c ≤ length (s .points) → s .place .contours < length (s .contours)
+    → (t : Stay) → after t (placing w s) ≡ after (and-later w t) s
+unfolding joined laid
+after-first c (gone k) x s room space t = same-reached (same-place refl refl (omega arith)) refl refl
+after-first c (stays d k) x s room space t =
+    let j = length-append d (joined (t .contours)) in
+    same-reached
+    (same-place (omega (arith, x .1)) (omega arith) (omega arith))
+    (placed-behind (s .points) (2 * s .place .points) d (joined (t .contours)) (2 * (s .place .points + count d)) (omega (arith, x .0)) (omega (arith, x .1)))
+    (ap (placed (s .place .contours + 1) (rows (laid (s .place .points + count d) (map count (t .contours))))) (set-placed (s .contours) (s .place .contours) _ space)
+    ∙ placed-behind (s .contours) (s .place .contours) (_ ∷ []) (rows (laid (s .place .points + count d) (map count (t .contours)))) (s .place .contours + 1) (omega arith) refl)
+
+-- contours that are all of the domain
+abbrev pub All : List (List ℤ) → Type 0
+All [] = Unit {0}
+All (c ∷ l) = Contour c (count c) × All l
+
+pub placing-long : (c : List ℤ) (w : Fate) → Smaller c w → (s : Reached) → 2 * s .place .points + length c ≤ length (s .points)
+    → (length (placing w s .points) ≡ length (s .points)) × (length (placing w s .contours) ≡ length (s .contours))
+placing-long c (gone k) x s room = (refl, refl)
+placing-long c (stays d k) x s room = (placed-long (s .points) (2 * s .place .points) d (omega (arith, x .0)), length-set (s .contours) (s .place .contours) _)
+
+module _ (rule : Rule) where
+  pub room-next : (c : List ℤ) (l : List (List ℤ)) (s : Reached) → Contour c (count c) → Room (c ∷ l) (s .place) (s .points) (s .contours)
+      → let t = placing (fate rule c) s in Room l (t .place) (t .points) (t .contours)
+  room-next c l s k r =
+      let b = placing-long c (fate rule c) (fate-smaller rule c k) s (omega (arith, r .room, joined-more c l)) in
+      room-rest rule c l (s .place) (s .points) (s .contours) r k _ _ _ refl (b .0) (b .1)
+
+  first-after : (c : List ℤ) (l : List (List ℤ)) (s : Reached) → Contour c (count c) → Room (c ∷ l) (s .place) (s .points) (s .contours)
+      → (t : Stay) → after t (placing (fate rule c) s) ≡ after (and-later (fate rule c) t) s
+  first-after c l s k r t =
+      after-first c (fate rule c) (fate-smaller rule c k) s (omega (arith, r .room, joined-more c l)) (omega (arith, r .space)) t
+
+  pub run-after : (l : List (List ℤ)) (s : Reached) → All l → Room l (s .place) (s .points) (s .contours) → run rule l s ≡ after (later rule l) s
+  unfolding run later
+  run-after [] s a r = after-none s
+  run-after (c ∷ l) s a r = run-after l (placing (fate rule c) s) (a .1) (room-next c l s (a .0) r) ∙ first-after c l s (a .0) r (later rule l)
+
+  -- a shape's fate, behind what is written
+  abbrev pub shaped : ShapeFate → Reached → Tested
+  shaped (stands cs k) s = tested true (after (record { contours = cs; decisions = k }) s)
+  shaped (fallen k) s = tested false (placing (gone k) s)
+
+  pub shape-after : (l : List (List ℤ)) (s : Reached) → All l → Room l (s .place) (s .points) (s .contours) → run-shape rule l s ≡ shaped (shape-fate rule l) s
+  unfolding run-shape shape-fate
+  shape-after [] s a r = ap (tested true) (after-none s)
+  shape-after (c ∷ l) s a r = go (fate rule c) refl
+    where
+      go : (w : Fate) → fate rule c ≡ w → outline w rule l s ≡ shaped (behind w (later rule l)) s
+      go (gone k) e = refl
+      go (stays d k) e =
+          ap (tested true)
+          (ap (λ (v : Fate). run rule l (placing v s)) (sym e)
+          ∙ run-after l (placing (fate rule c) s) (a .1) (room-next c l s (a .0) r)
+          ∙ first-after c l s (a .0) r (later rule l)
+          ∙ ap (λ (v : Fate). after (and-later v (later rule l)) s) e)

@@ -1,0 +1,59 @@
+-- Worked cases of the fates.
+use mathlib.Core.Path.{_≡_, refl}
+use mathlib.Core.List.{List, [], _∷_}
+use lib.ListN.{replicate}
+use lib.IntN.{ℤ}
+use Rattle.grid.specs.Limits.{limit, most, on-grid, all-on-grid}
+use Rattle.grid.specs.Points.{points, bend, reverses}
+use Rattle.grid.specs.Corners.{last, differing, distinct-neighbours, corners-from, corners, some}
+use Rattle.grid.specs.Ladder.{first-of}
+use Rattle.grid.specs.Cases.{row, W4, W7, W9}
+use Rattle.ring.specs.declared.Rule.the-variants.{Collinear, Spike}
+use Rattle.ring.specs.Walk.{survivors-from, others, successor, predecessor, count, unmark, unmark-about, remove, decide, look, looks, walk}
+use Rattle.ring.specs.Rule.{goes-at}
+use Rattle.clean.specs.Verdicts.{is-simple, no-spike-left, no-spikes}
+use Rattle.clean.specs.Outcome.{chosen}
+use Rattle.buffer.specs.Spans.{laid, sound-from}
+use Rattle.buffer.specs.Sets.{joined}
+use Rattle.sets.specs.Fates.{fate, later, shape-fate, shapes-fate}
+use Rattle.sets.specs.Fates.Fate.{stays}
+use Rattle.sets.specs.Fates.ShapeFate.{fallen}
+use Rattle.sets.specs.Outcome.{answer, shape-outcome}
+
+abbrev square : List ℤ
+square = row (0 ∷ 0 ∷ 9 ∷ 0 ∷ 9 ∷ 9 ∷ 0 ∷ 9 ∷ [])
+
+abbrev line : List ℤ
+line = row (0 ∷ 0 ∷ 2 ∷ 0 ∷ 4 ∷ 0 ∷ [])
+
+-- the duplicate of W7 stays, after 0 decisions
+w7-stays : fate Spike W7 ≡ stays W7 0
+unfolding limit most on-grid all-on-grid points bend reverses last differing distinct-neighbours corners-from corners some first-of no-spike-left no-spikes fate
+w7-stays = refl
+
+-- a shape that starts with a line falls with it, whatever follows
+line-falls : shape-fate Collinear (line ∷ W4 ∷ []) ≡ fallen 1
+unfolding survivors-from others successor predecessor count unmark unmark-about remove decide look looks walk goes-at points bend reverses limit most on-grid all-on-grid first-of last differing distinct-neighbours corners-from corners some is-simple chosen fate later shape-fate
+line-falls = refl
+
+-- W4, then the square: the square's range is shifted down
+w4-and-square : shape-outcome Collinear (row (0 ∷ 0 ∷ 2 ∷ 0 ∷ 4 ∷ 0 ∷ 4 ∷ 4 ∷ 0 ∷ 4 ∷ 0 ∷ 0 ∷ 9 ∷ 0 ∷ 9 ∷ 9 ∷ 0 ∷ 9 ∷ [])) ((0 ∷ 5 ∷ []) ∷ (5 ∷ 9 ∷ []) ∷ [])
+    (record { next = replicate 10 7; prev = replicate 10 7; mark = replicate 10 7; points = row (replicate 19 7); contours = replicate 3 (7 ∷ 7 ∷ []); shapes = [] })
+    ≡ record {
+      answer = answer 0 8 2 0 6;
+      rows = record {
+        next = 0 ∷ 0 ∷ 0 ∷ 0 ∷ 0 ∷ 0 ∷ 0 ∷ 0 ∷ 0 ∷ 7 ∷ [];
+        prev = 0 ∷ 0 ∷ 0 ∷ 0 ∷ 0 ∷ 0 ∷ 0 ∷ 0 ∷ 0 ∷ 7 ∷ [];
+        mark = 0 ∷ 0 ∷ 0 ∷ 0 ∷ 0 ∷ 0 ∷ 0 ∷ 0 ∷ 0 ∷ 7 ∷ [];
+        points = row (0 ∷ 0 ∷ 4 ∷ 0 ∷ 4 ∷ 4 ∷ 0 ∷ 4 ∷ 0 ∷ 0 ∷ 9 ∷ 0 ∷ 9 ∷ 9 ∷ 0 ∷ 9 ∷ 7 ∷ 7 ∷ 7 ∷ []);
+        contours = (0 ∷ 4 ∷ []) ∷ (4 ∷ 8 ∷ []) ∷ (7 ∷ 7 ∷ []) ∷ [];
+        shapes = [];
+      };
+    }
+unfolding survivors-from others successor predecessor count unmark unmark-about remove decide look looks walk goes-at points bend reverses limit most on-grid all-on-grid first-of last differing distinct-neighbours corners-from corners some is-simple chosen fate later shape-fate shape-outcome laid joined sound-from
+w4-and-square = refl
+
+-- the same line among shapes is dropped, and its decision counts; an empty shape stays
+fallen-dropped : shapes-fate Collinear ((line ∷ []) ∷ [] ∷ (W4 ∷ []) ∷ []) ≡ record { shapes = [] ∷ (W9 ∷ []) ∷ []; decisions = 7 }
+unfolding survivors-from others successor predecessor count unmark unmark-about remove decide look looks walk goes-at points bend reverses limit most on-grid all-on-grid first-of last differing distinct-neighbours corners-from corners some is-simple chosen fate later shape-fate shapes-fate
+fallen-dropped = refl

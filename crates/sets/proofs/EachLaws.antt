@@ -1,0 +1,182 @@
+-- Shapes that are cleaned one after the other.
+use mathlib.Core.Path.{_≡_, refl, sym, _∙_, ap, subst}
+use mathlib.Core.Bool.{Bool, true, false}
+use mathlib.Core.List.{List, [], _∷_, _++_, map}
+use Prim.Native.Nat.{ℕ, zero, suc, _+_, _-_, _≤_, _<_}
+use native.Mathlib.Omega.{arith}
+use native.Mathlib.Numerals.{add-one}
+use lib.IntN.{ℤ}
+use lib.ListN.{length, getD, take, drop, length-append, length-drop, length-set}
+use lib.Seq.{drop-cons, drop-length, getD-drop, getD-take, length-take-le}
+use borrow.Rule.Slice.PartMut.{midOf}
+use Rattle.grid.specs.Domain.{count}
+use Rattle.ring.specs.declared.Rule.{Rule}
+use Rattle.buffer.specs.Spans.{span, spans}
+use Rattle.buffer.specs.Sets.{joined, contour, contours, shapes}
+use Rattle.sets.specs.declared.cleaning.Total.{Total}
+use Rattle.sets.specs.Fates.{Fate, fate}
+use Rattle.sets.specs.Fates.Fate.{stays, gone}
+use Rattle.sets.specs.Inside.{Reached, reached, placing, run, outline, run-shape, Grouped, grouped, adding, added, run-shapes, Room, Named, Addable, Each, first-place}
+use Rattle.sets.proofs.FateLaws.{fate-smaller}
+use Rattle.sets.proofs.PlaceLaws.{joined-more}
+use Rattle.sets.proofs.ShapeLaws.{names-moved}
+use Rattle.sets.proofs.AfterLaws.{All, placing-long, room-next}
+use Rattle.sets.proofs.CleanLaws.{all-named}
+
+pub joined-both : (l k : List (List ℤ)) → length (joined (l ++ k)) ≡ length (joined l) + length (joined k)
+unfolding joined
+joined-both [] k = sym (omega arith)
+joined-both (c ∷ l) k = length-append c (joined (l ++ k)) ∙ omega (arith, joined-both l k, length-append c (joined l))
+
+-- room for the rest, and rows as long as they were
+pub record Leaves (rest : List (List ℤ)) (s t : Reached) : Type 0 where
+  pub room : Room rest (t .place) (t .points) (t .contours)
+  pub points-long : length (t .points) ≡ length (s .points)
+  pub contours-long : length (t .contours) ≡ length (s .contours)
+
+module _ (rule : Rule) (rest : List (List ℤ)) where
+  run-leaves : (l : List (List ℤ)) (s : Reached) → All l → Room (l ++ rest) (s .place) (s .points) (s .contours) → Leaves rest s (run rule l s)
+  unfolding run
+  run-leaves [] s a r = record { room = r; points-long = refl; contours-long = refl }
+  run-leaves (c ∷ l) s a r =
+      let x = run-leaves l (placing (fate rule c) s) (a .1) (room-next rule c (l ++ rest) s (a .0) r) in
+      let b = placing-long c (fate rule c) (fate-smaller rule c (a .0)) s (omega (arith, r .room, joined-more c (l ++ rest))) in
+      record { room = x .room; points-long = x .points-long ∙ b .0; contours-long = x .contours-long ∙ b .1 }
+
+  pub shape-leaves : (l : List (List ℤ)) (s : Reached) → All l → Room (l ++ rest) (s .place) (s .points) (s .contours) → Leaves rest s (run-shape rule l s .reached)
+  unfolding run-shape
+  shape-leaves [] s a r = record { room = r; points-long = refl; contours-long = refl }
+  shape-leaves (c ∷ l) s a r = go (fate rule c) refl
+    where
+      go : (w : Fate) → fate rule c ≡ w → Leaves rest s (outline w rule l s .reached)
+      go (stays d k) e =
+          let x = run-leaves l (placing (fate rule c) s) (a .1) (room-next rule c (l ++ rest) s (a .0) r) in
+          let b = placing-long c (fate rule c) (fate-smaller rule c (a .0)) s (omega (arith, r .room, joined-more c (l ++ rest))) in
+          subst (λ (v : Fate). Leaves rest s (run rule l (placing v s))) e (record { room = x .room; points-long = x .points-long ∙ b .0; contours-long = x .contours-long ∙ b .1 })
+      go (gone k) e =
+          let q : Room (l ++ rest) (placing (gone k) s .place) (s .points) (s .contours) = rw e at (room-next rule c (l ++ rest) s (a .0) r) in
+          let j = joined-both l rest in
+          let m = length-append l rest in
+          record {
+            room = record { room = omega (arith, q .room); space = omega (arith, q .space); narrow = omega (arith, q .narrow); fits = omega (arith, q .fits) };
+            points-long = refl;
+            contours-long = refl;
+          }
+
+module _ {A B : Type 0} (f : A → B) where
+  map-take : (n : ℕ) (l : List A) → map f (take n l) ≡ take n (map f l)
+  map-take zero l = refl
+  map-take (suc n) [] = refl
+  map-take (suc n) (a ∷ l) = ap (λ (k : List B). f a ∷ k) (map-take n l)
+
+  map-drop : (n : ℕ) (l : List A) → map f (drop n l) ≡ drop n (map f l)
+  map-drop zero l = refl
+  map-drop (suc n) [] = refl
+  map-drop (suc n) (a ∷ l) = map-drop n l
+
+-- the contours of the ranges that a shape names
+pub shape-part : (p : List ℤ) (cs : List (List ℕ)) (a k : ℕ) → contours p (spans (midOf a k cs)) ≡ take k (drop a (contours p (spans cs)))
+shape-part p cs a k =
+    ap (contours p) (map-take span k (drop a cs) ∙ ap (take k) (map-drop span a cs))
+    ∙ map-take (contour p) k (drop a (spans cs)) ∙ ap (take k) (map-drop (contour p) a (spans cs))
+
+-- the shapes of the ranges from i on are left
+pub record Grouping (rule : Rule) (p : List ℤ) (cs gs : List (List ℕ)) (out₀ : List ℤ) (records₀ shapes₀ : List (List ℕ)) (at : Total) (out : List ℤ) (records row : List (List ℕ)) (i : ℕ) : Type 0 where
+  pub high : i ≤ length gs
+  pub low : at .shapes ≤ i
+  pub out-long : length out ≡ length out₀
+  pub records-long : length records ≡ length records₀
+  pub shapes-long : length row ≡ length shapes₀
+  pub room : Room (joined (shapes p (spans cs) (spans (drop i gs)))) (at .place) out records
+  pub is : run-shapes rule (shapes p (spans cs) (spans (drop i gs))) (grouped (at .shapes) (reached (at .place) out records) row)
+      ≡ run-shapes rule (shapes p (spans cs) (spans gs)) (grouped 0 (reached first-place out₀ records₀) shapes₀)
+
+adding-reached : (b : Bool) (r : Reached) (s : Grouped) → adding b r s .reached ≡ r
+adding-reached true r s = refl
+adding-reached false r s = refl
+
+adding-few : (b : Bool) (r : Reached) (s : Grouped) → adding b r s .count ≤ s .count + 1
+adding-few true r s = omega arith
+adding-few false r s = omega arith
+
+adding-long : (b : Bool) (r : Reached) (s : Grouped) → length (adding b r s .shapes) ≡ length (s .shapes)
+adding-long true r s = length-set (s .shapes) (s .count) _
+adding-long false r s = refl
+
+pub grouping-none : (rule : Rule) (p : List ℤ) (cs gs : List (List ℕ)) (next prev mark : List ℕ) (out : List ℤ) (records row : List (List ℕ)) → Each p cs gs next prev mark out records row
+    → Grouping rule p cs gs out records row (record { shapes = 0; place = first-place }) out records row 0
+grouping-none rule p cs gs next prev mark out records row e = record { high = omega arith; low = omega arith; out-long = refl; records-long = refl; shapes-long = refl; room = e .room; is = refl }
+
+module _ {rule : Rule} {p : List ℤ} {cs gs : List (List ℕ)} {out₀ : List ℤ} {records₀ shapes₀ : List (List ℕ)} {at : Total} {out : List ℤ} {records row : List (List ℕ)} {i : ℕ}
+    (x : Grouping rule p cs gs out₀ records₀ shapes₀ at out records row i) where
+  module _ {next₀ prev₀ mark₀ : List ℕ} (g : Each p cs gs next₀ prev₀ mark₀ out₀ records₀ shapes₀) (h : i < length gs) where
+    a : ℕ
+    a = span (getD gs i []) .start
+
+    k : ℕ
+    k = span (getD gs i []) .end - span (getD gs i []) .start
+
+    part-named : Named p (midOf a k cs)
+    unfolding a k
+    part-named = record {
+      domain = g .named .domain;
+      names = λ j l.
+          let n = length-take-le k (drop a cs) (omega (arith, g .within i h .0, g .within i h .1, length-drop a cs)) in
+          names-moved p cs (midOf a k cs) (a + j) j (getD-take k (drop a cs) j [] (omega arith) ∙ getD-drop a cs j []) l (g .named .names (a + j) (omega (arith, g .within i h .0, g .within i h .1)));
+    }
+
+    next-is : shapes p (spans cs) (spans (drop i gs)) ≡ contours p (spans (midOf a k cs)) ∷ shapes p (spans cs) (spans (drop (suc i) gs))
+    unfolding a k
+    next-is = ap (λ (l : List (List ℕ)). shapes p (spans cs) (spans l)) (drop-cons gs i [] h) ∙ ap (λ (c : List (List ℤ)). c ∷ shapes p (spans cs) (spans (drop (suc i) gs))) (sym (shape-part p cs a k))
+
+    next-room : Room (contours p (spans (midOf a k cs)) ++ joined (shapes p (spans cs) (spans (drop (suc i) gs)))) (at .place) out records
+    unfolding joined
+    next-room = rw next-is at (x .room)
+
+    pub grouping-addable : (next prev mark : List ℕ) → length next ≡ length next₀ → length prev ≡ length prev₀ → length mark ≡ length mark₀
+        → Addable p (midOf (span (getD gs i []) .start) (span (getD gs i []) .end - span (getD gs i []) .start) cs) at next prev mark out records row
+    unfolding a k
+    grouping-addable next prev mark e f m =
+        let l = contours p (spans (midOf a k cs)) in
+        let rest = joined (shapes p (spans cs) (spans (drop (suc i) gs))) in
+        let r = next-room in
+        let j = joined-both l rest in
+        let n = length-append l rest in
+        record {
+          going = record {
+            named = part-named;
+            scratch = record { in-next = omega (arith, g .scratch .in-next); in-prev = omega (arith, g .scratch .in-prev); in-mark = omega (arith, g .scratch .in-mark) };
+            room = record { room = omega (arith, r .room); space = omega (arith, r .space); narrow = omega (arith, r .narrow); fits = omega (arith, r .fits) };
+          };
+          space = omega (arith, g .space, x .low, x .shapes-long);
+          narrow = omega (arith, g .narrow, x .low);
+        }
+
+    pub grouping-more : (t : Total) (out′ : List ℤ) (records′ row′ : List (List ℕ))
+        → grouped (t .shapes) (reached (t .place) out′ records′) row′ ≡ added (run-shape rule (contours p (spans (midOf (span (getD gs i []) .start) (span (getD gs i []) .end - span (getD gs i []) .start) cs))) (reached (at .place) out records)) (grouped (at .shapes) (reached (at .place) out records) row)
+        → Grouping rule p cs gs out₀ records₀ shapes₀ t out′ records′ row′ (i + 1)
+    unfolding a k run-shapes
+    grouping-more t out′ records′ row′ e =
+        let s = reached (at .place) out records in
+        let l = contours p (spans (midOf a k cs)) in
+        let u = run-shape rule l s in
+        let y = shape-leaves rule (joined (shapes p (spans cs) (spans (drop (suc i) gs)))) l s (all-named p (midOf a k cs) part-named) next-room in
+        let q : reached (t .place) out′ records′ ≡ u .reached = ap (λ (w : Grouped). w .reached) e ∙ adding-reached (u .stands) (u .reached) _ in
+        record {
+          high = omega arith;
+          low = omega (arith, x .low, ap (λ (w : Grouped). w .count) e, adding-few (u .stands) (u .reached) (grouped (at .shapes) s row));
+          out-long = ap (λ (w : Reached). length (w .points)) q ∙ y .points-long ∙ x .out-long;
+          records-long = ap (λ (w : Reached). length (w .contours)) q ∙ y .contours-long ∙ x .records-long;
+          shapes-long = ap (λ (w : Grouped). length (w .shapes)) e ∙ adding-long (u .stands) (u .reached) (grouped (at .shapes) s row) ∙ x .shapes-long;
+          room = rw (add-one i) (rw (sym q) at (leaves-room y));
+          is = rw (add-one i) (ap (run-shapes rule (shapes p (spans cs) (spans (drop (suc i) gs)))) e ∙ ap (λ (l : List (List (List ℤ))). run-shapes rule l (grouped (at .shapes) s row)) (sym next-is) ∙ x .is);
+        }
+      where
+        leaves-room : {rest : List (List ℤ)} {s t : Reached} → Leaves rest s t → Room rest (t .place) (t .points) (t .contours)
+        leaves-room y = y .room
+
+  pub grouping-all : length gs ≤ i → grouped (at .shapes) (reached (at .place) out records) row ≡ run-shapes rule (shapes p (spans cs) (spans gs)) (grouped 0 (reached first-place out₀ records₀) shapes₀)
+  unfolding run-shapes
+  grouping-all h =
+      let e : i ≡ length gs = omega (arith, x .high) in
+      ap (λ (l : List (List ℕ)). run-shapes rule (shapes p (spans cs) (spans l)) (grouped (at .shapes) (reached (at .place) out records) row)) (sym (ap (λ (k : ℕ). drop k gs) e ∙ drop-length gs)) ∙ x .is

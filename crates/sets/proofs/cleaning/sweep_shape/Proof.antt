@@ -1,0 +1,61 @@
+-- `sets::cleaning::sweep_shape` meets its contract: what is cleaned stands, and the scratch is zeroed.
+use borrow.Author.Needs.{needs}
+use mathlib.Core.Path.{_∙_, ap}
+use Prim.Native.Nat.{ℕ}
+use lib.ListN.{replicate}
+use Rattle.sets.proofs.cleaning.sweep_shape.Statement.{statement}
+use Rattle.sets.proofs.cleaning.sweep_shape.Tie as tie
+
+shape-requires : tie.Need-shape-requires
+shape-requires c κs = search needs
+
+zero-requires : tie.Need-zero-requires
+zero-requires c κs = search needs
+
+zero-requires-2 : tie.Need-zero-requires-2
+zero-requires-2 c κs = search needs
+
+zero-bytes-requires : tie.Need-zero-bytes-requires
+zero-bytes-requires c κs = search needs
+
+same-length : tie.Need-same-length
+same-length c = search needs
+
+same-length-2 : tie.Need-same-length-2
+same-length-2 c = search needs
+
+same-length-3 : tie.Need-same-length-3
+same-length-3 c = search needs
+
+same-length-4 : tie.Need-same-length-4
+same-length-4 c = search needs
+
+same-length-5 : tie.Need-same-length-5
+same-length-5 c = search needs
+
+returns : tie.Need-returns
+returns c =
+    let d = c .before .before .before .before .before .before .before .before .before .before .before .before .before .before .before .before .before .before .before .before in
+    let k = d .shape .kept .1 .1 .1 .1 in (
+      d .shape .ensures,
+      record {
+        next-zero = c .before .before .before .before .before .before .before .before .before .before .zero .ensures ∙ ap (λ (n : ℕ). replicate n 0) (k .0);
+        prev-zero = c .before .before .before .before .before .before .zero2 .ensures ∙ ap (λ (n : ℕ). replicate n 0) (k .1 .0);
+        mark-zero = c .before .before .zero-bytes .ensures ∙ ap (λ (n : ℕ). replicate n 0) (k .1 .1 .0);
+      },
+    )
+
+pub sweep-shape-spec : {M : Type 1} → statement M
+sweep-shape-spec =
+    tie.close
+    (tie.spec
+    shape-requires
+    zero-requires
+    zero-requires-2
+    zero-bytes-requires
+    same-length
+    same-length-2
+    same-length-3
+    same-length-4
+    same-length-5
+    returns)
