@@ -88,7 +88,7 @@ pub packing-then-unpacking-gives-back-every-contour : (set : List (List ℤ)) �
 packing-then-unpacking-gives-back-every-contour set h =
     as-cuts (joined set) (contour-spans set) ∙ ap (map (cut (joined set))) (doubled-laid 0 set h) ∙ laid-cut [] set
 
-points-total : (set : List (List ℤ)) → Even set → length (joined set) ≡ 2 * total (map count set)
+pub points-total : (set : List (List ℤ)) → Even set → length (joined set) ≡ 2 * total (map count set)
 unfolding joined
 points-total [] h = refl
 points-total (c ∷ set) h = length-append c (joined set) ∙ omega (arith, h .0, points-total set (h .1))

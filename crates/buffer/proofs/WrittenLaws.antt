@@ -52,7 +52,7 @@ pub record Written (l : List Rung) (p : List ℤ) (cs ss : List Span) (o : Left)
   pub contours : spans (written-contours o) ≡ cs
   pub shapes : spans (written-shapes o) ≡ ss
 
-rows-front : (l : List Span) (row-out : List (List ℕ)) → spans (take (length l) (front (rows l) row-out)) ≡ l
+pub rows-front : (l : List Span) (row-out : List (List ℕ)) → spans (take (length l) (front (rows l) row-out)) ≡ l
 rows-front l row-out = ap spans (take-at (rows l) _ (length l) (length-map l row)) ∙ spans-rows l
 
 module _ (l : List Rung) (t : T (numbered l)) (p : List ℤ) (cs ss : List Span) (out : List ℤ) (contours shapes : List (List ℕ)) (o : Left) (e : o ≡ stored l p cs ss out contours shapes) where

@@ -17,6 +17,7 @@ use Rattle.sets.specs.Fates.{Fate, fate, Stay, and-later, later, ShapeFa
 use Rattle.sets.specs.Fates.Fate.{stays, gone}
 use Rattle.sets.specs.Fates.ShapeFate.{stands, fallen}
 use Rattle.sets.specs.Inside.{Reached, reached, placing, run, Tested, tested, outline, run-shape, Room}
+use Rattle.sets.specs.Promises.{Contours}
 use Rattle.sets.proofs.FateLaws.{Smaller, fate-smaller}
 use Rattle.sets.proofs.PlaceLaws.{joined-more, room-rest}
 
@@ -76,11 +77,6 @@ after-first c (stays d k) x s room space t =
     (ap (placed (s .place .contours + 1) (rows (laid (s .place .points + count d) (map count (t .contours))))) (set-placed (s .contours) (s .place .contours) _ space)
     ∙ placed-behind (s .contours) (s .place .contours) (_ ∷ []) (rows (laid (s .place .points + count d) (map count (t .contours)))) (s .place .contours + 1) (omega arith) refl)
 
--- contours that are all of the domain
-abbrev pub All : List (List ℤ) → Type 0
-All [] = Unit {0}
-All (c ∷ l) = Contour c (count c) × All l
-
 pub placing-long : (c : List ℤ) (w : Fate) → Smaller c w → (s : Reached) → 2 * s .place .points + length c ≤ length (s .points)
     → (length (placing w s .points) ≡ length (s .points)) × (length (placing w s .contours) ≡ length (s .contours))
 placing-long c (gone k) x s room = (refl, refl)
@@ -98,7 +94,7 @@ module _ (rule : Rule) where
   first-after c l s k r t =
       after-first c (fate rule c) (fate-smaller rule c k) s (omega (arith, r .room, joined-more c l)) (omega (arith, r .space)) t
 
-  pub run-after : (l : List (List ℤ)) (s : Reached) → All l → Room l (s .place) (s .points) (s .contours) → run rule l s ≡ after (later rule l) s
+  pub run-after : (l : List (List ℤ)) (s : Reached) → Contours l → Room l (s .place) (s .points) (s .contours) → run rule l s ≡ after (later rule l) s
   unfolding run later
   run-after [] s a r = after-none s
   run-after (c ∷ l) s a r = run-after l (placing (fate rule c) s) (a .1) (room-next c l s (a .0) r) ∙ first-after c l s (a .0) r (later rule l)
@@ -108,7 +104,7 @@ module _ (rule : Rule) where
   shaped (stands cs k) s = tested true (after (record { contours = cs; decisions = k }) s)
   shaped (fallen k) s = tested false (placing (gone k) s)
 
-  pub shape-after : (l : List (List ℤ)) (s : Reached) → All l → Room l (s .place) (s .points) (s .contours) → run-shape rule l s ≡ shaped (shape-fate rule l) s
+  pub shape-after : (l : List (List ℤ)) (s : Reached) → Contours l → Room l (s .place) (s .points) (s .contours) → run-shape rule l s ≡ shaped (shape-fate rule l) s
   unfolding run-shape shape-fate
   shape-after [] s a r = ap (tested true) (after-none s)
   shape-after (c ∷ l) s a r = go (fate rule c) refl

@@ -30,8 +30,9 @@ use Rattle.sets.specs.Fates.{ShapeFate, shape-fate}
 use Rattle.sets.specs.Fates.ShapeFate.{stands, fallen}
 use Rattle.sets.specs.Outcome.{answer, lent, left, lacking, shape-left, shape-outcome}
 use Rattle.sets.specs.Inside.{reached, Tested, tested, run-shape, first-place, Zeroed, Scratch, Room, Named, Going}
+use Rattle.sets.specs.Promises.{Contours}
 use Rattle.sets.proofs.PlaceLaws.{part-contour}
-use Rattle.sets.proofs.AfterLaws.{All, shaped, shape-after}
+use Rattle.sets.proofs.AfterLaws.{shaped, shape-after}
 
 -- a ladder of which only the number is left, and the rungs below it
 pub told-then : (l b : List Rung) → T (numbered l) → (asked r : ℕ) → asked ≡ first-of l → r ≡ first-of (told asked ++ b) → r ≡ first-of (l ++ b)
@@ -51,11 +52,11 @@ zeroed-back n row row′ h e =
     rw (e, length-take-le n row h, m)
 
 -- contours of ranges that name parts are of the domain
-named-all : (p : List ℤ) (all l : List (List ℕ)) → Named p all → ((k : ℕ) → k < length l → Contour (contour p (span (getD l k []))) (count (contour p (span (getD l k []))))) → All (contours p (spans l))
+named-all : (p : List ℤ) (all l : List (List ℕ)) → Named p all → ((k : ℕ) → k < length l → Contour (contour p (span (getD l k []))) (count (contour p (span (getD l k []))))) → Contours (contours p (spans l))
 named-all p all [] n f = tt
 named-all p all (r ∷ l) n f = (f 0 (omega arith), named-all p all l n (λ k h. f (suc k) (omega arith)))
 
-pub all-named : (p : List ℤ) (cs : List (List ℕ)) → Named p cs → All (contours p (spans cs))
+pub all-named : (p : List ℤ) (cs : List (List ℕ)) → Named p cs → Contours (contours p (spans cs))
 all-named p cs n = named-all p cs cs n (λ k h. part-contour p cs n k h)
 
 module _ (p : List ℤ) (cs : List (List ℕ)) (next prev mark : List ℕ) (out : List ℤ) (records : List (List ℕ)) where

@@ -17,10 +17,11 @@ use Rattle.sets.specs.declared.cleaning.Total.{Total}
 use Rattle.sets.specs.Fates.{Fate, fate}
 use Rattle.sets.specs.Fates.Fate.{stays, gone}
 use Rattle.sets.specs.Inside.{Reached, reached, placing, run, outline, run-shape, Grouped, grouped, adding, added, run-shapes, Room, Named, Addable, Each, first-place}
+use Rattle.sets.specs.Promises.{Contours}
 use Rattle.sets.proofs.FateLaws.{fate-smaller}
 use Rattle.sets.proofs.PlaceLaws.{joined-more}
 use Rattle.sets.proofs.ShapeLaws.{names-moved}
-use Rattle.sets.proofs.AfterLaws.{All, placing-long, room-next}
+use Rattle.sets.proofs.AfterLaws.{placing-long, room-next}
 use Rattle.sets.proofs.CleanLaws.{all-named}
 
 pub joined-both : (l k : List (List ℤ)) → length (joined (l ++ k)) ≡ length (joined l) + length (joined k)
@@ -35,7 +36,7 @@ pub record Leaves (rest : List (List ℤ)) (s t : Reached) : Type 0 where
   pub contours-long : length (t .contours) ≡ length (s .contours)
 
 module _ (rule : Rule) (rest : List (List ℤ)) where
-  run-leaves : (l : List (List ℤ)) (s : Reached) → All l → Room (l ++ rest) (s .place) (s .points) (s .contours) → Leaves rest s (run rule l s)
+  run-leaves : (l : List (List ℤ)) (s : Reached) → Contours l → Room (l ++ rest) (s .place) (s .points) (s .contours) → Leaves rest s (run rule l s)
   unfolding run
   run-leaves [] s a r = record { room = r; points-long = refl; contours-long = refl }
   run-leaves (c ∷ l) s a r =
@@ -43,7 +44,7 @@ module _ (rule : Rule) (rest : List (List ℤ)) where
       let b = placing-long c (fate rule c) (fate-smaller rule c (a .0)) s (omega (arith, r .room, joined-more c (l ++ rest))) in
       record { room = x .room; points-long = x .points-long ∙ b .0; contours-long = x .contours-long ∙ b .1 }
 
-  pub shape-leaves : (l : List (List ℤ)) (s : Reached) → All l → Room (l ++ rest) (s .place) (s .points) (s .contours) → Leaves rest s (run-shape rule l s .reached)
+  pub shape-leaves : (l : List (List ℤ)) (s : Reached) → Contours l → Room (l ++ rest) (s .place) (s .points) (s .contours) → Leaves rest s (run-shape rule l s .reached)
   unfolding run-shape
   shape-leaves [] s a r = record { room = r; points-long = refl; contours-long = refl }
   shape-leaves (c ∷ l) s a r = go (fate rule c) refl

@@ -1,16 +1,19 @@
 -- What a user may count on when shapes are cleaned: areas, order, and sound ranges.
-use mathlib.Core.Path.{_≡_, refl, _∙_, ap, subst}
+use mathlib.Core.Path.{_≡_, refl, _∙_, ap, subst, sym}
 use mathlib.Core.Logic.{⊎-elim}
 use mathlib.Core.Bool.{Bool, true, false}
-use mathlib.Core.List.{List, [], _∷_, _++_}
-use Prim.Native.Nat.{_-_, _*_}
+use mathlib.Core.List.{List, [], _∷_, _++_, map}
+use Prim.Native.Nat.{_-_, _*_, ℕ, zero, suc, _+_}
 use native.Mathlib.Omega.{arith}
-use lib.ListN.{length}
+use lib.ListN.{length, take, drop, length-map}
 use lib.IntN.{ℤ, pos}
+use lib.Seq.{take-append-seam}
 use Rattle.grid.specs.Points.{points}
 use Rattle.grid.specs.Area.{exact}
 use Rattle.grid.specs.Domain.{count, Contour}
 use Rattle.grid.proofs.RowLaws.{points-count}
+use Rattle.grid.specs.Ladder.{first-of}
+use Rattle.grid.proofs.LadderLaws.{cleared}
 use Rattle.area.proofs.Removal.{few-points}
 use Rattle.ring.specs.declared.Rule.{Rule}
 use Rattle.ring.specs.Walk.{Stage}
@@ -23,9 +26,12 @@ use Rattle.clean.specs.Outcome.{walked}
 use Rattle.clean.proofs.RowLaws.{length-chosen}
 use Rattle.clean.proofs.Picked.{points-chosen}
 use Rattle.clean.proofs.Theorems.{kept-area, collapsed-area}
-use Rattle.buffer.specs.Spans.{sound}
-use Rattle.buffer.specs.Sets.{joined, contour-spans, shape-spans, Even}
-use Rattle.buffer.proofs.Theorems.{what-is-packed-is-sound, packed-shapes-are-sound}
+use Rattle.buffer.specs.Spans.{sound, spans, laid}
+use Rattle.buffer.specs.Sets.{joined, contour-spans, shape-spans, Even, contours}
+use Rattle.buffer.proofs.Theorems.{what-is-packed-is-sound, packed-shapes-are-sound, packing-then-unpacking-gives-back-every-contour, points-total}
+use Rattle.buffer.specs.Contours.{refusals}
+use Rattle.buffer.proofs.RefusalLaws.{accepted}
+use Rattle.buffer.proofs.WrittenLaws.{rows-front}
 use Rattle.sets.specs.Fates.{Fate, walk-fate, fate, and-later, later, ShapeFate, behind, shape-fate, and-others, shapes-fate}
 use Rattle.sets.specs.Fates.Fate.{stays, gone}
 use Rattle.sets.specs.Fates.ShapeFate.{stands, fallen}
@@ -33,6 +39,12 @@ use Rattle.sets.specs.Promises.{Contours, AllContours, Follow, ShapesFol
 use Rattle.sets.specs.Promises.Follow.{no-more, same-area, no-area}
 use Rattle.sets.specs.Promises.ShapesFollow.{no-shapes, falls, stands as shape-stands}
 use Rattle.sets.specs.Verdicts.{passes}
+use Rattle.sets.specs.Outcome.{Lent, Left, lacking, shape-left, shape-outcome}
+use Rattle.sets.proofs.PartLaws.{part-named}
+use Rattle.sets.proofs.CleanLaws.{all-named}
+
+points-even : (t : List (List ℤ)) → Even t → length (joined t) ≡ 2 * count (joined t)
+points-even t h = omega (arith, points-total t h)
 
 -- what becomes of a contour of the domain: it stays with its exact doubled area, or had none
 abbrev pub Right : List ℤ → Fate → Type 0
@@ -116,3 +128,44 @@ module _ (rule : Rule) where
 
   pub the-shape-ranges-written-are-sound : (set : List (List (List ℤ))) → sound (shape-spans (shapes-fate rule set .shapes)) (length (joined (shapes-fate rule set .shapes))) ≡ true
   the-shape-ranges-written-are-sound set = packed-shapes-are-sound (shapes-fate rule set .shapes)
+
+-- the contours of a set that no call refuses are of the domain
+pub contours-of-a-set : (p : List ℤ) (cs : List (List ℕ)) → first-of (refusals p cs) ≡ 0 → Contours (contours p (spans cs))
+contours-of-a-set p cs z =
+    let a = accepted p (sound (spans cs) (count p)) z in
+    all-named p cs (record { domain = record { even = a .even; few = a .few; on = a .on }; names = λ k h. part-named p cs k z h })
+
+spans-count : (p : ℕ) (sizes : List ℕ) → length (laid p sizes) ≡ length sizes
+unfolding laid
+spans-count p [] = refl
+spans-count p (n ∷ sizes) = ap suc (spans-count (p + n) sizes)
+
+-- A shape that was cleaned and kept; o is whatever the contract allows.
+module _ (rule : Rule) (p : List ℤ) (cs : List (List ℕ)) (l : Lent) (o : Left) (is : o ≡ shape-outcome rule p cs l) (ok : o .answer .reply ≡ 0) where
+  -- the contours that were written, unpacked
+  abbrev pub kept-contours : List (List ℤ)
+  kept-contours = contours (take (2 * o .answer .points) (o .rows .points)) (spans (take (o .answer .contours) (o .rows .contours)))
+
+  unpacked : (t : List (List ℤ)) (k : ℕ) → Even t → o ≡ shape-left (count p) (stands t k) l → kept-contours ≡ t
+  unpacked t k h e =
+      let n : length (contour-spans t) ≡ length t = spans-count 0 (map count t) ∙ length-map t count in
+      let a = what-is-packed-is-sound t h in
+      let even : 2 * count (joined t) ≡ length (joined t) = omega (arith, points-even t h) in
+      rw (e, even, ← n, take-append-seam (joined t) (drop (length (joined t)) (l .points)), rows-front (contour-spans t) (l .contours))
+      (packing-then-unpacking-gives-back-every-contour t h)
+
+  -- they follow those of the shape: in order, with the same exact areas, and what is missing had none
+  pub a-cleaned-shape-follows : Follow (contours p (spans cs)) kept-contours
+  unfolding shape-outcome
+  a-cleaned-shape-follows = go (first-of (refusals p cs ++ lacking p cs [] l)) refl
+    where
+      shape : (f : ShapeFate) → ShapeRight rule (contours p (spans cs)) f → o ≡ shape-left (count p) f l → Follow (contours p (spans cs)) kept-contours
+      shape (fallen k) r e = let z : _≡_ {A = ℕ} 7 0 = sym (ap (λ (w : Left). w .answer .reply) e) ∙ ok in absurd (omega arith)
+      shape (stands t k) r e = subst (Follow (contours p (spans cs))) (sym (unpacked t k (r .1) e)) (r .0)
+
+      go : (r : ℕ) → first-of (refusals p cs ++ lacking p cs [] l) ≡ r → Follow (contours p (spans cs)) kept-contours
+      go (suc k) e = let z : _≡_ {A = ℕ} (suc k) 0 = sym (ap (λ (w : Left). w .answer .reply) is ∙ rw (e, shape-outcome)) ∙ ok in absurd (omega arith)
+      go zero e =
+          shape (shape-fate rule (contours p (spans cs)))
+          (shape-is-right rule (contours p (spans cs)) (contours-of-a-set p cs (cleared (refusals p cs) (lacking p cs [] l) tt e .0)))
+          (is ∙ rw (e, shape-outcome))
