@@ -1,0 +1,269 @@
+-- Reading by bits is reading by bytes, and so is writing.
+use mathlib.Core.Path.{_≡_, refl, sym, _∙_, ap, ap₂}
+use mathlib.Core.Bool.{Bool, true, false}
+use mathlib.Core.List.{List, [], _∷_, _++_, map}
+use Prim.Native.Nat.{ℕ, zero, suc, _+_, _*_, _/_, _%_, _^_, _<_, _≤_}
+use native.Mathlib.Nat.{mod-lt}
+use native.Mathlib.Omega.{arith}
+use lib.Dec.{eqb, ltb}
+use lib.ListN.{length, take, drop, length-drop, length-append}
+use lib.Seq.{take-add, take-take, drop-at, length-take-le, getD-drop}
+use lib.Pow.{mod-pow-add}
+use lib.IntN.{ℤ}
+use mir.Syntax.{w32}
+use mir.Val.{toZ, ofZ}
+use borrow.Author.Tests.{ltb-true, ltb-false, lt-ltb, le-ltb, leb-true, leb-false, eq-eqb, ne-eqb}
+use Rattle.grid.specs.Ladder.{first-of}
+use Rattle.grid.specs.Domain.{count}
+use Rattle.buffer.specs.Spans.{total}
+use Rattle.buffer.specs.Sets.{joined, Even}
+use Rattle.grid.proofs.LadderLaws.{clear}
+use Rattle.setfile.specs.Bits.{digit, value, field, bits}
+use Rattle.setfile.specs.Format.{Entry, entry, Parsed, and-then, coordinates, begins, points-in, contour-damage, contours-in, head-damage, parsed, contours-of, coordinate, contour-bits, file-bits, file-length, file}
+use Rattle.setfile.specs.Format.Parsed.{damaged}
+use Rattle.setfile.specs.Inside.{Bytes, pair, quad, places, starts, held, fault, walk, head-fault, walked, two, four, coded-places, coded-contour, coded-contours, coded}
+use Rattle.setfile.specs.Writing.{most-points}
+use Rattle.setfile.specs.Promises.{Short, Small}
+use Rattle.setfile.proofs.BitLaws.{value-front, value-back, value-byte, bits-length, bits-taken, bits-dropped, bits-append, field-value, field-append, field-joined, bytes-bits}
+
+pub dropped : (k : ℕ) (f : List ℕ) → Bytes f → Bytes (drop k f)
+dropped k f h i l = rw (getD-drop k f i 0) (h (k + i) (omega (arith, length-drop k f)))
+
+ltb-eight : (a b : ℕ) → ltb (8 * a) (8 * b) ≡ ltb a b
+ltb-eight a b = go (ltb a b) refl
+  where
+    go : (t : Bool) → ltb a b ≡ t → ltb (8 * a) (8 * b) ≡ t
+    go true e = lt-ltb (8 * a) (8 * b) (omega (arith, ltb-true a b e))
+    go false e = le-ltb (8 * a) (8 * b) (omega (arith, ltb-false a b e))
+
+shorter : (f : List ℕ) (n m : ℕ) → m ≡ 8 * n → ltb (length (bits f)) m ≡ ltb (length f) n
+shorter f n m e = rw (bits-length f, e) (ltb-eight (length f) n)
+
+none-left : (f : List ℕ) → eqb (length (bits f)) 0 ≡ eqb (length f) 0
+none-left f = rw (bits-length f) (go (length f))
+  where
+    go : (n : ℕ) → eqb (8 * n) 0 ≡ eqb n 0
+    go zero = refl
+    go (suc n) = ne-eqb (8 * suc n) 0 (λ z. omega arith) ∙ sym (ne-eqb (suc n) 0 (λ z. omega arith))
+
+pair-value : (f : List ℕ) → Bytes f → 2 ≤ length f → value (take 16 (bits f)) ≡ pair f
+unfolding value bits
+pair-value [] h e = absurd (omega arith)
+pair-value (a ∷ []) h e = absurd (omega arith)
+pair-value (a ∷ b ∷ f) h e =
+    ap value (bits-taken 2 (a ∷ b ∷ f))
+    ∙ value-byte a (b ∷ []) (h 0 (omega arith))
+    ∙ ap (λ (n : ℕ). a * 256 + n) (value-byte b [] (h 1 (omega arith)))
+    ∙ omega arith
+
+quad-value : (f : List ℕ) → Bytes f → 4 ≤ length f → value (take 32 (bits f)) ≡ quad f
+unfolding value bits
+quad-value [] h e = absurd (omega arith)
+quad-value (a ∷ []) h e = absurd (omega arith)
+quad-value (a ∷ b ∷ []) h e = absurd (omega arith)
+quad-value (a ∷ b ∷ c ∷ []) h e = absurd (omega arith)
+quad-value (a ∷ b ∷ c ∷ d ∷ f) h e =
+    ap value (bits-taken 4 (a ∷ b ∷ c ∷ d ∷ f))
+    ∙ omega (
+      arith,
+      value-byte a (b ∷ c ∷ d ∷ []) (h 0 (omega arith)),
+      value-byte b (c ∷ d ∷ []) (h 1 (omega arith)),
+      value-byte c (d ∷ []) (h 2 (omega arith)),
+      value-byte d [] (h 3 (omega arith)),
+    )
+
+pub pair-below : (f : List ℕ) → Bytes f → 2 ≤ length f → pair f < 65536
+pair-below f h e = omega (arith, h 0 (omega arith), h 1 (omega arith))
+
+-- the number in the first two bytes, read as a high part and k low bits
+module _ (f : List ℕ) (h : Bytes f) (e : 2 ≤ length f) (j k : ℕ) (s : 16 ≡ j + k) where
+  sixteen : length (take 16 (bits f)) ≡ j + k
+  sixteen = length-take-le 16 (bits f) (omega (arith, bits-length f)) ∙ s
+
+  high-bits : value (take j (bits f)) ≡ pair f / 2 ^ k
+  high-bits =
+      ap value (sym (take-take j 16 (bits f) (omega arith))) ∙ value-front (take 16 (bits f)) j k sixteen ∙ ap (λ (n : ℕ). n / 2 ^ k) (pair-value f h e)
+
+  low-bits : value (take k (drop j (bits f))) ≡ pair f % 2 ^ k
+  low-bits =
+      let cut : take 16 (bits f) ≡ take j (bits f) ++ take k (drop j (bits f)) = rw s (take-add j k (bits f)) in
+      ap value (sym (ap (drop j) cut ∙ drop-at (take j (bits f)) _ j (length-take-le j (bits f) (omega (arith, bits-length f)))))
+      ∙ value-back (take 16 (bits f)) j k sixteen ∙ ap (λ (n : ℕ). n % 2 ^ k) (pair-value f h e)
+
+module _ (f : List ℕ) (h : Bytes f) (e : 2 ≤ length f) where
+  begins-starts : begins (bits f) ≡ starts f
+  begins-starts = rw (high-bits f h e 1 15 refl) (go (starts f) refl)
+    where
+      go : (t : Bool) → starts f ≡ t → eqb (pair f / 32768) 1 ≡ t
+      go true g = eq-eqb (pair f / 32768) 1 (omega (arith, leb-true 32768 (pair f) g, pair-below f h e))
+      go false g = ne-eqb (pair f / 32768) 1 (λ z. omega (arith, leb-false 32768 (pair f) g))
+
+  points-held : points-in (bits f) ≡ held f
+  points-held = low-bits f h e 1 15 refl
+
+damage-fault : (first : Bool) (f : List ℕ) → Bytes f → contour-damage first (bits f) ≡ fault first f
+unfolding first-of
+damage-fault first f h = go (ltb (length f) 2) refl
+  where
+    go : (t : Bool) → ltb (length f) 2 ≡ t → contour-damage first (bits f) ≡ fault first f
+    go true g = rw (shorter f 2 16 refl, g)
+    go false g =
+        let e = ltb-false (length f) 2 g in
+        rw (begins-starts f h e, points-held f h e, shorter f 2 16 refl, shorter f (2 + 8 * held f) (16 + 64 * held f) (omega arith))
+
+places-read : (k : ℕ) (f : List ℕ) → Bytes f → 4 * k ≤ length f → coordinates k (bits f) ≡ places k f
+unfolding coordinates places
+places-read zero f h e = refl
+places-read (suc k) f h e =
+    ap₂ (λ (z : ℤ) (l : List ℤ). z ∷ l)
+    (ap (toZ w32) (quad-value f h (omega arith)))
+    (ap (coordinates k) (bits-dropped 4 f) ∙ places-read k (drop 4 f) (dropped 4 f h) (omega (arith, length-drop 4 f)))
+
+-- what is read where nothing is wrong
+same-unless : (r : ℕ) (a b : Parsed) → (r ≡ 0 → a ≡ b) → _≡_ {A = Parsed} (elim r [ suc k ↦ damaged (suc k) | zero ↦ a ]) (elim r [ suc k ↦ damaged (suc k) | zero ↦ b ])
+same-unless zero a b f = f refl
+same-unless (suc r) a b f = refl
+
+contours-walked : (k : ℕ) (first : Bool) (f : List ℕ) → Bytes f → contours-in k first (bits f) ≡ walk k first f
+unfolding contours-in walk
+contours-walked zero first f h = rw (none-left f, contours-in, walk)
+contours-walked (suc k) first f h =
+    rw (damage-fault first f h, contours-in, walk)
+    (same-unless (fault first f) _ _
+    (λ z.
+    let c = clear _ tt z in
+    let e = ltb-false (length f) 2 (c .0) in
+    let n : 2 + 8 * held f ≤ length f = ltb-false (length f) (2 + 8 * held f) (c .1 .1 .0) in
+    rw (begins-starts f h e, points-held f h e)
+    (ap₂ (λ (l : List ℤ) (p : Parsed). and-then (entry (starts f) l) p)
+    (ap (coordinates (2 * held f)) (bits-dropped 2 f) ∙ places-read (2 * held f) (drop 2 f) (dropped 2 f h) (omega (arith, length-drop 2 f)))
+    (ap (contours-in k false) (rw (bits-eight (held f)) (bits-dropped (2 + 8 * held f) f)) ∙ contours-walked k false (drop (2 + 8 * held f) f) (dropped (2 + 8 * held f) f h)))))
+  where
+    bits-eight : (n : ℕ) → 16 + 64 * n ≡ 8 * (2 + 8 * n)
+    bits-eight n = omega arith
+
+head-same : (f : List ℕ) → Bytes f → head-damage f ≡ head-fault f
+unfolding first-of
+head-same f h = go (ltb (length f) 2) refl
+  where
+    go : (t : Bool) → ltb (length f) 2 ≡ t → head-damage f ≡ head-fault f
+    go true g = rw g
+    go false g = rw (high-bits f h (ltb-false (length f) 2 g) 4 12 refl)
+
+pub parsed-by-bytes : (f : List ℕ) → Bytes f → parsed f ≡ walked f
+unfolding parsed walked
+parsed-by-bytes f h =
+    rw (head-same f h, parsed, walked)
+    (same-unless (head-fault f) _ _
+    (λ z.
+    let e = ltb-false (length f) 2 (clear _ tt z .0) in
+    rw (low-bits f h e 4 12 refl, bits-dropped 2 f) (contours-walked (pair f % 4096) true (drop 2 f) (dropped 2 f h))))
+
+-- what is written is bytes
+no-bytes : Bytes []
+no-bytes i h = absurd (omega arith)
+
+one-more : (b : ℕ) (f : List ℕ) → b < 256 → Bytes f → Bytes (b ∷ f)
+one-more b f e h zero l = e
+one-more b f e h (suc i) l = h i (omega arith)
+
+both-bytes : (f g : List ℕ) → Bytes f → Bytes g → Bytes (f ++ g)
+both-bytes [] g h k = k
+both-bytes (b ∷ f) g h k = one-more b (f ++ g) (h 0 (omega arith)) (both-bytes f g (λ i l. h (suc i) (omega arith)) k)
+
+byte : (n : ℕ) → n % 256 < 256
+byte n = mod-lt n (omega arith)
+
+two-bytes : (n : ℕ) → Bytes (two n)
+two-bytes n = one-more (n / 256 % 256) (n % 256 ∷ []) (byte (n / 256)) (one-more (n % 256) [] (byte n) no-bytes)
+
+four-bytes : (n : ℕ) → Bytes (four n)
+four-bytes n =
+    one-more (n / 16777216 % 256) (n / 65536 % 256 ∷ two n) (byte (n / 16777216)) (one-more (n / 65536 % 256) (two n) (byte (n / 65536)) (two-bytes n))
+
+four-is : (n : ℕ) → four n ≡ two (n / 65536) ++ two n
+four-is n =
+    let e : n / 16777216 ≡ n / 65536 / 256 = omega arith in
+    ap (λ (m : ℕ). m % 256 ∷ n / 65536 % 256 ∷ n / 256 % 256 ∷ n % 256 ∷ []) e
+
+places-bytes : (c : List ℤ) → Bytes (coded-places c)
+unfolding joined
+places-bytes [] = no-bytes
+places-bytes (z ∷ c) = both-bytes (four (ofZ w32 z)) (coded-places c) (four-bytes (ofZ w32 z)) (places-bytes c)
+
+contours-bytes : (l : List Entry) → Bytes (coded-contours l)
+unfolding joined
+contours-bytes [] = no-bytes
+contours-bytes (e ∷ l) =
+    let n : ℕ = digit (e .begins) * 32768 + count (e .points) in
+    both-bytes (coded-contour e) (coded-contours l) (both-bytes (two n) (coded-places (e .points)) (two-bytes n) (places-bytes (e .points))) (contours-bytes l)
+
+pub coded-bytes : (l : List Entry) → Bytes (coded l)
+coded-bytes l = both-bytes (two (4096 + length l)) (coded-contours l) (two-bytes (4096 + length l)) (contours-bytes l)
+
+-- and as many as the format says
+pub places-length : (c : List ℤ) → length (coded-places c) ≡ 4 * length c
+unfolding joined
+places-length [] = refl
+places-length (z ∷ c) = omega (arith, places-length c)
+
+contours-length : (l : List Entry) → Even (contours-of l) → length (coded-contours l) ≡ 2 * length l + 8 * total (map count (contours-of l))
+unfolding joined
+contours-length [] h = refl
+contours-length (e ∷ l) h =
+    length-append (coded-contour e) (coded-contours l) ∙ omega (arith, h .0, places-length (e .points), contours-length l (h .1))
+
+pub coded-length : (l : List Entry) → Even (contours-of l) → length (coded l) ≡ file-length (length l) (total (map count (contours-of l)))
+coded-length l h = omega (arith, contours-length l h)
+
+-- the bits of what is written
+two-bits : (n : ℕ) → bits (two n) ≡ field 16 n
+unfolding value bits
+two-bits n =
+    sym
+    (field-value (bits (two n)) 16 n (bits-length (two n))
+    (value-byte (n / 256 % 256) (n % 256 ∷ []) (byte (n / 256))
+    ∙ ap (λ (m : ℕ). n / 256 % 256 * 256 + m) (value-byte (n % 256) [] (byte n))
+    ∙ omega (arith, mod-pow-add n 8 8)))
+
+four-bits : (n : ℕ) → bits (four n) ≡ field 32 n
+four-bits n =
+    ap bits (four-is n) ∙ bits-append (two (n / 65536)) (two n)
+    ∙ ap₂ (λ (a b : List Bool). a ++ b) (two-bits (n / 65536)) (two-bits n) ∙ field-append 16 16 n
+
+places-bits : (c : List ℤ) → bits (coded-places c) ≡ joined (map coordinate c)
+unfolding joined bits
+places-bits [] = refl
+places-bits (z ∷ c) =
+    bits-append (four (ofZ w32 z)) (coded-places c) ∙ ap₂ (λ (a b : List Bool). a ++ b) (four-bits (ofZ w32 z)) (places-bits c)
+
+one-bit : (b : Bool) → field 1 (digit b) ≡ b ∷ []
+unfolding field
+one-bit true = refl
+one-bit false = refl
+
+contour-bits-are : (e : Entry) → count (e .points) ≤ most-points → bits (coded-contour e) ≡ contour-bits e
+contour-bits-are e h =
+    let n : ℕ = count (e .points) in
+    bits-append (two (digit (e .begins) * 32768 + n)) (coded-places (e .points))
+    ∙ ap₂ (λ (a b : List Bool). a ++ b)
+    (two-bits (digit (e .begins) * 32768 + n) ∙ sym (field-joined 1 15 (digit (e .begins)) n (omega arith))
+    ∙ ap (λ (a : List Bool). a ++ field 15 n) (one-bit (e .begins)))
+    (places-bits (e .points))
+
+contours-bits-are : (l : List Entry) → Short (contours-of l) → bits (coded-contours l) ≡ joined (map contour-bits l)
+unfolding joined bits
+contours-bits-are [] h = refl
+contours-bits-are (e ∷ l) h =
+    bits-append (coded-contour e) (coded-contours l) ∙ ap₂ (λ (a b : List Bool). a ++ b) (contour-bits-are e (h .0)) (contours-bits-are l (h .1))
+
+coded-bits : (l : List Entry) → Small l → bits (coded l) ≡ file-bits l
+coded-bits l h =
+    bits-append (two (4096 + length l)) (coded-contours l)
+    ∙ ap₂ (λ (a b : List Bool). a ++ b)
+    (two-bits (4096 + length l) ∙ sym (field-joined 4 12 1 (length l) (omega (arith, h .few))))
+    (contours-bits-are l (h .short))
+
+pub file-by-bytes : (l : List Entry) → Small l → file l ≡ coded l
+unfolding file
+file-by-bytes l h = rw (← coded-bits l h, ← coded-length l (h .even)) (bytes-bits (coded l) (coded-bytes l))

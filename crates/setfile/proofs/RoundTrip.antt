@@ -1,0 +1,349 @@
+-- What is written is read, and what is read was written.
+use mathlib.Core.Path.{_≡_, refl, sym, _∙_, ap, ap₂}
+use mathlib.Core.Bool.{Bool, true, false, not, _&&_, true≢false}
+use mathlib.Core.List.{List, [], _∷_, _++_}
+use Prim.Native.Nat.{ℕ, zero, suc, _+_, _*_, _/_, _%_, _<_, _≤_}
+use native.Mathlib.Omega.{arith}
+use lib.Dec.{eqb, ltb, leb}
+use lib.ListN.{length, take, drop, length-drop, length-append, take-append-drop}
+use lib.Seq.{take-add, drop-at}
+use lib.IntN.{ℤ}
+use lib.Pow.{mod-pow-add, recompose}
+use mir.Syntax.{w32}
+use mir.Val.{SFits, toZ, ofZ}
+use mir.Facts.{toZ-ofZ, ofZ-toZ, fits-ofZ, sfits-toZ}
+use borrow.Author.Tests.{ltb-false, le-ltb, leb-true, leb-false, le-leb, lt-leb, eqb-true, eq-eqb, not-false}
+use Rattle.grid.specs.Ladder.{first-of}
+use Rattle.grid.specs.Domain.{count}
+use Rattle.grid.proofs.LadderLaws.{clear}
+use Rattle.buffer.specs.Sets.{joined, Even}
+use Rattle.setfile.specs.Bits.{digit, value, bits}
+use Rattle.setfile.specs.Format.{Entry, entry, contours-of, Parsed, and-then, coordinates, begins, points-in, contour-damage, contours-in, head-damage, parsed, damage, file, read-contours}
+use Rattle.setfile.specs.Format.Parsed.{carries, damaged}
+use Rattle.setfile.specs.Inside.{Bytes, pair, quad, places, starts, held, fault, walk, head-fault, walked, two, four, coded-places, coded-contour, coded-contours, coded}
+use Rattle.setfile.specs.Writing.{most-contours, most-points}
+use Rattle.setfile.specs.Promises.{Each, Short, Started, Carried}
+use Rattle.setfile.proofs.ByteLaws.{dropped, pair-below, places-length, coded-bytes, parsed-by-bytes, file-by-bytes}
+
+-- a number in two bytes, or in four, and back
+pair-two : (n : ℕ) (f : List ℕ) → n < 65536 → pair (two n ++ f) ≡ n
+pair-two n f h = omega arith
+
+quad-four : (n : ℕ) (f : List ℕ) → n < 4294967296 → quad (four n ++ f) ≡ n
+quad-four n f h =
+    let a : n / 16777216 ≡ n / 65536 / 256 = omega arith in
+    omega (arith, ap (λ (m : ℕ). m % 256) a, mod-pow-add (n / 65536) 8 8, mod-pow-add n 8 8, recompose {n = n} 16 16 h)
+
+-- reading on, where nothing is wrong
+walk-on : (k : ℕ) (first : Bool) (f : List ℕ) → fault first f ≡ 0
+    → walk (suc k) first f ≡ and-then (entry (starts f) (places (2 * held f) (drop 2 f))) (walk k false (drop (2 + 8 * held f) f))
+unfolding walk
+walk-on k first f e = rw (e, walk)
+
+walked-on : (f : List ℕ) → head-fault f ≡ 0 → walked f ≡ walk (pair f % 4096) true (drop 2 f)
+unfolding walked
+walked-on f e = rw (e, walked)
+
+-- coordinates that were written are read
+places-back : (c : List ℤ) (f : List ℕ) → Each (SFits w32) c → places (length c) (coded-places c ++ f) ≡ c
+unfolding places joined
+places-back [] f h = refl
+places-back (z ∷ c) f h =
+    let n : ofZ w32 z < 4294967296 = fits-ofZ (h .0) .fits in
+    ap₂ (λ (a : ℤ) (l : List ℤ). a ∷ l)
+    (ap (toZ w32) (quad-four (ofZ w32 z) (coded-places c ++ f) n) ∙ toZ-ofZ (h .0))
+    (places-back c f (h .1))
+
+starts-two : (b : Bool) (n : ℕ) (f : List ℕ) → n ≤ most-points → starts (two (digit b * 32768 + n) ++ f) ≡ b
+starts-two true n f h = ap (leb 32768) (pair-two (1 * 32768 + n) f (omega arith)) ∙ le-leb 32768 (1 * 32768 + n) (omega arith)
+starts-two false n f h = ap (leb 32768) (pair-two (0 * 32768 + n) f (omega arith)) ∙ lt-leb 32768 (0 * 32768 + n) (omega arith)
+
+held-two : (b : Bool) (n : ℕ) (f : List ℕ) → n ≤ most-points → held (two (digit b * 32768 + n) ++ f) ≡ n
+held-two true n f h = omega (arith, pair-two (1 * 32768 + n) f (omega arith))
+held-two false n f h = omega (arith, pair-two (0 * 32768 + n) f (omega arith))
+
+begun : (first b : Bool) → (first ≡ true → b ≡ true) → (first && not b) ≡ false
+begun true b h = rw (h refl)
+begun false b h = refl
+
+never-first : (l : List Entry) → false ≡ true → Started l
+never-first l e = absurd (true≢false (sym e))
+
+-- one contour that was written, in front of more
+module _ (e : Entry) (more : List ℕ) (first : Bool) (even : length (e .points) ≡ 2 * count (e .points)) (short : count (e .points) ≤ most-points) where
+  abbrev whole : List ℕ
+  whole = coded-contour e ++ more
+
+  starts-back : starts whole ≡ e .begins
+  starts-back = starts-two (e .begins) (count (e .points)) (coded-places (e .points) ++ more) short
+
+  held-back : held whole ≡ count (e .points)
+  held-back = held-two (e .begins) (count (e .points)) (coded-places (e .points) ++ more) short
+
+  no-fault : (first ≡ true → e .begins ≡ true) → fault first whole ≡ 0
+  unfolding first-of
+  no-fault h =
+      let n : length (coded-places (e .points) ++ more) ≡ length (coded-places (e .points)) + length more = length-append (coded-places (e .points)) more in
+      let a : ltb (length whole) 2 ≡ false = le-ltb (length whole) 2 (omega arith) in
+      let b : ltb (length whole) (2 + 8 * held whole) ≡ false = le-ltb (length whole) (2 + 8 * held whole) (omega (arith, held-back, places-length (e .points))) in
+      rw (a, starts-back, b, begun first (e .begins) h)
+
+  points-back : Each (SFits w32) (e .points) → places (2 * held whole) (drop 2 whole) ≡ e .points
+  points-back h =
+      let n : 2 * held whole ≡ length (e .points) = omega (arith, held-back) in
+      ap (λ (k : ℕ). places k (drop 2 whole)) n ∙ places-back (e .points) more h
+
+  rest-back : drop (2 + 8 * held whole) whole ≡ more
+  rest-back = drop-at (coded-contour e) more (2 + 8 * held whole) (omega (arith, held-back, places-length (e .points)))
+
+-- contours that were written are read
+contours-back : (l : List Entry) (first : Bool) → Even (contours-of l) → Short (contours-of l) → (first ≡ true → Started l) → Each (Each (SFits w32)) (contours-of l)
+    → walk (length l) first (coded-contours l) ≡ carries l
+unfolding walk joined
+contours-back [] first a b s h = refl
+contours-back (e ∷ l) first a b s h =
+    let more : List ℕ = coded-contours l in
+    walk-on (length l) first (coded-contour e ++ more) (no-fault e more first (a .0) (b .0) s)
+    ∙ ap₂ and-then
+    (ap₂ entry (starts-back e more first (a .0) (b .0)) (points-back e more first (a .0) (b .0) (h .0)))
+    (ap (walk (length l) false) (rest-back e more first (a .0) (b .0)) ∙ contours-back l false (a .1) (b .1) (never-first l) (h .1))
+
+coded-back : (l : List Entry) → Carried l → walked (coded l) ≡ carries l
+unfolding first-of
+coded-back l h =
+    let n : length l ≤ most-contours = h .small .few in
+    let p : pair (coded l) ≡ 4096 + length l = pair-two (4096 + length l) (coded-contours l) (omega arith) in
+    let d : pair (coded l) / 4096 ≡ 1 = omega arith in
+    let c : pair (coded l) % 4096 ≡ length l = omega arith in
+    walked-on (coded l) (rw (le-ltb (length (coded l)) 2 (omega arith), eq-eqb (pair (coded l) / 4096) 1 d))
+    ∙ ap (λ (k : ℕ). walk k true (coded-contours l)) c
+    ∙ contours-back l true (h .small .even) (h .small .short) (λ z. h .started) (h .fitting)
+
+pub read-back : (l : List Entry) → Carried l → parsed (file l) ≡ carries l
+read-back l h = ap parsed (file-by-bytes l (h .small)) ∙ parsed-by-bytes (coded l) (coded-bytes l) ∙ coded-back l h
+
+-- a contour in front of others, where contours are read
+record Read (e : Entry) (rest : Parsed) (l : List Entry) : Type 0 where
+  others : List Entry
+  there : rest ≡ carries others
+  is : l ≡ e ∷ others
+
+read-next : (e : Entry) (rest : Parsed) (l : List Entry) → and-then e rest ≡ carries l → Read e rest l
+read-next e (carries m) l h = record { others = m; there = refl; is = ap read-contours (sym h) }
+read-next e (damaged r) l h = let z : _≡_ {A = ℕ} 0 1 = cc in absurd (omega arith)
+
+-- nothing is wrong with the contour in front
+record Walked (first : Bool) (f : List ℕ) (k : ℕ) (l : List Entry) : Type 0 where
+  right : fault first f ≡ 0
+  next : Read (entry (starts f) (places (2 * held f) (drop 2 f))) (walk k false (drop (2 + 8 * held f) f)) l
+
+walk-next : (k : ℕ) (first : Bool) (f : List ℕ) (l : List Entry) → walk (suc k) first f ≡ carries l → Walked first f k l
+unfolding walk
+walk-next k first f l h = go (fault first f) refl
+  where
+    go : (r : ℕ) → r ≡ fault first f → Walked first f k l
+    go zero e = record { right = sym e; next = read-next _ _ l (sym (walk-on k first f (sym e)) ∙ h) }
+    go (suc r) e = let b : walk (suc k) first f ≡ damaged (suc r) = rw (← e, walk) in let z : _≡_ {A = ℕ} 0 1 = cc in absurd (omega arith)
+
+places-count : (k : ℕ) (f : List ℕ) → length (places k f) ≡ k
+unfolding places
+places-count zero f = refl
+places-count (suc k) f = ap suc (places-count k (drop 4 f))
+
+two-back : (f : List ℕ) → Bytes f → 2 ≤ length f → two (pair f) ≡ take 2 f
+two-back [] h e = absurd (omega arith)
+two-back (a ∷ []) h e = absurd (omega arith)
+two-back (a ∷ b ∷ f) h e =
+    let i = h 0 (omega arith) in
+    let j = h 1 (omega arith) in
+    ap₂ (λ (m n : ℕ). m ∷ n ∷ []) (omega (arith, i, j)) (omega (arith, i, j))
+
+quad-below : (f : List ℕ) → Bytes f → 4 ≤ length f → quad f < 4294967296
+quad-below f h e = omega (arith, h 0 (omega arith), h 1 (omega arith), h 2 (omega arith), h 3 (omega arith))
+
+four-back : (f : List ℕ) → Bytes f → 4 ≤ length f → four (quad f) ≡ take 4 f
+four-back [] h e = absurd (omega arith)
+four-back (a ∷ []) h e = absurd (omega arith)
+four-back (a ∷ b ∷ []) h e = absurd (omega arith)
+four-back (a ∷ b ∷ c ∷ []) h e = absurd (omega arith)
+four-back (a ∷ b ∷ c ∷ d ∷ f) h e =
+    let i = h 0 (omega arith) in
+    let j = h 1 (omega arith) in
+    let k = h 2 (omega arith) in
+    let l = h 3 (omega arith) in
+    let n : ℕ = a * 16777216 + b * 65536 + c * 256 + d in
+    let x : n / 16777216 ≡ a = omega (arith, i, j, k, l) in
+    let y : n / 65536 ≡ a * 256 + b = omega (arith, i, j, k, l) in
+    let z : n / 256 ≡ a * 65536 + b * 256 + c = omega (arith, i, j, k, l) in
+    ap₂ (λ (m n : List ℕ). m ++ n)
+    (ap₂ (λ (m n : ℕ). m ∷ n ∷ []) (omega (arith, x, i)) (omega (arith, y, j)))
+    (ap₂ (λ (m n : ℕ). m ∷ n ∷ []) (omega (arith, z, k)) (omega (arith, l)))
+
+places-coded : (k : ℕ) (f : List ℕ) → Bytes f → 4 * k ≤ length f → coded-places (places k f) ≡ take (4 * k) f
+unfolding places joined
+places-coded zero f h e = refl
+places-coded (suc k) f h e =
+    let n : 4 * suc k ≡ 4 + 4 * k = omega arith in
+    let b : ofZ w32 (toZ w32 (quad f)) ≡ quad f = ofZ-toZ {w = w32} (record { fits = quad-below f h (omega arith) }) in
+    ap₂ (λ (x y : List ℕ). x ++ y)
+    (ap four b ∙ four-back f h (omega arith))
+    (places-coded k (drop 4 f) (dropped 4 f h) (omega (arith, length-drop 4 f)))
+    ∙ sym (ap (λ (m : ℕ). take m f) n ∙ take-add 4 (4 * k) f)
+
+places-fit : (k : ℕ) (f : List ℕ) → Bytes f → 4 * k ≤ length f → Each (SFits w32) (places k f)
+unfolding places
+places-fit zero f h e = tt
+places-fit (suc k) f h e =
+    (sfits-toZ {w = w32} (record { fits = quad-below f h (omega arith) }), places-fit k (drop 4 f) (dropped 4 f h) (omega (arith, length-drop 4 f)))
+
+-- one contour that is read
+module _ (f : List ℕ) (h : Bytes f) (e : 2 + 8 * held f ≤ length f) where
+  two-read : digit (starts f) * 32768 + held f ≡ pair f
+  two-read = go (starts f) refl
+    where
+      go : (b : Bool) → starts f ≡ b → digit b * 32768 + held f ≡ pair f
+      go true g = omega (arith, leb-true 32768 (pair f) g, pair-below f h (omega arith))
+      go false g = omega (arith, leb-false 32768 (pair f) g)
+
+  count-read : count (places (2 * held f) (drop 2 f)) ≡ held f
+  count-read = let n = places-count (2 * held f) (drop 2 f) in omega (arith, n)
+
+  contour-read : coded-contour (entry (starts f) (places (2 * held f) (drop 2 f))) ≡ take (2 + 8 * held f) f
+  contour-read =
+      let n : 4 * (2 * held f) ≡ 8 * held f = omega arith in
+      ap₂ (λ (a b : List ℕ). a ++ b)
+      (ap (λ (k : ℕ). two (digit (starts f) * 32768 + k)) count-read ∙ ap two two-read ∙ two-back f h (omega arith))
+      (places-coded (2 * held f) (drop 2 f) (dropped 2 f h) (omega (arith, length-drop 2 f)) ∙ ap (λ (k : ℕ). take k (drop 2 f)) n)
+      ∙ sym (take-add 2 (8 * held f) f)
+
+-- contours that are read were written, and a file can hold them
+record Matches (k : ℕ) (first : Bool) (f : List ℕ) (l : List Entry) : Type 0 where
+  number : length l ≡ k
+  even : Even (contours-of l)
+  short : Short (contours-of l)
+  started : first ≡ true → Started l
+  fitting : Each (Each (SFits w32)) (contours-of l)
+  same : coded-contours l ≡ f
+
+nothing-matches : (first : Bool) (f : List ℕ) (l : List Entry) → length f ≡ 0 → l ≡ [] → Matches 0 first f l
+unfolding joined
+nothing-matches first [] l n e = rw e (record { number = refl; even = tt; short = tt; started = λ z. tt; fitting = tt; same = refl })
+nothing-matches first (b ∷ f) l n e = absurd (omega arith)
+
+none-match : (first : Bool) (f : List ℕ) (l : List Entry) → walk 0 first f ≡ carries l → Matches 0 first f l
+unfolding walk
+none-match first f l h = go (eqb (length f) 0) refl
+  where
+    go : (b : Bool) → b ≡ eqb (length f) 0 → Matches 0 first f l
+    go true g =
+        let a : walk 0 first f ≡ carries [] = rw (← g, walk) in
+        nothing-matches first f l (eqb-true (length f) 0 (sym g)) (ap read-contours (sym h ∙ a))
+    go false g =
+        let a : walk 0 first f ≡ damaged 10 = rw (← g, walk) in
+        let z : _≡_ {A = ℕ} 0 1 = cc in
+        absurd (omega arith)
+
+begun-read : (first b : Bool) → (first && not b) ≡ false → first ≡ true → b ≡ true
+begun-read first true e g = refl
+begun-read true false e g = sym e
+begun-read false false e g = g
+
+contours-match : (k : ℕ) (first : Bool) (f : List ℕ) (l : List Entry) → Bytes f → walk k first f ≡ carries l → Matches k first f l
+unfolding joined
+contours-match zero first f l h e = none-match first f l e
+contours-match (suc k) first f l h e =
+    let w = walk-next k first f l e in
+    let c = clear _ tt (w .right) in
+    let n : 2 + 8 * held f ≤ length f = ltb-false (length f) (2 + 8 * held f) (c .1 .1 .0) in
+    let more : List ℕ = drop (2 + 8 * held f) f in
+    let o = contours-match k false more (w .next .others) (dropped (2 + 8 * held f) f h) (w .next .there) in
+    let p = places-count (2 * held f) (drop 2 f) in
+    rw (w .next .is)
+    (record {
+      number = ap suc (o .number);
+      even = (omega (arith, p), o .even);
+      short = (omega (arith, p), o .short);
+      started = λ z. begun-read first (starts f) (c .1 .0) z;
+      fitting = (places-fit (2 * held f) (drop 2 f) (dropped 2 f h) (omega (arith, length-drop 2 f)), o .fitting);
+      same = ap₂ (λ (a b : List ℕ). a ++ b) (contour-read f h n) (o .same) ∙ take-append-drop (2 + 8 * held f) f;
+    })
+
+walked-next : (f : List ℕ) (l : List Entry) → walked f ≡ carries l → head-fault f ≡ 0
+unfolding walked
+walked-next f l h = go (head-fault f) refl
+  where
+    go : (r : ℕ) → r ≡ head-fault f → r ≡ 0
+    go zero e = refl
+    go (suc r) e = let b : walked f ≡ damaged (suc r) = rw (← e, walked) in let z : _≡_ {A = ℕ} 0 1 = cc in absurd (omega arith)
+
+module _ (f : List ℕ) (h : Bytes f) (l : List Entry) (e : walked f ≡ carries l) where
+  right : head-fault f ≡ 0
+  right = walked-next f l e
+
+  long : 2 ≤ length f
+  long = ltb-false (length f) 2 (clear _ tt right .0)
+
+  edition : pair f / 4096 ≡ 1
+  edition = eqb-true (pair f / 4096) 1 (not-false _ (clear _ tt right .1 .0))
+
+  rest : Matches (pair f % 4096) true (drop 2 f) l
+  rest = contours-match (pair f % 4096) true (drop 2 f) l (dropped 2 f h) (sym (walked-on f right) ∙ e)
+
+  walked-carried : Carried l
+  walked-carried = record {
+    small = record { few = omega (arith, rest .number); even = rest .even; short = rest .short };
+    started = rest .started refl;
+    fitting = rest .fitting;
+  }
+
+  walked-coded : coded l ≡ f
+  walked-coded =
+      let n : 4096 + length l ≡ pair f = omega (arith, rest .number, edition) in
+      ap₂ (λ (a b : List ℕ). a ++ b) (ap two n ∙ two-back f h long) (rest .same) ∙ take-append-drop 2 f
+
+-- what is read of a file can be written, and is that file
+module _ (f : List ℕ) (h : Bytes f) (l : List Entry) (e : parsed f ≡ carries l) where
+  by-bytes : walked f ≡ carries l
+  by-bytes = sym (parsed-by-bytes f h) ∙ e
+
+  pub read-carried : Carried l
+  read-carried = walked-carried f h l by-bytes
+
+  pub written-back : file l ≡ f
+  written-back = file-by-bytes l (read-carried .small) ∙ walked-coded f h l by-bytes
+
+-- damage has a number that is not 0
+abbrev Told : Parsed → Type 0
+Told (carries l) = Unit {0}
+Told (damaged r) = 0 < r
+
+and-then-told : (e : Entry) (p : Parsed) → Told p → Told (and-then e p)
+and-then-told e (carries l) h = tt
+and-then-told e (damaged r) h = h
+
+unless-told : (r : ℕ) (p : Parsed) → Told p → Told (elim r [ suc k ↦ damaged (suc k) | zero ↦ p ])
+unless-told zero p h = h
+unless-told (suc r) p h = omega arith
+
+contours-told : (k : ℕ) (first : Bool) (l : List Bool) → Told (contours-in k first l)
+unfolding contours-in
+contours-told zero first l = go (eqb (length l) 0)
+  where
+    go : (b : Bool) → Told (elim b [ true ↦ carries [] | false ↦ damaged 10 ])
+    go true = tt
+    go false = omega arith
+contours-told (suc k) first l =
+    let e : Entry = entry (begins l) (coordinates (2 * points-in l) (drop 16 l)) in
+    let more : Parsed = contours-in k false (drop (16 + 64 * points-in l) l) in
+    unless-told (contour-damage first l) (and-then e more) (and-then-told e more (contours-told k false (drop (16 + 64 * points-in l) l)))
+
+parsed-told : (f : List ℕ) → Told (parsed f)
+unfolding parsed
+parsed-told f = unless-told (head-damage f) _ (contours-told (value (take 12 (drop 4 (bits f)))) true (drop 16 (bits f)))
+
+pub undamaged : (f : List ℕ) → damage (parsed f) ≡ 0 → parsed f ≡ carries (read-contours (parsed f))
+undamaged f e = go (parsed f) (parsed-told f) e
+  where
+    go : (p : Parsed) → Told p → damage p ≡ 0 → p ≡ carries (read-contours p)
+    go (carries l) h e = refl
+    go (damaged r) h e = absurd (omega arith)

@@ -1,0 +1,85 @@
+-- The same format by bytes, as the code goes through it.
+use mathlib.Core.Bool.{Bool, true, false, not, _&&_}
+use mathlib.Core.List.{List, [], _∷_, _++_, map}
+use Prim.Native.Nat.{ℕ, zero, suc, _+_, _*_, _/_, _%_, _<_}
+use lib.Dec.{eqb, ltb, leb}
+use lib.ListN.{length, getD, drop}
+use lib.IntN.{ℤ}
+use mir.Syntax.{w32}
+use mir.Val.{toZ, ofZ}
+use Rattle.grid.specs.Ladder.{first-of}
+use Rattle.grid.specs.Domain.{count}
+use Rattle.buffer.specs.Sets.{joined}
+use Rattle.setfile.specs.Bits.{digit}
+use Rattle.setfile.specs.Format.{Entry, entry, Parsed, and-then}
+use Rattle.setfile.specs.Format.Parsed.{carries, damaged}
+
+-- every number is a byte
+abbrev pub Bytes : List ℕ → Type 0
+Bytes f = (i : ℕ) → i < length f → getD f i 0 < 256
+
+-- the number in the first two bytes
+abbrev pub pair : List ℕ → ℕ
+pair f = getD f 0 0 * 256 + getD f 1 0
+
+-- the number in the first four bytes
+abbrev pub quad : List ℕ → ℕ
+quad f = getD f 0 0 * 16777216 + getD f 1 0 * 65536 + getD f 2 0 * 256 + getD f 3 0
+
+-- k coordinates of four bytes each
+unfoldable pub places : ℕ → List ℕ → List ℤ
+places zero f = []
+places (suc k) f = toZ w32 (quad f) ∷ places k (drop 4 f)
+
+-- whether the contour in front begins a shape
+abbrev pub starts : List ℕ → Bool
+starts f = leb 32768 (pair f)
+
+-- its point count
+abbrev pub held : List ℕ → ℕ
+held f = pair f % 32768
+
+-- what is wrong with the contour in front
+abbrev pub fault : Bool → List ℕ → ℕ
+fault first f = first-of ((ltb (length f) 2, 10) ∷ (first && not (starts f), 11) ∷ (ltb (length f) (2 + 8 * held f), 10) ∷ [])
+
+-- k contours and nothing behind them
+unfoldable pub walk : ℕ → Bool → List ℕ → Parsed
+walk zero first f = elim (eqb (length f) 0) [ true ↦ carries [] | false ↦ damaged 10 ]
+walk (suc k) first f =
+    elim (fault first f) [
+      | suc r ↦ damaged (suc r)
+      | zero ↦ and-then (entry (starts f) (places (2 * held f) (drop 2 f))) (walk k false (drop (2 + 8 * held f) f))
+    ]
+
+-- what is wrong with the head of a file
+abbrev pub head-fault : List ℕ → ℕ
+head-fault f = first-of ((ltb (length f) 2, 10) ∷ (not (eqb (pair f / 4096) 1), 9) ∷ [])
+
+-- a file, read by bytes
+unfoldable pub walked : List ℕ → Parsed
+walked f = elim (head-fault f) [ suc r ↦ damaged (suc r) | zero ↦ walk (pair f % 4096) true (drop 2 f) ]
+
+-- a number in two bytes
+abbrev pub two : ℕ → List ℕ
+two n = n / 256 % 256 ∷ n % 256 ∷ []
+
+-- a number in four bytes
+abbrev pub four : ℕ → List ℕ
+four n = n / 16777216 % 256 ∷ n / 65536 % 256 ∷ n / 256 % 256 ∷ n % 256 ∷ []
+
+-- coordinates of four bytes each
+abbrev pub coded-places : List ℤ → List ℕ
+coded-places c = joined (map (λ (z : ℤ). four (ofZ w32 z)) c)
+
+-- a contour in bytes
+abbrev pub coded-contour : Entry → List ℕ
+coded-contour e = two (digit (e .begins) * 32768 + count (e .points)) ++ coded-places (e .points)
+
+-- contours in bytes
+abbrev pub coded-contours : List Entry → List ℕ
+coded-contours l = joined (map coded-contour l)
+
+-- a file in bytes
+abbrev pub coded : List Entry → List ℕ
+coded l = two (4096 + length l) ++ coded-contours l

@@ -1,0 +1,6 @@
+pub mod Bits
+pub mod Format
+pub mod Reading
+pub mod Writing
+pub mod Inside
+pub mod Promises

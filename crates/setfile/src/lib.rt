@@ -1,0 +1,2 @@
+// The set file: edition 1, read and written.
+pub mod answer;
