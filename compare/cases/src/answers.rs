@@ -18,8 +18,8 @@ pub const HEADER: &str =
 /// One line of answers, without its number.
 pub fn answer(case: &Case) -> String {
     match case.kind {
-        Kind::Contour { asked } => Answers::new(asked, &case.row()).to_string(),
-        Kind::Cleaning { cleaner, lent } => rows::answer(cleaner, lent, &case.row()).to_string(),
+        Kind::Contour { asked } => Answers::new(asked, &case.of.all()).to_string(),
+        Kind::Cleaning { cleaner, lent } => rows::answer(cleaner, lent, &case.of.all()).to_string(),
     }
 }
 

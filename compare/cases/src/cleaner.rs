@@ -1,5 +1,6 @@
 //! The two cleaners and their verdicts, by the Rust original.
 
+use crate::line::{next_number, Words};
 use i_float::count::crosses_of;
 use i_float::int::point::IntPoint;
 use i_shape::int::despike::DeSpikeContour;
@@ -31,8 +32,9 @@ impl Cleaner {
         self as usize
     }
 
-    pub fn numbered(number: usize) -> Option<Cleaner> {
-        Cleaner::BOTH.get(number).copied()
+    pub fn read(words: &mut Words) -> Result<Cleaner, String> {
+        let cleaner = Cleaner::BOTH.get(next_number::<usize>(words)?);
+        Ok(*cleaner.ok_or("no cleaner has that number")?)
     }
 
     /// Whether the contour passes the cleaner's verdict.

@@ -51,6 +51,6 @@ fn damage(asked: &mut Point, numbers: &mut Vec<i32>, rng: &mut Rng) {
 /// A row of two hundred numbers of which one is off the grid.
 fn off_in_one_place(place: usize, rng: &mut Rng) -> Case {
     let mut case = Case::contour([0, 0], &scattered(100, 9, rng));
-    case.numbers[place] = rng.pick(&OFF_GRID);
+    case.of.numbers[place] = rng.pick(&OFF_GRID);
     case
 }

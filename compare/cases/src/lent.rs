@@ -6,6 +6,7 @@ use crate::known::lines;
 use crate::point::{LIMIT, MOST_POINTS};
 use crate::rng::Rng;
 use crate::rows::{Lengths, MOST_OUT, MOST_SCRATCH};
+use crate::scratch;
 use crate::unclean::{returning, spoilt};
 
 /// By how much the rows differ from the need: next, prev, mark and out.
@@ -32,13 +33,6 @@ const OFFSETS: [Offsets; 17] = [
     [0, 0, -1, -1],
 ];
 
-const LONGEST: Lengths = Lengths {
-    next: MOST_SCRATCH,
-    prev: MOST_SCRATCH,
-    mark: MOST_SCRATCH,
-    out: MOST_OUT,
-};
-
 fn cleaning(cleaner: Cleaner, lent: Lengths, numbers: &[i32]) -> Case {
     Case::new(Kind::Cleaning { cleaner, lent }, numbers)
 }
@@ -57,19 +51,22 @@ fn with_each(numbers: &[i32], times: usize, choices: &[Lengths]) -> Vec<Case> {
 /// What a contour of so many points needs.
 fn need(points: usize) -> Lengths {
     Lengths {
-        next: points,
-        prev: points,
-        mark: points,
+        scratch: scratch::Lengths::all(points),
         out: 2 * points,
+    }
+}
+
+fn longest() -> Lengths {
+    Lengths {
+        scratch: scratch::Lengths::all(MOST_SCRATCH),
+        out: MOST_OUT,
     }
 }
 
 /// Rows longer or shorter by the offsets, if none would be shorter than nothing.
 fn beside(need: Lengths, [next, prev, mark, out]: Offsets) -> Option<Lengths> {
     Some(Lengths {
-        next: need.next.checked_add_signed(next)?,
-        prev: need.prev.checked_add_signed(prev)?,
-        mark: need.mark.checked_add_signed(mark)?,
+        scratch: need.scratch.beside([next, prev, mark])?,
         out: need.out.checked_add_signed(out)?,
     })
 }
@@ -78,7 +75,7 @@ fn beside(need: Lengths, [next, prev, mark, out]: Offsets) -> Option<Lengths> {
 fn choices(points: usize) -> Vec<Lengths> {
     let around = |offsets| beside(need(points), offsets);
     let mut choices: Vec<Lengths> = OFFSETS.into_iter().filter_map(around).collect();
-    choices.extend([need(0), LONGEST]);
+    choices.extend([need(0), longest()]);
     choices
 }
 

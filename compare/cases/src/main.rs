@@ -6,21 +6,25 @@ mod asked;
 mod case;
 mod checksum;
 mod cleaner;
+mod cleaning;
 mod damaged;
 mod known;
 mod lent;
+mod line;
 mod long;
 mod point;
 mod random;
 mod reply;
 mod rng;
 mod rows;
+mod scratch;
 mod sets;
 mod shapes;
 mod tiny;
 mod unclean;
 
 use case::Case;
+use std::collections::HashSet;
 use std::fmt::Display;
 use std::io::{self, BufRead, BufWriter, Write};
 use std::process::ExitCode;
@@ -30,9 +34,11 @@ fn main() -> ExitCode {
     let words: Vec<String> = std::env::args().skip(1).collect();
     let outcome = match words.iter().map(String::as_str).collect::<Vec<_>>()[..] {
         ["list", "replay"] => write_list(&list()),
-        ["list", "replay_sets"] => write_list(&sets::list()),
+        ["list", "replay_sets"] => write_list(&once(sets::list())),
+        ["list", "replay_cleaning"] => write_list(&once(cleaning::list())),
         ["answers", "replay"] => write_answers(answers::HEADER, answers::answer),
         ["answers", "replay_sets"] => write_answers(sets::HEADER, sets::answer),
+        ["answers", "replay_cleaning"] => write_answers(cleaning::HEADER, cleaning::answer),
         _ => Err("usage: cases list PROGRAM | cases answers PROGRAM <list".into()),
     };
     match outcome {
@@ -52,6 +58,13 @@ fn write_list<C: Display>(cases: &[C]) -> Outcome {
         writeln!(out, "{case}")?;
     }
     Ok(out.flush()?)
+}
+
+/// The cases in their order, each of them once.
+fn once<C: Display>(mut cases: Vec<C>) -> Vec<C> {
+    let mut seen = HashSet::new();
+    cases.retain(|case| seen.insert(case.to_string()));
+    cases
 }
 
 /// Reads a list on standard input, and writes the header and a line for each case.
@@ -95,12 +108,13 @@ fn list() -> Vec<Case> {
 
 #[cfg(test)]
 mod tests {
-    use super::{list, Case};
+    use super::{cleaning, list, sets};
+    use crate::line::tests::read_as_written;
 
     #[test]
-    fn every_case_of_the_list_is_read_as_it_was_written() {
-        for case in list() {
-            assert_eq!(case.to_string().parse::<Case>(), Ok(case));
-        }
+    fn every_case_of_the_lists_is_read_as_it_was_written() {
+        read_as_written(list());
+        read_as_written(sets::list());
+        read_as_written(cleaning::list());
     }
 }

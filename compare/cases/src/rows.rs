@@ -3,7 +3,8 @@
 
 use crate::checksum::checksum;
 use crate::cleaner::{contour, row, Cleaner, Walked};
-use crate::reply::{domain, refused_if, Reply, COLLAPSED, DONE, ROOM, SCRATCH};
+use crate::reply::{domain, refused_if, Reply, COLLAPSED, DONE, ROOM};
+use crate::scratch::{self, Scratch};
 use std::fmt;
 
 /// The longest rows that can be lent.
@@ -13,27 +14,19 @@ pub const MOST_OUT: usize = 131_200;
 /// How many entries the rows have.
 #[derive(Clone, Copy, Debug, PartialEq, Eq)]
 pub struct Lengths {
-    pub next: usize,
-    pub prev: usize,
-    pub mark: usize,
+    pub scratch: scratch::Lengths,
     pub out: usize,
 }
 
 impl fmt::Display for Lengths {
     fn fmt(&self, out: &mut fmt::Formatter) -> fmt::Result {
-        write!(
-            out,
-            "{} {} {} {}",
-            self.next, self.prev, self.mark, self.out
-        )
+        write!(out, "{} {}", self.scratch, self.out)
     }
 }
 
 #[derive(Debug, PartialEq, Eq)]
 struct Rows {
-    next: Vec<u32>,
-    prev: Vec<u32>,
-    mark: Vec<u8>,
+    scratch: Scratch,
     out: Vec<i32>,
 }
 
@@ -61,23 +54,15 @@ pub fn answer(cleaner: Cleaner, lent: Lengths, points: &[i32]) -> Cleaning {
 
 /// The first refusal that is due: 1, 2, 3, 4, 5.
 fn refusal(points: &[i32], lent: Lengths) -> Reply<()> {
-    let n = points.len() / 2;
     domain(points)?;
-    refused_if(
-        [lent.next, lent.prev, lent.mark]
-            .iter()
-            .any(|&length| length < n),
-        SCRATCH,
-    )?;
-    refused_if(lent.out < 2 * n, ROOM)
+    lent.scratch.enough_for(points.len() / 2)?;
+    refused_if(lent.out < points.len(), ROOM)
 }
 
 impl Rows {
     fn with_canaries(lent: Lengths) -> Rows {
         Rows {
-            next: vec![7; lent.next],
-            prev: vec![7; lent.prev],
-            mark: vec![7; lent.mark],
+            scratch: Scratch::with_canaries(lent.scratch),
             out: vec![-7; lent.out],
         }
     }
@@ -85,9 +70,6 @@ impl Rows {
     /// After the walk of `n` points so many entries of the scratch are 0, and the kept
     /// points stand in front of the output.
     fn after(mut self, n: usize, walked: Walked) -> Cleaning {
-        self.next[..n].fill(0);
-        self.prev[..n].fill(0);
-        self.mark[..n].fill(0);
         let kept = walked.kept.as_ref().map(row).unwrap_or_default();
         self.out[..kept.len()].copy_from_slice(&kept);
         Cleaning {
@@ -98,7 +80,10 @@ impl Rows {
             },
             points: kept.len() / 2,
             decisions: walked.decisions,
-            rows: self,
+            rows: Rows {
+                scratch: self.scratch.zeroed(n),
+                ..self
+            },
         }
     }
 }
@@ -108,13 +93,11 @@ impl fmt::Display for Cleaning {
         let rows = &self.rows;
         write!(
             out,
-            "{} {} {} {} {} {} {}",
+            "{} {} {} {} {}",
             self.reply,
             self.points,
             self.decisions,
-            checksum(&rows.next),
-            checksum(&rows.prev),
-            checksum(&rows.mark),
+            rows.scratch,
             checksum(&rows.out),
         )
     }
@@ -122,7 +105,7 @@ impl fmt::Display for Cleaning {
 
 #[cfg(test)]
 mod tests {
-    use super::{answer, Lengths, Rows};
+    use super::{answer, scratch, Lengths, Rows};
     use crate::case::{Case, Kind};
 
     fn asked(line: &str) -> super::Cleaning {
@@ -130,7 +113,7 @@ mod tests {
         let Kind::Cleaning { cleaner, lent } = case.kind else {
             panic!("{line} is no cleaning");
         };
-        answer(cleaner, lent, &case.row())
+        answer(cleaner, lent, &case.of.all())
     }
 
     #[test]
@@ -149,9 +132,11 @@ mod tests {
             let cleaning = asked(line);
             let rows = &cleaning.rows;
             let lent = Lengths {
-                next: rows.next.len(),
-                prev: rows.prev.len(),
-                mark: rows.mark.len(),
+                scratch: scratch::Lengths {
+                    next: rows.scratch.next.len(),
+                    prev: rows.scratch.prev.len(),
+                    mark: rows.scratch.mark.len(),
+                },
                 out: rows.out.len(),
             };
             assert_eq!(cleaning.reply, reply, "{line}");
@@ -167,9 +152,9 @@ mod tests {
             (cleaning.reply, cleaning.points, cleaning.decisions),
             (0, 4, 6)
         );
-        assert_eq!(cleaning.rows.next, [0, 0, 0, 0, 0, 7]);
-        assert_eq!(cleaning.rows.prev, [0, 0, 0, 0, 0, 7, 7]);
-        assert_eq!(cleaning.rows.mark, [0, 0, 0, 0, 0, 7, 7, 7]);
+        assert_eq!(cleaning.rows.scratch.next, [0, 0, 0, 0, 0, 7]);
+        assert_eq!(cleaning.rows.scratch.prev, [0, 0, 0, 0, 0, 7, 7]);
+        assert_eq!(cleaning.rows.scratch.mark, [0, 0, 0, 0, 0, 7, 7, 7]);
         assert_eq!(
             cleaning.rows.out,
             [0, 0, 4, 0, 4, 4, 0, 4, -7, -7, -7, -7, -7]
@@ -183,7 +168,7 @@ mod tests {
             (cleaning.reply, cleaning.points, cleaning.decisions),
             (7, 0, 1)
         );
-        assert_eq!(cleaning.rows.prev, [0, 0, 0, 7]);
+        assert_eq!(cleaning.rows.scratch.prev, [0, 0, 0, 7]);
         assert_eq!(cleaning.rows.out, [-7; 6]);
     }
 

@@ -10,8 +10,9 @@
 //! Differences of grid points lie within ±2^30, so neither a difference nor a
 //! cross or dot of two of them overflows.
 //!
-//! Every cross product is counted: the walks ask for one in each decision.
+//! With the feature `count` every cross product is counted: the walks ask for one in each decision.
 
+#[cfg(feature = "count")]
 pub mod count;
 pub mod int;
 pub mod triangle;

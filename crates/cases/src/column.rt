@@ -20,6 +20,18 @@ pub fn put_verdict(text: &mut [u8; TEXT], at: usize, verdict: Verdict) -> usize
     text::put(text, at, b" no")
 }
 
+// Puts a space and a value, or why there is none, into `text` from `at` on.
+pub fn put_value(text: &mut [u8; TEXT], at: usize, reply: u32, value: i64) -> usize
+    requires { ⌜ at + 22 ≤ 512 ⌝ }
+    ensures { λ r. ⌜ r ≤ at + 22 ⌝ }
+{
+    if reply != reply::DONE {
+        return put_reply(text, at, reply);
+    }
+    let behind = text::put(text, at, b" ");
+    number::put_signed(text, behind, value)
+}
+
 // Puts a space and a number into `text` from `at` on.
 pub fn put_number(text: &mut [u8; TEXT], at: usize, value: u64) -> usize
     requires { ⌜ at + 21 ≤ 512 ⌝ }

@@ -3,6 +3,8 @@ pub mod checksum;
 pub mod column;
 pub mod line;
 pub mod number;
+pub mod records;
 pub mod row;
+pub mod set;
 pub mod source;
 pub mod text;

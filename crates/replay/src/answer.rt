@@ -62,8 +62,8 @@ pub fn put_answers(text: &mut [u8; TEXT], case: u64, answers: Answers) -> usize
     let simplified = answers.simplified;
     let despiked = answers.despiked;
     let mut at = number::put_unsigned(text, 0, case);
-    at = outcome::put_area(text, at, area_two);
-    at = outcome::put_area(text, at, area);
+    at = column::put_value(text, at, area_two.reply, area_two.value);
+    at = column::put_value(text, at, area.reply, area.value);
     at = column::put_verdict(text, at, clockwise);
     at = column::put_verdict(text, at, convex);
     at = column::put_verdict(text, at, contains);

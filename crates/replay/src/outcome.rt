@@ -1,24 +1,9 @@
-// The columns of an area and of a cleaning, each put into a text after a space.
+// The column of a cleaning, put into a text after a space.
 ghost use Prim.Native.Nat.{_+_, _≤_};
 use crate::cleaner::Summary;
-use area::Area;
 use cases::column;
-use cases::number;
-use cases::text;
 use cases::text::TEXT;
 use grid::reply;
-
-// Puts a space and an area, or why there is none, into `text` from `at` on.
-pub fn put_area(text: &mut [u8; TEXT], at: usize, area: Area) -> usize
-    requires { ⌜ at + 22 ≤ 512 ⌝ }
-    ensures { λ r. ⌜ r ≤ at + 22 ⌝ }
-{
-    if area.reply != reply::DONE {
-        return column::put_reply(text, at, area.reply);
-    }
-    let behind = text::put(text, at, b" ");
-    number::put_signed(text, behind, area.value)
-}
 
 // Puts a space, how many points were kept, the decisions and the checksum into `text` from `at` on; for a collapsed
 // contour its reply and the decisions, and where there is no answer why.

@@ -1,17 +1,17 @@
 // A case of the kind `s`: a set of which the library is asked, as a contour set and as a shape set.
 ghost use Prim.Native.Nat.{_+_, _≤_};
 ghost use Rattle.cases.specs.Buffer.{Held};
-ghost use Rattle.replay_sets.specs.Reading.{Readable};
+ghost use Rattle.cases.specs.Reading.{Readable};
 use crate::parts;
-use crate::records::RECORDS;
-use crate::set;
-use crate::set::Set;
 use buffer::Counted;
 use cases::checksum;
 use cases::column;
 use cases::line::Replayed;
 use cases::number;
+use cases::records::RECORDS;
 use cases::row::ROW;
+use cases::set;
+use cases::set::Set;
 use cases::source::BUFFER;
 use cases::source::Source;
 use cases::text;

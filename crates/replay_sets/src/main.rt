@@ -9,8 +9,6 @@ mod lent;
 mod list;
 mod packing;
 mod parts;
-mod records;
-mod set;
 
 use cases::row::ROW;
 use cases::source::BUFFER;

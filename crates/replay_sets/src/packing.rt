@@ -1,11 +1,11 @@
 // A packing or an addition with rows of given lengths, and the line that says how it went.
 ghost use Prim.Native.Nat.{_+_, _≤_};
 ghost use Rattle.replay_sets.specs.Lengths.{Lendable};
-use crate::records;
 use buffer::Packed;
 use cases::checksum;
 use cases::column;
 use cases::number;
+use cases::records;
 use cases::text;
 use cases::text::TEXT;
 

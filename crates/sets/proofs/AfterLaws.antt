@@ -1,17 +1,19 @@
 -- What is written, once contours are cleaned one after the other.
 use mathlib.Core.Path.{_≡_, refl, sym, _∙_, ap, ap₂}
 use mathlib.Core.Bool.{true, false}
-use mathlib.Core.List.{List, [], _∷_, _++_, map, append-assoc, append-nil}
+use mathlib.Core.List.{List, [], _∷_, _++_, map, map-append, append-assoc, append-nil}
 use Prim.Native.Nat.{ℕ, suc, _+_, _*_, _≤_, _<_}
 use native.Mathlib.Omega.{arith}
 use lib.IntN.{ℤ}
-use lib.ListN.{length, take, drop, set, length-drop, length-append, length-set, take-append-drop}
+use lib.ListN.{length, take, drop, set, length-drop, length-append, length-set, length-map, take-append-drop}
 use lib.Seq.{take-at, drop-at, drop-drop, set-split, length-take-le}
 use Rattle.grid.specs.Domain.{count, Contour}
 use Rattle.ring.specs.declared.Rule.{Rule}
-use Rattle.buffer.specs.Spans.{rows, laid}
-use Rattle.buffer.specs.Sets.{joined}
+use Rattle.buffer.specs.Spans.{rows, total, laid}
+use Rattle.buffer.specs.Sets.{joined, Even}
 use Rattle.buffer.specs.Rows.{placed}
+use Rattle.buffer.proofs.PackLaws.{count-append}
+use Rattle.buffer.proofs.Theorems.{the-counts-add-up}
 use Rattle.sets.specs.declared.cleaning.Place.{Place}
 use Rattle.sets.specs.Fates.{Fate, fate, Stay, and-later, later, ShapeFate, behind, shape-fate}
 use Rattle.sets.specs.Fates.Fate.{stays, gone}
@@ -20,6 +22,7 @@ use Rattle.sets.specs.Inside.{Reached, reached, placing, run, Tested, te
 use Rattle.sets.specs.Promises.{Contours}
 use Rattle.sets.proofs.FateLaws.{Smaller, fate-smaller}
 use Rattle.sets.proofs.PlaceLaws.{joined-more, room-rest}
+use Rattle.sets.proofs.LaidLaws.{joined-append, points-even, rows-long, rows-laid}
 
 module _ {A : Type 0} (xs : List A) (a : ℕ) where
   pub placed-none : placed a [] xs ≡ xs
@@ -55,10 +58,10 @@ after t s =
     (placed (2 * s .place .points) (joined (t .contours)) (s .points))
     (placed (s .place .contours) (rows (laid (s .place .points) (map count (t .contours)))) (s .contours))
 
-same-reached : {p q : Place} {a b : List ℤ} {k l : List (List ℕ)} → p ≡ q → a ≡ b → k ≡ l → reached p a k ≡ reached q b l
+pub same-reached : {p q : Place} {a b : List ℤ} {k l : List (List ℕ)} → p ≡ q → a ≡ b → k ≡ l → reached p a k ≡ reached q b l
 same-reached e f g = cc
 
-same-place : {a b k l m n : ℕ} → a ≡ b → k ≡ l → m ≡ n → _≡_ {A = Place} (record { points = a; contours = k; decisions = m }) (record { points = b; contours = l; decisions = n })
+pub same-place : {a b k l m n : ℕ} → a ≡ b → k ≡ l → m ≡ n → _≡_ {A = Place} (record { points = a; contours = k; decisions = m }) (record { points = b; contours = l; decisions = n })
 same-place e f g = cc
 
 pub after-none : (s : Reached) → s ≡ after (record { contours = []; decisions = 0 }) s
@@ -76,6 +79,33 @@ after-first c (stays d k) x s room space t =
     (placed-behind (s .points) (2 * s .place .points) d (joined (t .contours)) (2 * (s .place .points + count d)) (omega (arith, x .0)) (omega (arith, x .1)))
     (ap (placed (s .place .contours + 1) (rows (laid (s .place .points + count d) (map count (t .contours))))) (set-placed (s .contours) (s .place .contours) _ space)
     ∙ placed-behind (s .contours) (s .place .contours) (_ ∷ []) (rows (laid (s .place .points + count d) (map count (t .contours)))) (s .place .contours + 1) (omega arith) refl)
+
+-- ranges laid behind ranges
+pub laid-behind : (row : List (List ℕ)) (k m p q : ℕ) (a b : List ℕ) → k + length a ≤ length row → m ≡ k + length a → q ≡ p + total a
+    → placed m (rows (laid q b)) (placed k (rows (laid p a)) row) ≡ placed k (rows (laid p (a ++ b))) row
+laid-behind row k m p q a b h e f =
+    placed-behind row k (rows (laid p a)) (rows (laid q b)) m (omega (arith, rows-long p a)) (omega (arith, rows-long p a))
+    ∙ ap (λ (l : List (List ℕ)). placed k l row) (sym (rows-laid p q a b f))
+
+-- contours that stay, and those that stay behind them
+abbrev pub both : Stay → Stay → Stay
+both u t = record { contours = u .contours ++ t .contours; decisions = u .decisions + t .decisions }
+
+pub after-both : (u t : Stay) (s : Reached) → Even (u .contours) → 2 * s .place .points + length (joined (u .contours)) ≤ length (s .points)
+    → s .place .contours + length (u .contours) ≤ length (s .contours) → after t (after u s) ≡ after (both u t) s
+after-both u t s even room space =
+    let a = u .contours in
+    let b = t .contours in
+    let e = points-even a even in
+    let j : joined (a ++ b) ≡ joined a ++ joined b = joined-append a b in
+    let c : count (joined a) + count (joined b) ≡ count (joined (a ++ b)) = count-append (joined a) (joined b) e ∙ ap count (sym j) in
+    let n : length (a ++ b) ≡ length a + length b = length-append a b in
+    let m : length (map count a) ≡ length a = length-map a count in
+    same-reached
+    (same-place (omega arith) (omega arith) (omega arith))
+    (placed-behind (s .points) (2 * s .place .points) (joined a) (joined b) (2 * (s .place .points + count (joined a))) room (omega arith) ∙ ap (λ (l : List ℤ). placed (2 * s .place .points) l (s .points)) (sym j))
+    (laid-behind (s .contours) (s .place .contours) (s .place .contours + length a) (s .place .points) (s .place .points + count (joined a)) (map count a) (map count b) (omega arith) (omega arith) (ap (λ (k : ℕ). s .place .points + k) (the-counts-add-up a even))
+    ∙ ap (λ (l : List ℕ). placed (s .place .contours) (rows (laid (s .place .points) l)) (s .contours)) (sym (map-append count a b)))
 
 pub placing-long : (c : List ℤ) (w : Fate) → Smaller c w → (s : Reached) → 2 * s .place .points + length c ≤ length (s .points)
     → (length (placing w s .points) ≡ length (s .points)) × (length (placing w s .contours) ≡ length (s .contours))

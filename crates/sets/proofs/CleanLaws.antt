@@ -1,38 +1,38 @@
--- What cleaning a shape comes to.
+-- What cleaning a shape, and cleaning shapes, comes to.
 use mathlib.Core.Path.{_≡_, refl, sym, _∙_, ap}
 use mathlib.Core.Bool.{Bool, true, false, not, _&&_, true≢false, and-true}
-use mathlib.Core.List.{List, [], _∷_, _++_, map}
+use mathlib.Core.List.{List, [], _++_, map}
 use Prim.Native.Nat.{ℕ, zero, suc, _*_, _≤_, _<_, _^_}
 use native.Mathlib.Omega.{arith}
 use lib.Dec.{T, leb, eqb·suc-zero}
 use lib.IntN.{ℤ}
-use lib.ListN.{length, getD, take, drop, replicate, length-replicate, length-map}
+use lib.ListN.{length, take, drop, replicate, length-replicate, length-map}
 use lib.Seq.{length-take-le}
-use borrow.Author.Tests.{ltb-false, leb-true, not-false}
+use borrow.Author.Tests.{ltb-false, leb-true, le-leb, not-false}
 use Rattle.integers.proofs.Logic.{and-left, and-right}
 use Rattle.grid.specs.Ladder.{Rung, first-of}
-use Rattle.grid.specs.Domain.{count, Contour}
+use Rattle.grid.specs.Domain.{count}
 use Rattle.grid.proofs.LadderLaws.{first-is, numbered, clear, cleared, stopped, onward}
 use Rattle.grid.proofs.LadderLaws.First.{here}
 use Rattle.ring.specs.declared.Rule.{Rule}
 use Rattle.clean.specs.Outcome.{scratch, zeroed}
 use Rattle.buffer.specs.Spans.{span, spans, rows, laid, sound}
-use Rattle.buffer.specs.Sets.{joined, contour, contours}
-use Rattle.buffer.specs.Refusals.{room, told}
-use Rattle.buffer.specs.Contours.{refusals}
+use Rattle.buffer.specs.Sets.{cut, joined, contour, contours, shapes}
+use Rattle.buffer.specs.Refusals.{room, told, set}
 use Rattle.buffer.proofs.SpanLaws.{range-within}
 use Rattle.buffer.proofs.RefusalLaws.{found, Accepted, accepted}
 use Rattle.buffer.proofs.RowLaws.{placed-front}
-use Rattle.buffer.proofs.Theorems.{a-sound-set's-contours-laid-end-to-end-are-its-points}
+use Rattle.buffer.proofs.Theorems.{a-sound-set's-contours-laid-end-to-end-are-its-points, a-sound-set's-shapes-laid-end-to-end-are-its-contours}
 use Rattle.sets.specs.declared.cleaning.CleanedSet.{CleanedSet}
 use Rattle.sets.specs.declared.cleaning.Tried.{Tried}
-use Rattle.sets.specs.Fates.{ShapeFate, shape-fate}
+use Rattle.sets.specs.declared.cleaning.Total.{Total}
+use Rattle.sets.specs.Fates.{ShapeFate, shape-fate, shapes-fate}
 use Rattle.sets.specs.Fates.ShapeFate.{stands, fallen}
-use Rattle.sets.specs.Outcome.{answer, lent, left, lacking, shape-left, shape-outcome}
-use Rattle.sets.specs.Inside.{reached, Tested, tested, run-shape, first-place, Zeroed, Scratch, Room, Named, Going}
-use Rattle.sets.specs.Promises.{Contours}
-use Rattle.sets.proofs.PlaceLaws.{part-contour}
+use Rattle.sets.specs.Outcome.{answer, Lent, Left, lent, left, enough, lacking, outcome, shape-left, shape-outcome, shapes-outcome}
+use Rattle.sets.specs.Inside.{reached, Tested, tested, run-shape, Grouped, grouped, run-shapes, first-place, Zeroed, Scratch, Room, Named, Going, Each}
+use Rattle.sets.proofs.PlaceLaws.{accepted-named, all-named, all-cut}
 use Rattle.sets.proofs.AfterLaws.{shaped, shape-after}
+use Rattle.sets.proofs.ShapesLaws.{among, shapes-after}
 
 -- a ladder of which only the number is left, and the rungs below it
 pub told-then : (l b : List Rung) → T (numbered l) → (asked r : ℕ) → asked ≡ first-of l → r ≡ first-of (told asked ++ b) → r ≡ first-of (l ++ b)
@@ -41,9 +41,9 @@ told-then l b t zero r e f = f ∙ first-is _ _ (onward l b _ t (sym e) (found b
 told-then l b t (suc k) r e f = f ∙ sym (first-is (told (suc k) ++ b) (suc k) (here (ap not (eqb·suc-zero k)))) ∙ first-is _ _ (stopped l b (suc k) e (λ z. omega arith))
 
 -- the parts of an outcome
-pub same-left : {a b : CleanedSet} {n m p q k l : List ℕ} {o u : List ℤ} {c d s : List (List ℕ)} → a ≡ b → n ≡ m → p ≡ q → k ≡ l → o ≡ u → c ≡ d
-    → left a (lent n p k o c s) ≡ left b (lent m q l u d s)
-same-left e f g h i j = cc
+pub same-left : {a b : CleanedSet} {n m p q k l : List ℕ} {o u : List ℤ} {c d s t : List (List ℕ)} → a ≡ b → n ≡ m → p ≡ q → k ≡ l → o ≡ u → c ≡ d → s ≡ t
+    → left a (lent n p k o c s) ≡ left b (lent m q l u d t)
+same-left e f g h i j k = cc
 
 -- the scratch of n points, zeroed and put back
 pub zeroed-back : (n : ℕ) (row row′ : List ℕ) → n ≤ length row → row′ ≡ replicate (length (take n row)) 0 → row′ ++ drop n row ≡ zeroed n row
@@ -51,125 +51,206 @@ zeroed-back n row row′ h e =
     let m : length {A = ℕ} (replicate n 0) ≡ n = length-replicate n 0 in
     rw (e, length-take-le n row h, m)
 
--- contours of ranges that name parts are of the domain
-named-all : (p : List ℤ) (all l : List (List ℕ)) → Named p all → ((k : ℕ) → k < length l → Contour (contour p (span (getD l k []))) (count (contour p (span (getD l k []))))) → Contours (contours p (spans l))
-named-all p all [] n f = tt
-named-all p all (r ∷ l) n f = (f 0 (omega arith), named-all p all l n (λ k h. f (suc k) (omega arith)))
-
-pub all-named : (p : List ℤ) (cs : List (List ℕ)) → Named p cs → Contours (contours p (spans cs))
-all-named p cs n = named-all p cs cs n (λ k h. part-contour p cs n k h)
-
-module _ (p : List ℤ) (cs : List (List ℕ)) (next prev mark : List ℕ) (out : List ℤ) (records : List (List ℕ)) where
+-- a set and the rows that are lent; its ranges are sound, or not
+module _ (p : List ℤ) (cs ss : List (List ℕ)) (ok : Bool) (l : Lent) where
   abbrev pub rungs : List Rung
-  rungs = refusals p cs ++ lacking p cs [] (lent next prev mark out records [])
+  rungs = set p ok ++ lacking p cs ss l
 
-  pub shape-first : (asked : ℕ) (enough : Bool) (r : ℕ) → asked ≡ first-of (refusals p cs) → enough ≡ (leb (length p) (length out) && leb (length cs) (length records))
-      → r ≡ first-of (told asked ++ (scratch (count p) (length next) (length prev) (length mark) ++ room enough)) → r ≡ first-of rungs
-  shape-first asked enough r e f g =
-      told-then (refusals p cs) _ tt asked r e
-      (g ∙ ap (λ (b : Bool). first-of (told asked ++ (scratch (count p) (length next) (length prev) (length mark) ++ room b))) (f ∙ sym (and-true _)))
+  pub first-refusal : (asked : ℕ) (roomy : Bool) (r : ℕ) → asked ≡ first-of (set p ok) → roomy ≡ enough p cs ss l
+      → r ≡ first-of (told asked ++ (scratch (count p) (length (l .next)) (length (l .prev)) (length (l .mark)) ++ room roomy)) → r ≡ first-of rungs
+  first-refusal asked roomy r e f g =
+      told-then (set p ok) _ tt asked r e
+      (g ∙ ap (λ (b : Bool). first-of (told asked ++ (scratch (count p) (length (l .next)) (length (l .prev)) (length (l .mark)) ++ room b))) f)
+
+  pub refused : (done : Left) (r : ℕ) → r ≡ first-of rungs → (r ≡ 0 → ⊥) → (a : CleanedSet) → a ≡ answer r 0 0 0 0 → left a l ≡ outcome (first-of rungs) l done
+  refused done zero e n a f = absurd (n refl)
+  refused done (suc k) e n a f = ap (λ (b : CleanedSet). left b l) f ∙ ap (λ (r : ℕ). outcome r l done) e
 
   module _ (z : first-of rungs ≡ 0) where
-    parts : (first-of (refusals p cs) ≡ 0) × (first-of (lacking p cs [] (lent next prev mark out records [])) ≡ 0)
-    parts = cleared (refusals p cs) (lacking p cs [] (lent next prev mark out records [])) tt z
+    parts : (first-of (set p ok) ≡ 0) × (first-of (lacking p cs ss l) ≡ 0)
+    parts = cleared (set p ok) (lacking p cs ss l) tt z
 
-    pub set-accepted : Accepted p (sound (spans cs) (count p))
-    set-accepted = accepted p _ (parts .0)
+    pub set-accepted : Accepted p ok
+    set-accepted = accepted p ok (parts .0)
 
-    pub scratch-fits : Scratch (count p) next prev mark
+    pub scratch-fits : Scratch (count p) (l .next) (l .prev) (l .mark)
     scratch-fits =
-        let c = clear (lacking p cs [] (lent next prev mark out records [])) tt (parts .1) in
+        let c = clear (lacking p cs ss l) tt (parts .1) in
         record { in-next = ltb-false _ _ (c .0); in-prev = ltb-false _ _ (c .1 .0); in-mark = ltb-false _ _ (c .1 .1 .0) }
 
-    output-fits : (length p ≤ length out) × (length cs ≤ length records)
-    output-fits =
-        let c = clear (lacking p cs [] (lent next prev mark out records [])) tt (parts .1) in
-        let e = and-left _ true (not-false _ (c .1 .1 .1 .0)) in
-        (leb-true _ _ (and-left (leb (length p) (length out)) _ e), leb-true _ _ (and-right (leb (length p) (length out)) _ e))
-
-    pub set-named : Named p cs
-    set-named =
-        let a = set-accepted in
-        record {
-          domain = record { even = a .even; few = a .few; on = a .on };
-          names = λ k h. let w = range-within cs (count p) k (a .sound) h in record { there = h; forward = w .forward; fits = omega (arith, w .ends, a .even) };
-        }
-
-    pub shape-room : length cs * 16 < 2 ^ 64 → Room (contours p (spans cs)) first-place out records
-    unfolding Rattle.grid.specs.Limits.most
-    shape-room few =
-        let a = set-accepted in
-        let j = ap length (a-sound-set's-contours-laid-end-to-end-are-its-points p (spans cs) (a .even) (a .sound)) in
-        let m = length-map (spans cs) (contour p) ∙ length-map cs span in
-        record {
-          room = omega (arith, output-fits .0);
-          space = omega (arith, output-fits .1);
-          narrow = omega arith;
-          fits = omega (arith, a .few, a .even);
-        }
-
-    pub shape-going : length cs * 16 < 2 ^ 64 → Going p cs first-place (take (count p) next) (take (count p) prev) (take (count p) mark) out records
-    shape-going few =
+    -- the part of the scratch that is lent on fits too
+    pub part-fits : Scratch (count p) (take (count p) (l .next)) (take (count p) (l .prev)) (take (count p) (l .mark))
+    part-fits =
         let s = scratch-fits in
         record {
-          named = set-named;
-          scratch = record {
-            in-next = omega (arith, length-take-le (count p) next (s .in-next));
-            in-prev = omega (arith, length-take-le (count p) prev (s .in-prev));
-            in-mark = omega (arith, length-take-le (count p) mark (s .in-mark));
-          };
-          room = shape-room few;
+          in-next = omega (arith, length-take-le (count p) (l .next) (s .in-next));
+          in-prev = omega (arith, length-take-le (count p) (l .prev) (s .in-prev));
+          in-mark = omega (arith, length-take-le (count p) (l .mark) (s .in-mark));
         }
 
-  module _ (rule : Rule) where
-    pub shape-refused : (r : ℕ) → r ≡ first-of rungs → (r ≡ 0 → ⊥) → (a : CleanedSet) → a ≡ answer r 0 0 0 0
-        → left a (lent next prev mark out records []) ≡ shape-outcome rule p cs (lent next prev mark out records [])
-    unfolding shape-outcome
-    shape-refused zero e n a f = absurd (n refl)
-    shape-refused (suc k) e n a f = ap (λ (b : CleanedSet). left b (lent next prev mark out records [])) f ∙ rw (← e, shape-outcome)
+    pub output-fits : (length p ≤ length (l .points)) × (length cs ≤ length (l .contours)) × (length ss ≤ length (l .shapes))
+    output-fits =
+        let c = clear (lacking p cs ss l) tt (parts .1) in
+        let a : Bool = leb (length p) (length (l .points)) in
+        let b : Bool = leb (length cs) (length (l .contours)) in
+        let e = not-false _ (c .1 .1 .1 .0) in
+        let f = and-left (a && b) _ e in
+        (leb-true _ _ (and-left a b f), leb-true _ _ (and-right a b f), leb-true _ _ (and-right (a && b) _ e))
 
-    module _ (z : first-of rungs ≡ 0) (few : length cs * 16 < 2 ^ 64) (t : Tried) (next′ prev′ mark′ : List ℕ) (out′ : List ℤ) (records′ : List (List ℕ))
-        (e : tested (t .stays) (reached (t .place) out′ records′) ≡ run-shape rule (contours p (spans cs)) (reached first-place out records))
-        (s : Zeroed (take (count p) next) (take (count p) prev) (take (count p) mark) next′ prev′ mark′) where
-      done : shape-outcome rule p cs (lent next prev mark out records []) ≡ shape-left (count p) (shape-fate rule (contours p (spans cs))) (lent next prev mark out records [])
+    pub swept-back : (next′ prev′ mark′ : List ℕ) → Zeroed (take (count p) (l .next)) (take (count p) (l .prev)) (take (count p) (l .mark)) next′ prev′ mark′
+        → (a b : CleanedSet) → a ≡ b → (o u : List ℤ) → o ≡ u → (c d : List (List ℕ)) → c ≡ d → (s t : List (List ℕ)) → s ≡ t
+        → left a (lent (next′ ++ drop (count p) (l .next)) (prev′ ++ drop (count p) (l .prev)) (mark′ ++ drop (count p) (l .mark)) o c s)
+        ≡ left b (lent (zeroed (count p) (l .next)) (zeroed (count p) (l .prev)) (zeroed (count p) (l .mark)) u d t)
+    swept-back next′ prev′ mark′ y a b e o u f c d g s t h =
+        let x = scratch-fits in
+        same-left e
+        (zeroed-back (count p) (l .next) next′ (x .in-next) (y .next-zero))
+        (zeroed-back (count p) (l .prev) prev′ (x .in-prev) (y .prev-zero))
+        (zeroed-back (count p) (l .mark) mark′ (x .in-mark) (y .mark-zero))
+        f g h
+
+    module _ (s : sound (spans cs) (count p) ≡ true) where
+      pub set-named : Named p cs
+      set-named = accepted-named p cs ok set-accepted s
+
+      pub set-room : length cs * 16 < 2 ^ 64 → Room (contours p (spans cs)) first-place (l .points) (l .contours)
+      unfolding Rattle.grid.specs.Limits.most
+      set-room few =
+          let a = set-accepted in
+          let j = ap length (a-sound-set's-contours-laid-end-to-end-are-its-points p (spans cs) (a .even) s) in
+          let m = length-map (spans cs) (contour p) ∙ length-map cs span in
+          record {
+            room = omega (arith, output-fits .0);
+            space = omega (arith, output-fits .1);
+            narrow = omega arith;
+            fits = omega (arith, a .few, a .even);
+          }
+
+-- one shape
+module _ (p : List ℤ) (cs : List (List ℕ)) (l : Lent) where
+  abbrev pub contours-sound : Bool
+  contours-sound = sound (spans cs) (count p)
+
+  abbrev pub shape-rungs : List Rung
+  shape-rungs = rungs p cs [] contours-sound l
+
+  pub shape-first : (asked : ℕ) (roomy : Bool) (r : ℕ) → asked ≡ first-of (set p contours-sound) → roomy ≡ (leb (length p) (length (l .points)) && leb (length cs) (length (l .contours)))
+      → r ≡ first-of (told asked ++ (scratch (count p) (length (l .next)) (length (l .prev)) (length (l .mark)) ++ room roomy)) → r ≡ first-of shape-rungs
+  shape-first asked roomy r e f g =
+      let n : leb 0 (length (l .shapes)) ≡ true = le-leb 0 (length (l .shapes)) (omega arith) in
+      first-refusal p cs [] contours-sound l asked roomy r e (f ∙ rw n (sym (and-true _))) g
+
+  pub shape-refused : (rule : Rule) (r : ℕ) → r ≡ first-of shape-rungs → (r ≡ 0 → ⊥) → (a : CleanedSet) → a ≡ answer r 0 0 0 0 → left a l ≡ shape-outcome rule p cs l
+  unfolding shape-outcome
+  shape-refused rule r e n a f = refused p cs [] contours-sound l _ r e n a f
+
+  module _ (z : first-of shape-rungs ≡ 0) (few : length cs * 16 < 2 ^ 64) where
+    named : Named p cs
+    named = set-named p cs [] contours-sound l z (set-accepted p cs [] contours-sound l z .sound)
+
+    shape-room : Room (contours p (spans cs)) first-place (l .points) (l .contours)
+    shape-room = set-room p cs [] contours-sound l z (set-accepted p cs [] contours-sound l z .sound) few
+
+    pub shape-going : Going p cs first-place (take (count p) (l .next)) (take (count p) (l .prev)) (take (count p) (l .mark)) (l .points) (l .contours)
+    shape-going = record { named = named; scratch = part-fits p cs [] contours-sound l z; room = shape-room }
+
+    module _ (rule : Rule) (t : Tried) (next′ prev′ mark′ : List ℕ) (out′ : List ℤ) (records′ : List (List ℕ))
+        (e : tested (t .stays) (reached (t .place) out′ records′) ≡ run-shape rule (contours p (spans cs)) (reached first-place (l .points) (l .contours)))
+        (s : Zeroed (take (count p) (l .next)) (take (count p) (l .prev)) (take (count p) (l .mark)) next′ prev′ mark′) where
+      abbrev left-so : CleanedSet → Left
+      left-so a = left a (lent (next′ ++ drop (count p) (l .next)) (prev′ ++ drop (count p) (l .prev)) (mark′ ++ drop (count p) (l .mark)) out′ records′ (l .shapes))
+
+      done : shape-outcome rule p cs l ≡ shape-left (count p) (shape-fate rule (contours p (spans cs))) l
       unfolding shape-outcome
       done = rw (z, shape-outcome)
 
-      cleaned : tested (t .stays) (reached (t .place) out′ records′) ≡ shaped rule (shape-fate rule (contours p (spans cs))) (reached first-place out records)
-      cleaned = e ∙ shape-after rule (contours p (spans cs)) (reached first-place out records) (all-named p cs (set-named z)) (shape-room z few)
+      cleaned : tested (t .stays) (reached (t .place) out′ records′) ≡ shaped rule (shape-fate rule (contours p (spans cs))) (reached first-place (l .points) (l .contours))
+      cleaned = e ∙ shape-after rule (contours p (spans cs)) (reached first-place (l .points) (l .contours)) (all-named p cs named) shape-room
 
-      next-back : next′ ++ drop (count p) next ≡ zeroed (count p) next
-      next-back = zeroed-back (count p) next next′ (scratch-fits z .in-next) (s .next-zero)
-
-      prev-back : prev′ ++ drop (count p) prev ≡ zeroed (count p) prev
-      prev-back = zeroed-back (count p) prev prev′ (scratch-fits z .in-prev) (s .prev-zero)
-
-      mark-back : mark′ ++ drop (count p) mark ≡ zeroed (count p) mark
-      mark-back = zeroed-back (count p) mark mark′ (scratch-fits z .in-mark) (s .mark-zero)
-
-      pub shape-is-fallen : not (t .stays) ≡ true → (a : CleanedSet) → a ≡ answer 7 0 0 0 (t .place .decisions)
-          → left a (lent (next′ ++ drop (count p) next) (prev′ ++ drop (count p) prev) (mark′ ++ drop (count p) mark) out′ records′ []) ≡ shape-outcome rule p cs (lent next prev mark out records [])
+      pub shape-is-fallen : not (t .stays) ≡ true → (a : CleanedSet) → a ≡ answer 7 0 0 0 (t .place .decisions) → left-so a ≡ shape-outcome rule p cs l
       shape-is-fallen n a f = go (shape-fate rule (contours p (spans cs))) cleaned ∙ sym done
         where
-          go : (w : ShapeFate) → tested (t .stays) (reached (t .place) out′ records′) ≡ shaped rule w (reached first-place out records)
-              → left a (lent (next′ ++ drop (count p) next) (prev′ ++ drop (count p) prev) (mark′ ++ drop (count p) mark) out′ records′ []) ≡ shape-left (count p) w (lent next prev mark out records [])
+          go : (w : ShapeFate) → tested (t .stays) (reached (t .place) out′ records′) ≡ shaped rule w (reached first-place (l .points) (l .contours)) → left-so a ≡ shape-left (count p) w l
           go (stands ds k) q = absurd (true≢false (sym n ∙ ap (λ (x : Tested). not (x .stands)) q))
           go (fallen k) q =
               let d : t .place .decisions ≡ k = ap (λ (x : Tested). x .reached .place .decisions) q ∙ omega arith in
-              same-left (f ∙ ap (answer 7 0 0 0) d) next-back prev-back mark-back (ap (λ (x : Tested). x .reached .points) q) (ap (λ (x : Tested). x .reached .contours) q)
+              swept-back p cs [] contours-sound l z next′ prev′ mark′ s _ _ (f ∙ ap (answer 7 0 0 0) d)
+              _ _ (ap (λ (x : Tested). x .reached .points) q) _ _ (ap (λ (x : Tested). x .reached .contours) q) _ _ refl
 
-      pub shape-is-kept : not (t .stays) ≡ false
-          → left (answer 0 (t .place .points) (t .place .contours) 0 (t .place .decisions)) (lent (next′ ++ drop (count p) next) (prev′ ++ drop (count p) prev) (mark′ ++ drop (count p) mark) out′ records′ []) ≡ shape-outcome rule p cs (lent next prev mark out records [])
+      pub shape-is-kept : not (t .stays) ≡ false → left-so (answer 0 (t .place .points) (t .place .contours) 1 (t .place .decisions)) ≡ shape-outcome rule p cs l
       shape-is-kept n = go (shape-fate rule (contours p (spans cs))) cleaned ∙ sym done
         where
-          go : (w : ShapeFate) → tested (t .stays) (reached (t .place) out′ records′) ≡ shaped rule w (reached first-place out records)
-              → left (answer 0 (t .place .points) (t .place .contours) 0 (t .place .decisions)) (lent (next′ ++ drop (count p) next) (prev′ ++ drop (count p) prev) (mark′ ++ drop (count p) mark) out′ records′ []) ≡ shape-left (count p) w (lent next prev mark out records [])
+          go : (w : ShapeFate) → tested (t .stays) (reached (t .place) out′ records′) ≡ shaped rule w (reached first-place (l .points) (l .contours))
+              → left-so (answer 0 (t .place .points) (t .place .contours) 1 (t .place .decisions)) ≡ shape-left (count p) w l
           go (fallen k) q = absurd (true≢false (sym (ap (λ (x : Tested). not (x .stands)) q) ∙ n))
           go (stands ds k) q =
               let a : t .place .points ≡ count (joined ds) = ap (λ (x : Tested). x .reached .place .points) q ∙ omega arith in
               let b : t .place .contours ≡ length ds = ap (λ (x : Tested). x .reached .place .contours) q ∙ omega arith in
               let d : t .place .decisions ≡ k = ap (λ (x : Tested). x .reached .place .decisions) q ∙ omega arith in
-              let f : _≡_ {A = CleanedSet} (answer 0 (t .place .points) (t .place .contours) 0 (t .place .decisions)) (answer 0 (count (joined ds)) (length ds) 0 k) = cc in
-              same-left f next-back prev-back mark-back
-              (ap (λ (x : Tested). x .reached .points) q ∙ placed-front out (joined ds))
-              (ap (λ (x : Tested). x .reached .contours) q ∙ placed-front records (rows (laid 0 (map count ds))))
+              let f : _≡_ {A = CleanedSet} (answer 0 (t .place .points) (t .place .contours) 1 (t .place .decisions)) (answer 0 (count (joined ds)) (length ds) 1 k) = cc in
+              swept-back p cs [] contours-sound l z next′ prev′ mark′ s _ _ f
+              _ _ (ap (λ (x : Tested). x .reached .points) q ∙ placed-front (l .points) (joined ds))
+              _ _ (ap (λ (x : Tested). x .reached .contours) q ∙ placed-front (l .contours) (rows (laid 0 (map count ds)))) _ _ refl
+
+-- shapes
+module _ (p : List ℤ) (cs gs : List (List ℕ)) (l : Lent) where
+  abbrev pub both-sound : Bool
+  both-sound = sound (spans cs) (count p) && sound (spans gs) (length cs)
+
+  abbrev pub shapes-rungs : List Rung
+  shapes-rungs = rungs p cs gs both-sound l
+
+  pub shapes-first : (asked : ℕ) (roomy : Bool) (r : ℕ) → asked ≡ first-of (set p both-sound) → roomy ≡ enough p cs gs l
+      → r ≡ first-of (told asked ++ (scratch (count p) (length (l .next)) (length (l .prev)) (length (l .mark)) ++ room roomy)) → r ≡ first-of shapes-rungs
+  shapes-first = first-refusal p cs gs both-sound l
+
+  pub shapes-refused : (rule : Rule) (r : ℕ) → r ≡ first-of shapes-rungs → (r ≡ 0 → ⊥) → (a : CleanedSet) → a ≡ answer r 0 0 0 0 → left a l ≡ shapes-outcome rule p cs gs l
+  unfolding shapes-outcome
+  shapes-refused rule r e n a f = refused p cs gs both-sound l _ r e n a f
+
+  module _ (z : first-of shapes-rungs ≡ 0) (few : length cs * 16 < 2 ^ 64) (less : length gs * 16 < 2 ^ 64) where
+    ranges-sound : (sound (spans cs) (count p) ≡ true) × (sound (spans gs) (length cs) ≡ true)
+    ranges-sound =
+        let a = set-accepted p cs gs both-sound l z .sound in
+        (and-left (sound (spans cs) (count p)) _ a, and-right (sound (spans cs) (count p)) _ a)
+
+    all-room : Room (joined (shapes p (spans cs) (spans gs))) first-place (l .points) (l .contours)
+    all-room =
+        let n : sound (spans gs) (length (spans cs)) ≡ true = ap (sound (spans gs)) (length-map cs span) ∙ ranges-sound .1 in
+        let e = a-sound-set's-shapes-laid-end-to-end-are-its-contours p (spans cs) (spans gs) (set-accepted p cs gs both-sound l z .even) (ranges-sound .0) n in
+        rw e (set-room p cs gs both-sound l z (ranges-sound .0) few)
+
+    pub shapes-each : Each p cs gs (take (count p) (l .next)) (take (count p) (l .prev)) (take (count p) (l .mark)) (l .points) (l .contours) (l .shapes)
+    shapes-each = record {
+      named = set-named p cs gs both-sound l z (ranges-sound .0);
+      scratch = part-fits p cs gs both-sound l z;
+      within = λ k h. let w = range-within gs (length cs) k (ranges-sound .1) h in (w .forward, w .ends);
+      room = all-room;
+      space = output-fits p cs gs both-sound l z .2;
+      narrow = less;
+    }
+
+    pub shapes-are-kept : (rule : Rule) (t : Total) (next′ prev′ mark′ : List ℕ) (out′ : List ℤ) (records′ shapes′ : List (List ℕ))
+        → grouped (t .shapes) (reached (t .place) out′ records′) shapes′ ≡ run-shapes rule (shapes p (spans cs) (spans gs)) (grouped 0 (reached first-place (l .points) (l .contours)) (l .shapes))
+        → Zeroed (take (count p) (l .next)) (take (count p) (l .prev)) (take (count p) (l .mark)) next′ prev′ mark′
+        → left (answer 0 (t .place .points) (t .place .contours) (t .shapes) (t .place .decisions))
+        (lent (next′ ++ drop (count p) (l .next)) (prev′ ++ drop (count p) (l .prev)) (mark′ ++ drop (count p) (l .mark)) out′ records′ shapes′)
+        ≡ shapes-outcome rule p cs gs l
+    unfolding shapes-outcome
+    shapes-are-kept rule t next′ prev′ mark′ out′ records′ shapes′ e s =
+        let ss = shapes p (spans cs) (spans gs) in
+        let ds = shapes-fate rule ss .shapes in
+        let start = grouped 0 (reached first-place (l .points) (l .contours)) (l .shapes) in
+        let n : length ss ≡ length gs = length-map (spans gs) (cut (contours p (spans cs))) ∙ length-map gs span in
+        let q : grouped (t .shapes) (reached (t .place) out′ records′) shapes′ ≡ among (shapes-fate rule ss) start =
+        e ∙ shapes-after rule ss start (all-cut (contours p (spans cs)) (spans gs) (all-named p cs (shapes-each .named))) all-room (omega (arith, shapes-each .space)) in
+        let a : t .place .points ≡ count (joined (joined ds)) = ap (λ (x : Grouped). x .reached .place .points) q ∙ omega arith in
+        let b : t .place .contours ≡ length (joined ds) = ap (λ (x : Grouped). x .reached .place .contours) q ∙ omega arith in
+        let c : t .shapes ≡ length ds = ap (λ (x : Grouped). x .count) q ∙ omega arith in
+        let d : t .place .decisions ≡ shapes-fate rule ss .decisions = ap (λ (x : Grouped). x .reached .place .decisions) q ∙ omega arith in
+        let f : _≡_ {A = CleanedSet} (answer 0 (t .place .points) (t .place .contours) (t .shapes) (t .place .decisions)) (answer 0 (count (joined (joined ds))) (length (joined ds)) (length ds) (shapes-fate rule ss .decisions)) = cc in
+        swept-back p cs gs both-sound l z next′ prev′ mark′ s _ _ f
+        _ _ (ap (λ (x : Grouped). x .reached .points) q ∙ placed-front (l .points) (joined (joined ds)))
+        _ _ (ap (λ (x : Grouped). x .reached .contours) q ∙ placed-front (l .contours) (rows (laid 0 (map count (joined ds)))))
+        _ _ (ap (λ (x : Grouped). x .shapes) q ∙ placed-front (l .shapes) (rows (laid 0 (map length ds))))
+        ∙ rw (z, shapes-outcome)

@@ -18,7 +18,7 @@ use Rattle.buffer.specs.Sets.{joined}
 use Rattle.sets.specs.Fates.{fate, later, shape-fate, shapes-fate}
 use Rattle.sets.specs.Fates.Fate.{stays}
 use Rattle.sets.specs.Fates.ShapeFate.{fallen}
-use Rattle.sets.specs.Outcome.{answer, shape-outcome}
+use Rattle.sets.specs.Outcome.{answer, shape-outcome, shapes-outcome}
 
 abbrev square : List ℤ
 square = row (0 ∷ 0 ∷ 9 ∷ 0 ∷ 9 ∷ 9 ∷ 0 ∷ 9 ∷ [])
@@ -40,7 +40,7 @@ line-falls = refl
 w4-and-square : shape-outcome Collinear (row (0 ∷ 0 ∷ 2 ∷ 0 ∷ 4 ∷ 0 ∷ 4 ∷ 4 ∷ 0 ∷ 4 ∷ 0 ∷ 0 ∷ 9 ∷ 0 ∷ 9 ∷ 9 ∷ 0 ∷ 9 ∷ [])) ((0 ∷ 5 ∷ []) ∷ (5 ∷ 9 ∷ []) ∷ [])
     (record { next = replicate 10 7; prev = replicate 10 7; mark = replicate 10 7; points = row (replicate 19 7); contours = replicate 3 (7 ∷ 7 ∷ []); shapes = [] })
     ≡ record {
-      answer = answer 0 8 2 0 6;
+      answer = answer 0 8 2 1 6;
       rows = record {
         next = 0 ∷ 0 ∷ 0 ∷ 0 ∷ 0 ∷ 0 ∷ 0 ∷ 0 ∷ 0 ∷ 7 ∷ [];
         prev = 0 ∷ 0 ∷ 0 ∷ 0 ∷ 0 ∷ 0 ∷ 0 ∷ 0 ∷ 0 ∷ 7 ∷ [];
@@ -57,3 +57,32 @@ w4-and-square = refl
 fallen-dropped : shapes-fate Collinear ((line ∷ []) ∷ [] ∷ (W4 ∷ []) ∷ []) ≡ record { shapes = [] ∷ (W9 ∷ []) ∷ []; decisions = 7 }
 unfolding survivors-from others successor predecessor count unmark unmark-about remove decide look looks walk goes-at points bend reverses limit most on-grid all-on-grid first-of last differing distinct-neighbours corners-from corners some is-simple chosen fate later shape-fate shapes-fate
 fallen-dropped = refl
+
+-- an empty shape, then a shape whose only contour is empty: the first stays, the second falls
+empty-stays : shapes-outcome Collinear [] ((0 ∷ 0 ∷ []) ∷ []) ((0 ∷ 0 ∷ []) ∷ (0 ∷ 1 ∷ []) ∷ [])
+    (record { next = []; prev = []; mark = []; points = []; contours = replicate 1 (7 ∷ 7 ∷ []); shapes = replicate 2 (7 ∷ 7 ∷ []) })
+    ≡ record {
+      answer = answer 0 0 0 1 0;
+      rows = record { next = []; prev = []; mark = []; points = []; contours = (7 ∷ 7 ∷ []) ∷ []; shapes = (0 ∷ 0 ∷ []) ∷ (7 ∷ 7 ∷ []) ∷ [] };
+    }
+unfolding survivors-from others successor predecessor count unmark unmark-about remove decide look looks walk goes-at points bend reverses limit most on-grid all-on-grid first-of last differing distinct-neighbours corners-from corners some is-simple chosen fate later shape-fate shapes-fate shapes-outcome laid joined sound-from
+empty-stays = refl
+
+-- W4, then a line with a square behind it, then the square: the line's shape falls with one decision, and the last shape's ranges are shifted down
+middle-falls : shapes-outcome Collinear
+    (row (0 ∷ 0 ∷ 2 ∷ 0 ∷ 4 ∷ 0 ∷ 4 ∷ 4 ∷ 0 ∷ 4 ∷ 0 ∷ 0 ∷ 2 ∷ 0 ∷ 4 ∷ 0 ∷ 0 ∷ 0 ∷ 9 ∷ 0 ∷ 9 ∷ 9 ∷ 0 ∷ 9 ∷ 0 ∷ 0 ∷ 9 ∷ 0 ∷ 9 ∷ 9 ∷ 0 ∷ 9 ∷ []))
+    ((0 ∷ 5 ∷ []) ∷ (5 ∷ 8 ∷ []) ∷ (8 ∷ 12 ∷ []) ∷ (12 ∷ 16 ∷ []) ∷ []) ((0 ∷ 1 ∷ []) ∷ (1 ∷ 3 ∷ []) ∷ (3 ∷ 4 ∷ []) ∷ [])
+    (record { next = replicate 16 7; prev = replicate 16 7; mark = replicate 16 7; points = row (replicate 32 7); contours = replicate 4 (7 ∷ 7 ∷ []); shapes = replicate 3 (7 ∷ 7 ∷ []) })
+    ≡ record {
+      answer = answer 0 8 2 2 7;
+      rows = record {
+        next = replicate 16 0;
+        prev = replicate 16 0;
+        mark = replicate 16 0;
+        points = row (0 ∷ 0 ∷ 4 ∷ 0 ∷ 4 ∷ 4 ∷ 0 ∷ 4 ∷ 0 ∷ 0 ∷ 9 ∷ 0 ∷ 9 ∷ 9 ∷ 0 ∷ 9 ∷ replicate 16 7);
+        contours = (0 ∷ 4 ∷ []) ∷ (4 ∷ 8 ∷ []) ∷ (7 ∷ 7 ∷ []) ∷ (7 ∷ 7 ∷ []) ∷ [];
+        shapes = (0 ∷ 1 ∷ []) ∷ (1 ∷ 2 ∷ []) ∷ (7 ∷ 7 ∷ []) ∷ [];
+      };
+    }
+unfolding survivors-from others successor predecessor count unmark unmark-about remove decide look looks walk goes-at points bend reverses limit most on-grid all-on-grid first-of last differing distinct-neighbours corners-from corners some is-simple chosen fate later shape-fate shapes-fate shapes-outcome laid joined sound-from
+middle-falls = refl

@@ -13,21 +13,27 @@ use Rattle.grid.specs.Domain.{count}
 use Rattle.ring.specs.declared.Rule.{Rule}
 use Rattle.buffer.specs.Spans.{span, spans}
 use Rattle.buffer.specs.Sets.{joined, contour, contours, shapes}
+use Rattle.sets.specs.declared.cleaning.Place.{Place}
 use Rattle.sets.specs.declared.cleaning.Total.{Total}
 use Rattle.sets.specs.Fates.{Fate, fate}
 use Rattle.sets.specs.Fates.Fate.{stays, gone}
 use Rattle.sets.specs.Inside.{Reached, reached, placing, run, outline, run-shape, Grouped, grouped, adding, added, run-shapes, Room, Named, Addable, Each, first-place}
 use Rattle.sets.specs.Promises.{Contours}
 use Rattle.sets.proofs.FateLaws.{fate-smaller}
-use Rattle.sets.proofs.PlaceLaws.{joined-more}
+use Rattle.sets.proofs.PlaceLaws.{joined-more, all-named}
 use Rattle.sets.proofs.ShapeLaws.{names-moved}
+use Rattle.sets.proofs.LaidLaws.{joined-append}
 use Rattle.sets.proofs.AfterLaws.{placing-long, room-next}
-use Rattle.sets.proofs.CleanLaws.{all-named}
 
 pub joined-both : (l k : List (List ℤ)) → length (joined (l ++ k)) ≡ length (joined l) + length (joined k)
-unfolding joined
-joined-both [] k = sym (omega arith)
-joined-both (c ∷ l) k = length-append c (joined (l ++ k)) ∙ omega (arith, joined-both l k, length-append c (joined l))
+joined-both l k = ap length (joined-append l k) ∙ length-append (joined l) (joined k)
+
+-- room for contours in front of others
+pub room-front : (l rest : List (List ℤ)) (at : Place) (out : List ℤ) (records : List (List ℕ)) → Room (l ++ rest) at out records → Room l at out records
+room-front l rest at out records r =
+    let j = joined-both l rest in
+    let n = length-append l rest in
+    record { room = omega (arith, r .room); space = omega (arith, r .space); narrow = omega (arith, r .narrow); fits = omega (arith, r .fits) }
 
 -- room for the rest, and rows as long as they were
 pub record Leaves (rest : List (List ℤ)) (s t : Reached) : Type 0 where
@@ -92,15 +98,15 @@ pub record Grouping (rule : Rule) (p : List ℤ) (cs gs : List (List ℕ)) (out�
   pub is : run-shapes rule (shapes p (spans cs) (spans (drop i gs))) (grouped (at .shapes) (reached (at .place) out records) row)
       ≡ run-shapes rule (shapes p (spans cs) (spans gs)) (grouped 0 (reached first-place out₀ records₀) shapes₀)
 
-adding-reached : (b : Bool) (r : Reached) (s : Grouped) → adding b r s .reached ≡ r
+pub adding-reached : (b : Bool) (r : Reached) (s : Grouped) → adding b r s .reached ≡ r
 adding-reached true r s = refl
 adding-reached false r s = refl
 
-adding-few : (b : Bool) (r : Reached) (s : Grouped) → adding b r s .count ≤ s .count + 1
+pub adding-few : (b : Bool) (r : Reached) (s : Grouped) → adding b r s .count ≤ s .count + 1
 adding-few true r s = omega arith
 adding-few false r s = omega arith
 
-adding-long : (b : Bool) (r : Reached) (s : Grouped) → length (adding b r s .shapes) ≡ length (s .shapes)
+pub adding-long : (b : Bool) (r : Reached) (s : Grouped) → length (adding b r s .shapes) ≡ length (s .shapes)
 adding-long true r s = length-set (s .shapes) (s .count) _
 adding-long false r s = refl
 
@@ -138,16 +144,11 @@ module _ {rule : Rule} {p : List ℤ} {cs gs : List (List ℕ)} {out₀ : List �
         → Addable p (midOf (span (getD gs i []) .start) (span (getD gs i []) .end - span (getD gs i []) .start) cs) at next prev mark out records row
     unfolding a k
     grouping-addable next prev mark e f m =
-        let l = contours p (spans (midOf a k cs)) in
-        let rest = joined (shapes p (spans cs) (spans (drop (suc i) gs))) in
-        let r = next-room in
-        let j = joined-both l rest in
-        let n = length-append l rest in
         record {
           going = record {
             named = part-named;
             scratch = record { in-next = omega (arith, g .scratch .in-next); in-prev = omega (arith, g .scratch .in-prev); in-mark = omega (arith, g .scratch .in-mark) };
-            room = record { room = omega (arith, r .room); space = omega (arith, r .space); narrow = omega (arith, r .narrow); fits = omega (arith, r .fits) };
+            room = room-front _ _ (at .place) out records next-room;
           };
           space = omega (arith, g .space, x .low, x .shapes-long);
           narrow = omega (arith, g .narrow, x .low);

@@ -1,17 +1,18 @@
 -- What a user may count on when shapes are cleaned: areas, order, and sound ranges.
 use mathlib.Core.Path.{_≡_, refl, _∙_, ap, subst, sym}
 use mathlib.Core.Logic.{⊎-elim}
-use mathlib.Core.Bool.{Bool, true, false}
+use mathlib.Core.Bool.{Bool, true, false, _&&_}
 use mathlib.Core.List.{List, [], _∷_, _++_, map}
 use Prim.Native.Nat.{_-_, _*_, ℕ, zero, suc, _+_}
 use native.Mathlib.Omega.{arith}
 use lib.ListN.{length, take, drop, length-map}
 use lib.IntN.{ℤ, pos}
-use lib.Seq.{take-append-seam}
+use lib.Seq.{take-at}
 use Rattle.grid.specs.Points.{points}
 use Rattle.grid.specs.Area.{exact}
 use Rattle.grid.specs.Domain.{count, Contour}
 use Rattle.grid.proofs.RowLaws.{points-count}
+use Rattle.grid.specs.Rows.{front}
 use Rattle.grid.specs.Ladder.{first-of}
 use Rattle.grid.proofs.LadderLaws.{cleared}
 use Rattle.area.proofs.Removal.{few-points}
@@ -26,10 +27,12 @@ use Rattle.clean.specs.Outcome.{walked}
 use Rattle.clean.proofs.RowLaws.{length-chosen}
 use Rattle.clean.proofs.Picked.{points-chosen}
 use Rattle.clean.proofs.Theorems.{kept-area, collapsed-area}
-use Rattle.buffer.specs.Spans.{sound, spans, laid}
-use Rattle.buffer.specs.Sets.{joined, contour-spans, shape-spans, Even, contours}
-use Rattle.buffer.proofs.Theorems.{what-is-packed-is-sound, packed-shapes-are-sound, packing-then-unpacking-gives-back-every-contour, points-total}
-use Rattle.buffer.specs.Contours.{refusals}
+use Rattle.integers.proofs.Logic.{and-left}
+use Rattle.buffer.specs.Spans.{sound, spans, rows, laid}
+use Rattle.buffer.specs.Sets.{joined, contour-spans, shape-spans, Even, contours, shapes}
+use Rattle.buffer.proofs.Theorems.{what-is-packed-is-sound, packed-shapes-are-sound, packing-then-unpacking-gives-back-every-contour, packing-then-unpacking-gives-back-every-shape}
+use Rattle.buffer.specs.Contours.{refusals as contour-refusals}
+use Rattle.buffer.specs.Shapes.{refusals as shape-refusals}
 use Rattle.buffer.proofs.RefusalLaws.{accepted}
 use Rattle.buffer.proofs.WrittenLaws.{rows-front}
 use Rattle.sets.specs.Fates.{Fate, walk-fate, fate, and-later, later, ShapeFate, behind, shape-fate, and-others, shapes-fate}
@@ -39,21 +42,14 @@ use Rattle.sets.specs.Promises.{Contours, AllContours, Follow, ShapesFol
 use Rattle.sets.specs.Promises.Follow.{no-more, same-area, no-area}
 use Rattle.sets.specs.Promises.ShapesFollow.{no-shapes, falls, stands as shape-stands}
 use Rattle.sets.specs.Verdicts.{passes}
-use Rattle.sets.specs.Outcome.{Lent, Left, lacking, shape-left, shape-outcome}
-use Rattle.sets.proofs.PartLaws.{part-named}
-use Rattle.sets.proofs.CleanLaws.{all-named}
-
-points-even : (t : List (List ℤ)) → Even t → length (joined t) ≡ 2 * count (joined t)
-points-even t h = omega (arith, points-total t h)
+use Rattle.sets.specs.Outcome.{Lent, Left, lacking, outcome, shape-left, shape-outcome, shapes-left, shapes-outcome}
+use Rattle.sets.proofs.LaidLaws.{even-append, points-even, laid-length}
+use Rattle.sets.proofs.PlaceLaws.{accepted-named, all-named, all-cut}
 
 -- what becomes of a contour of the domain: it stays with its exact doubled area, or had none
 abbrev pub Right : List ℤ → Fate → Type 0
 Right c (stays d k) = (exact (points d) ≡ exact (points c)) × (length d ≡ 2 * count d)
 Right c (gone k) = exact (points c) ≡ pos 0
-
-even-append : (a b : List (List ℤ)) → Even a → Even b → Even (a ++ b)
-even-append [] b h k = k
-even-append (c ∷ a) b h k = (h .0, even-append a b (h .1) k)
 
 module _ (rule : Rule) where
   pub fate-is-right : (c : List ℤ) → Contour c (count c) → Right c (fate rule c)
@@ -130,15 +126,26 @@ module _ (rule : Rule) where
   the-shape-ranges-written-are-sound set = packed-shapes-are-sound (shapes-fate rule set .shapes)
 
 -- the contours of a set that no call refuses are of the domain
-pub contours-of-a-set : (p : List ℤ) (cs : List (List ℕ)) → first-of (refusals p cs) ≡ 0 → Contours (contours p (spans cs))
-contours-of-a-set p cs z =
-    let a = accepted p (sound (spans cs) (count p)) z in
-    all-named p cs (record { domain = record { even = a .even; few = a .few; on = a .on }; names = λ k h. part-named p cs k z h })
+pub contours-of-a-set : (p : List ℤ) (cs : List (List ℕ)) → first-of (contour-refusals p cs) ≡ 0 → Contours (contours p (spans cs))
+contours-of-a-set p cs z = let a = accepted p (sound (spans cs) (count p)) z in all-named p cs (accepted-named p cs _ a (a .sound))
 
-spans-count : (p : ℕ) (sizes : List ℕ) → length (laid p sizes) ≡ length sizes
-unfolding laid
-spans-count p [] = refl
-spans-count p (n ∷ sizes) = ap suc (spans-count (p + n) sizes)
+-- and so are those of its shapes
+pub shapes-of-a-set : (p : List ℤ) (cs ss : List (List ℕ)) → first-of (shape-refusals p cs ss) ≡ 0 → AllContours (shapes p (spans cs) (spans ss))
+shapes-of-a-set p cs ss z =
+    let a = accepted p (sound (spans cs) (count p) && sound (spans ss) (length cs)) z in
+    all-cut (contours p (spans cs)) (spans ss) (all-named p cs (accepted-named p cs _ a (and-left (sound (spans cs) (count p)) _ (a .sound))))
+
+-- what is laid in front of the rows, taken back
+points-back : (t : List (List ℤ)) → Even t → (out : List ℤ) → take (2 * count (joined t)) (front (joined t) out) ≡ joined t
+points-back t h out = take-at (joined t) (drop (length (joined t)) out) (2 * count (joined t)) (points-even t h)
+
+ranges-back : (p : ℕ) (sizes : List ℕ) (n : ℕ) → length sizes ≡ n → (records : List (List ℕ)) → spans (take n (front (rows (laid p sizes)) records)) ≡ laid p sizes
+ranges-back p sizes n e records = ap (λ (k : ℕ). spans (take k (front (rows (laid p sizes)) records))) (sym (laid-length p sizes ∙ e)) ∙ rows-front (laid p sizes) records
+
+-- an answer 0 is that of a call that no refusal stopped
+unrefused : (r : ℕ) (l : Lent) (done o : Left) → o ≡ outcome r l done → o .answer .reply ≡ 0 → (r ≡ 0) × (o ≡ done)
+unrefused zero l done o e z = (refl, e)
+unrefused (suc k) l done o e z = let n : _≡_ {A = ℕ} (suc k) 0 = sym (ap (λ (w : Left). w .answer .reply) e) ∙ z in absurd (omega arith)
 
 -- A shape that was cleaned and kept; o is whatever the contract allows.
 module _ (rule : Rule) (p : List ℤ) (cs : List (List ℕ)) (l : Lent) (o : Left) (is : o ≡ shape-outcome rule p cs l) (ok : o .answer .reply ≡ 0) where
@@ -148,24 +155,66 @@ module _ (rule : Rule) (p : List ℤ) (cs : List (List ℕ)) (l : Lent) (o : Lef
 
   unpacked : (t : List (List ℤ)) (k : ℕ) → Even t → o ≡ shape-left (count p) (stands t k) l → kept-contours ≡ t
   unpacked t k h e =
-      let n : length (contour-spans t) ≡ length t = spans-count 0 (map count t) ∙ length-map t count in
-      let a = what-is-packed-is-sound t h in
-      let even : 2 * count (joined t) ≡ length (joined t) = omega (arith, points-even t h) in
-      rw (e, even, ← n, take-append-seam (joined t) (drop (length (joined t)) (l .points)), rows-front (contour-spans t) (l .contours))
+      rw (e, points-back t h (l .points), ranges-back 0 (map count t) (length t) (length-map t count) (l .contours))
       (packing-then-unpacking-gives-back-every-contour t h)
 
   -- they follow those of the shape: in order, with the same exact areas, and what is missing had none
   pub a-cleaned-shape-follows : Follow (contours p (spans cs)) kept-contours
   unfolding shape-outcome
-  a-cleaned-shape-follows = go (first-of (refusals p cs ++ lacking p cs [] l)) refl
+  a-cleaned-shape-follows =
+      let u = unrefused (first-of (contour-refusals p cs ++ lacking p cs [] l)) l _ o is ok in
+      go (shape-fate rule (contours p (spans cs)))
+      (shape-is-right rule (contours p (spans cs)) (contours-of-a-set p cs (cleared (contour-refusals p cs) (lacking p cs [] l) tt (u .0) .0)))
+      (u .1)
     where
-      shape : (f : ShapeFate) → ShapeRight rule (contours p (spans cs)) f → o ≡ shape-left (count p) f l → Follow (contours p (spans cs)) kept-contours
-      shape (fallen k) r e = let z : _≡_ {A = ℕ} 7 0 = sym (ap (λ (w : Left). w .answer .reply) e) ∙ ok in absurd (omega arith)
-      shape (stands t k) r e = subst (Follow (contours p (spans cs))) (sym (unpacked t k (r .1) e)) (r .0)
+      go : (f : ShapeFate) → ShapeRight rule (contours p (spans cs)) f → o ≡ shape-left (count p) f l → Follow (contours p (spans cs)) kept-contours
+      go (fallen k) r e = let z : _≡_ {A = ℕ} 7 0 = sym (ap (λ (w : Left). w .answer .reply) e) ∙ ok in absurd (omega arith)
+      go (stands t k) r e = subst (Follow (contours p (spans cs))) (sym (unpacked t k (r .1) e)) (r .0)
 
-      go : (r : ℕ) → first-of (refusals p cs ++ lacking p cs [] l) ≡ r → Follow (contours p (spans cs)) kept-contours
-      go (suc k) e = let z : _≡_ {A = ℕ} (suc k) 0 = sym (ap (λ (w : Left). w .answer .reply) is ∙ rw (e, shape-outcome)) ∙ ok in absurd (omega arith)
-      go zero e =
-          shape (shape-fate rule (contours p (spans cs)))
-          (shape-is-right rule (contours p (spans cs)) (contours-of-a-set p cs (cleared (refusals p cs) (lacking p cs [] l) tt e .0)))
-          (is ∙ rw (e, shape-outcome))
+-- Shapes that were cleaned; o is whatever the contract allows.
+module _ (rule : Rule) (p : List ℤ) (cs ss : List (List ℕ)) (l : Lent) (o : Left) (is : o ≡ shapes-outcome rule p cs ss l) (ok : o .answer .reply ≡ 0) where
+  abbrev pub written-points : List ℤ
+  written-points = take (2 * o .answer .points) (o .rows .points)
+
+  abbrev pub written-contours : List (List ℕ)
+  written-contours = take (o .answer .contours) (o .rows .contours)
+
+  abbrev pub written-shapes : List (List ℕ)
+  written-shapes = take (o .answer .shapes) (o .rows .shapes)
+
+  abbrev kept-shapes : List (List (List ℤ))
+  kept-shapes = shapes-fate rule (shapes p (spans cs) (spans ss)) .shapes
+
+  cleaned : (first-of (shape-refusals p cs ss) ≡ 0) × (o ≡ shapes-left (count p) (shapes-fate rule (shapes p (spans cs) (spans ss))) l)
+  unfolding shapes-outcome
+  cleaned =
+      let u = unrefused (first-of (shape-refusals p cs ss ++ lacking p cs ss l)) l _ o is ok in
+      (cleared (shape-refusals p cs ss) (lacking p cs ss l) tt (u .0) .0, u .1)
+
+  in-domain : AllContours (shapes p (spans cs) (spans ss))
+  in-domain = shapes-of-a-set p cs ss (cleaned .0)
+
+  contours-written : spans written-contours ≡ contour-spans (joined kept-shapes)
+  contours-written = rw (cleaned .1) (ranges-back 0 (map count (joined kept-shapes)) (length (joined kept-shapes)) (length-map (joined kept-shapes) count) (l .contours))
+
+  shapes-written : spans written-shapes ≡ shape-spans kept-shapes
+  shapes-written = rw (cleaned .1) (ranges-back 0 (map length kept-shapes) (length kept-shapes) (length-map kept-shapes length) (l .shapes))
+
+  shapes-unpacked : shapes written-points (spans written-contours) (spans written-shapes) ≡ kept-shapes
+  shapes-unpacked =
+      let h = kept-even rule (shapes p (spans cs) (spans ss)) in-domain in
+      let e : written-points ≡ joined (joined kept-shapes) = rw (cleaned .1) (points-back (joined kept-shapes) h (l .points)) in
+      rw (e, contours-written, shapes-written) (packing-then-unpacking-gives-back-every-shape kept-shapes h)
+
+  -- the shapes that were written, unpacked, follow those of the set
+  pub a-cleaned-shape-set-follows : ShapesFollow (shapes p (spans cs) (spans ss)) (shapes written-points (spans written-contours) (spans written-shapes))
+  a-cleaned-shape-set-follows = subst (ShapesFollow (shapes p (spans cs) (spans ss))) (sym shapes-unpacked) (cleaned-shapes-follow rule (shapes p (spans cs) (spans ss)) in-domain)
+
+  -- and their ranges are sound
+  pub a-cleaned-shape-set's-contour-ranges-are-sound : sound (spans written-contours) (o .answer .points) ≡ true
+  a-cleaned-shape-set's-contour-ranges-are-sound =
+      rw (contours-written, ap (λ (w : Left). w .answer .points) (cleaned .1)) (the-contour-ranges-written-are-sound rule (shapes p (spans cs) (spans ss)) in-domain)
+
+  pub a-cleaned-shape-set's-shape-ranges-are-sound : sound (spans written-shapes) (o .answer .contours) ≡ true
+  a-cleaned-shape-set's-shape-ranges-are-sound =
+      rw (shapes-written, ap (λ (w : Left). w .answer .contours) (cleaned .1)) (the-shape-ranges-written-are-sound rule (shapes p (spans cs) (spans ss)))

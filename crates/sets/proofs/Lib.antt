@@ -6,10 +6,12 @@ pub mod FateLaws
 pub mod PlaceLaws
 pub mod LaterLaws
 pub mod ShapeLaws
+pub mod LaidLaws
 pub mod AfterLaws
-pub mod CleanLaws
 pub mod EachLaws
 pub mod Kept
+pub mod ShapesLaws
+pub mod CleanLaws
 pub mod Cases
 pub mod CleaningCases
 pub mod Idle

@@ -1,11 +1,11 @@
 -- A contour that is cleaned behind what is written.
 use mathlib.Core.Path.{_≡_, refl, sym, _∙_, ap}
-use mathlib.Core.Bool.{true, false}
-use mathlib.Core.List.{List, [], _∷_, _++_, append-assoc, append-nil}
-use Prim.Native.Nat.{ℕ, _+_, _-_, _*_, _≤_, _<_}
+use mathlib.Core.Bool.{Bool, true, false}
+use mathlib.Core.List.{List, [], _∷_, _++_, map, append-assoc, append-nil}
+use Prim.Native.Nat.{ℕ, zero, suc, _+_, _-_, _*_, _≤_, _<_}
 use native.Mathlib.Omega.{arith}
 use lib.IntN.{ℤ}
-use lib.ListN.{length, getD, take, drop, set, length-append, length-drop, drop-of-length-le}
+use lib.ListN.{length, getD, take, drop, set, length-append, length-drop, drop-of-length-le, take-append-drop}
 use lib.Seq.{take-all, drop-drop, length-take-le}
 use borrow.Rule.Slice.PartMut.{midOf, putMid, put-same}
 use Rattle.grid.specs.Domain.{count, Contour}
@@ -13,14 +13,23 @@ use Rattle.grid.proofs.LimitLaws.{on-dropped, on-taken}
 use Rattle.ring.specs.declared.Rule.{Rule}
 use Rattle.clean.specs.declared.cleaning.Cleaned.{Cleaned}
 use Rattle.clean.specs.Inside.{Ready}
-use Rattle.buffer.specs.Spans.{span}
-use Rattle.buffer.specs.Sets.{joined, contour, contours}
+use Rattle.buffer.specs.declared.ranges.Span.{Span}
+use Rattle.buffer.specs.Spans.{span, spans, size, sound}
+use Rattle.buffer.specs.Sets.{cut, joined, contour, contours}
 use Rattle.buffer.specs.Rows.{placed}
+use Rattle.buffer.proofs.SpanLaws.{range-within}
+use Rattle.buffer.proofs.RefusalLaws.{Accepted}
 use Rattle.sets.specs.declared.cleaning.Place.{Place}
 use Rattle.sets.specs.Fates.{Fate, fate}
 use Rattle.sets.specs.Fates.Fate.{stays, gone}
 use Rattle.sets.specs.Inside.{told, written, Fated, Reached, reached, placing, Scratch, Room, Placeable, Behind, Named}
+use Rattle.sets.specs.Promises.{Contours, AllContours}
 use Rattle.sets.proofs.FateLaws.{Smaller, fate-smaller}
+
+-- a part in front of a row, put back as long as it was
+pub back-long : {A : Type 0} (n : ℕ) (row row′ : List A) → length row′ ≡ length (take n row) → length (row′ ++ drop n row) ≡ length row
+back-long n row row′ e =
+    length-append row′ (drop n row) ∙ ap (λ (k : ℕ). k + length (drop n row)) e ∙ sym (length-append (take n row) (drop n row)) ∙ ap length (take-append-drop n row)
 
 -- the part behind what is written, lent and put back
 module _ {A : Type 0} (a : ℕ) (xs : List A) where
@@ -110,6 +119,13 @@ room-rest rule c l at out records x k pl out′ records′ e a b = go (fate rule
         let j = joined-more c l in
         rw f (record { room = omega (arith, x .room); space = omega (arith, x .space); narrow = omega (arith, x .narrow); fits = omega (arith, x .fits, s) })
 
+-- sound ranges of a set that no call refuses name parts of its points
+pub accepted-named : (p : List ℤ) (cs : List (List ℕ)) (ok : Bool) → Accepted p ok → sound (spans cs) (count p) ≡ true → Named p cs
+accepted-named p cs ok a s = record {
+  domain = record { even = a .even; few = a .few; on = a .on };
+  names = λ k h. let w = range-within cs (count p) k s h in record { there = h; forward = w .forward; fits = omega (arith, w .ends, a .even) };
+}
+
 -- a contour that a range names is of the domain
 module _ (p : List ℤ) (ranges : List (List ℕ)) (x : Named p ranges) (k : ℕ) (h : k < length ranges) where
   part-long : length (contour p (span (getD ranges k []))) ≡ 2 * span (getD ranges k []) .end - 2 * span (getD ranges k []) .start
@@ -143,3 +159,26 @@ module _ (p : List ℤ) (ranges : List (List ℕ)) (x : Named p ranges) (k : ℕ
         narrow = omega (arith, r .narrow);
         fits = omega (arith, r .fits);
       }
+
+-- so all contours of such ranges are
+named-all : (p : List ℤ) (l : List (List ℕ)) → ((k : ℕ) → k < length l → Contour (contour p (span (getD l k []))) (count (contour p (span (getD l k []))))) → Contours (contours p (spans l))
+named-all p [] f = tt
+named-all p (r ∷ l) f = (f 0 (omega arith), named-all p l (λ k h. f (suc k) (omega arith)))
+
+pub all-named : (p : List ℤ) (cs : List (List ℕ)) → Named p cs → Contours (contours p (spans cs))
+all-named p cs n = named-all p cs (λ k h. part-contour p cs n k h)
+
+-- and all shapes of such contours
+contours-taken : (n : ℕ) (l : List (List ℤ)) → Contours l → Contours (take n l)
+contours-taken zero l h = tt
+contours-taken (suc n) [] h = tt
+contours-taken (suc n) (c ∷ l) h = (h .0, contours-taken n l (h .1))
+
+contours-dropped : (n : ℕ) (l : List (List ℤ)) → Contours l → Contours (drop n l)
+contours-dropped zero l h = h
+contours-dropped (suc n) [] h = tt
+contours-dropped (suc n) (c ∷ l) h = contours-dropped n l (h .1)
+
+pub all-cut : (l : List (List ℤ)) (ss : List Span) → Contours l → AllContours (map (cut l) ss)
+all-cut l [] h = tt
+all-cut l (s ∷ ss) h = (contours-taken (size s) (drop (s .start) l) (contours-dropped (s .start) l h), all-cut l ss h)

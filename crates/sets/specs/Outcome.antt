@@ -62,18 +62,21 @@ enough p cs ss l = leb (length p) (length (l .points)) && leb (length cs) (lengt
 abbrev pub lacking : List ℤ → List (List ℕ) → List (List ℕ) → Lent → List Rung
 lacking p cs ss l = scratch (count p) (length (l .next)) (length (l .prev)) (length (l .mark)) ++ room (enough p cs ss l)
 
+-- by the number of the first refusal: refused, and all rows as they were, or done
+abbrev pub outcome : ℕ → Lent → Left → Left
+outcome (suc k) l done = left (answer (suc k) 0 0 0 0) l
+outcome zero l done = done
+
 -- a cleaned shape: kept in front of the rows, or collapsed with its first contour
 abbrev pub shape-left : ℕ → ShapeFate → Lent → Left
-shape-left n (stands cs k) l = record { answer = answer 0 (count (joined cs)) (length cs) 0 k; rows = swept n (with-contours cs l) }
+shape-left n (stands cs k) l = record { answer = answer 0 (count (joined cs)) (length cs) 1 k; rows = swept n (with-contours cs l) }
 shape-left n (fallen k) l = record { answer = answer 7 0 0 0 k; rows = swept n l }
 
 -- cleaning one shape: the contours of a contour set
 unfoldable pub shape-outcome : Rule → List ℤ → List (List ℕ) → Lent → Left
 shape-outcome rule p cs l =
-    elim (first-of (contour-refusals p cs ++ lacking p cs [] l)) [
-      | suc k ↦ record { answer = answer (suc k) 0 0 0 0; rows = l }
-      | zero ↦ shape-left (count p) (shape-fate rule (contours p (spans cs))) l
-    ]
+    outcome (first-of (contour-refusals p cs ++ lacking p cs [] l)) l
+    (shape-left (count p) (shape-fate rule (contours p (spans cs))) l)
 
 -- cleaned shapes, in front of the rows
 abbrev pub shapes-left : ℕ → Shapes → Lent → Left
@@ -82,7 +85,5 @@ shapes-left n ss l = record { answer = answer 0 (count (joined (joined (ss .shap
 -- cleaning shapes: those of a shape set
 unfoldable pub shapes-outcome : Rule → List ℤ → List (List ℕ) → List (List ℕ) → Lent → Left
 shapes-outcome rule p cs ss l =
-    elim (first-of (shape-refusals p cs ss ++ lacking p cs ss l)) [
-      | suc k ↦ record { answer = answer (suc k) 0 0 0 0; rows = l }
-      | zero ↦ shapes-left (count p) (shapes-fate rule (shapes p (spans cs) (spans ss))) l
-    ]
+    outcome (first-of (shape-refusals p cs ss ++ lacking p cs ss l)) l
+    (shapes-left (count p) (shapes-fate rule (shapes p (spans cs) (spans ss))) l)

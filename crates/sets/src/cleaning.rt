@@ -8,7 +8,7 @@ ghost use Rattle.clean.specs.Inside.{Ready};
 ghost use Rattle.buffer.specs.Refusals.{told as told-refusal, room as room-left};
 ghost use Rattle.buffer.specs.Spans.{spans};
 ghost use Rattle.buffer.specs.Sets.{contours, shapes as shapes-of};
-ghost use Rattle.sets.specs.Outcome.{answer, lent, left, shape-outcome};
+ghost use Rattle.sets.specs.Outcome.{answer, lent, left, shape-outcome, shapes-outcome};
 ghost use Rattle.sets.specs.Inside.{Fated, Placeable, Behind, Going, reached, run, tested, run-shape, first-place, Zeroed, Addable, grouped, added, run-shapes, Each};
 use crate::passing;
 use clean::Cleaned;
@@ -350,7 +350,88 @@ pub fn clean_shape(
         reply: grid::reply::DONE,
         points: place.points,
         contours: place.contours,
-        shapes: 0,
+        shapes: 1,
+        decisions: place.decisions,
+    }
+}
+
+// The shapes in front of the rows, with the scratch zeroed after them.
+fn sweep_shapes(
+    rule: Rule,
+    points: &[i32],
+    ranges: &[[usize; 2]],
+    groups: &[[usize; 2]],
+    next: &mut [u32],
+    prev: &mut [u32],
+    mark: &mut [u8],
+    out: &mut [i32],
+    records: &mut [[usize; 2]],
+    shapes: &mut [[usize; 2]],
+) -> Total
+    requires { ⌜ Each (now points) (now ranges) (now groups) (now next) (now prev) (now mark) (now out) (now records) (now shapes) ⌝ }
+    ensures { λ r. ⌜ grouped (r .shapes) (reached (r .place) (now (out .exit)) (now (records .exit))) (now (shapes .exit)) ≡ run-shapes rule (shapes-of (now (points .entry)) (spans (now (ranges .entry))) (spans (now (groups .entry)))) (grouped 0 (reached first-place (now (out .entry)) (now (records .entry))) (now (shapes .entry))) ⌝ }
+    ensures { λ r. ⌜ Zeroed (now (next .entry)) (now (prev .entry)) (now (mark .entry)) (now (next .exit)) (now (prev .exit)) (now (mark .exit)) ⌝ }
+{
+    let at = each(
+        rule,
+        points,
+        ranges,
+        groups,
+        next,
+        prev,
+        mark,
+        out,
+        records,
+        shapes,
+    );
+    clean::cleaning::zero(next);
+    clean::cleaning::zero(prev);
+    clean::cleaning::zero_bytes(mark);
+    at
+}
+
+// Shapes cleaned by a rule: refused, or those that stand kept in front of the rows.
+pub fn clean_shapes(
+    rule: Rule,
+    points: &[i32],
+    ranges: &[[usize; 2]],
+    groups: &[[usize; 2]],
+    next: &mut [u32],
+    prev: &mut [u32],
+    mark: &mut [u8],
+    out: &mut [i32],
+    records: &mut [[usize; 2]],
+    shapes: &mut [[usize; 2]],
+) -> CleanedSet
+    ensures { λ r. ⌜ left r (lent (now (next .exit)) (now (prev .exit)) (now (mark .exit)) (now (out .exit)) (now (records .exit)) (now (shapes .exit))) ≡ shapes-outcome rule (now (points .entry)) (now (ranges .entry)) (now (groups .entry)) (lent (now (next .entry)) (now (prev .entry)) (now (mark .entry)) (now (out .entry)) (now (records .entry)) (now (shapes .entry))) ⌝ }
+{
+    let n = points.len() / 2;
+    let room = (points.len() <= out.len())
+        & (ranges.len() <= records.len())
+        & (groups.len() <= shapes.len());
+    let asked = buffer::shapes::refused(points, ranges, groups);
+    let refused = or_lacking(asked, n, next.len(), prev.len(), mark.len(), room);
+    if refused != 0 {
+        return nothing(refused, 0);
+    }
+    let at = sweep_shapes(
+        rule,
+        points,
+        ranges,
+        groups,
+        &mut next[..n],
+        &mut prev[..n],
+        &mut mark[..n],
+        out,
+        records,
+        shapes,
+    );
+    let place = at.place;
+    CleanedSet {
+        reply: grid::reply::DONE,
+        points: place.points,
+        contours: place.contours,
+        shapes: at.shapes,
         decisions: place.decisions,
     }
 }

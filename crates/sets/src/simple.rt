@@ -3,7 +3,7 @@ ghost use mathlib.Core.Path.{_≡_};
 ghost use Rattle.sets.specs.Verdicts.{simple as simple-verdict};
 ghost use mathlib.Core.List.{[]};
 ghost use Rattle.ring.specs.declared.Rule as R;
-ghost use Rattle.sets.specs.Outcome.{lent, left, shape-outcome};
+ghost use Rattle.sets.specs.Outcome.{lent, left, shape-outcome, shapes-outcome};
 use crate::cleaning;
 use crate::cleaning::CleanedSet;
 use crate::passing;
@@ -38,5 +38,33 @@ pub fn simplified_shape(
         mark,
         out,
         records,
+    )
+}
+
+// The shapes without their collinear points.
+pub fn simplified_shapes(
+    points: &[i32],
+    ranges: &[[usize; 2]],
+    groups: &[[usize; 2]],
+    next: &mut [u32],
+    prev: &mut [u32],
+    mark: &mut [u8],
+    out: &mut [i32],
+    records: &mut [[usize; 2]],
+    shapes: &mut [[usize; 2]],
+) -> CleanedSet
+    ensures { λ r. ⌜ left r (lent (now (next .exit)) (now (prev .exit)) (now (mark .exit)) (now (out .exit)) (now (records .exit)) (now (shapes .exit))) ≡ shapes-outcome R.Rule.Collinear (now (points .entry)) (now (ranges .entry)) (now (groups .entry)) (lent (now (next .entry)) (now (prev .entry)) (now (mark .entry)) (now (out .entry)) (now (records .entry)) (now (shapes .entry))) ⌝ }
+{
+    cleaning::clean_shapes(
+        Rule::Collinear,
+        points,
+        ranges,
+        groups,
+        next,
+        prev,
+        mark,
+        out,
+        records,
+        shapes,
     )
 }

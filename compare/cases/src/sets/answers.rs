@@ -15,7 +15,7 @@ pub const HEADER: &str =
 
 /// One line of answers, without its number.
 pub fn answer(case: &Case) -> String {
-    let set = &case.set;
+    let set = &case.of;
     match &case.kind {
         Kind::Asked => [of_contour_set(set), of_shape_set(set)].concat().join(" "),
         Kind::Packing {
@@ -28,10 +28,10 @@ pub fn answer(case: &Case) -> String {
 }
 
 fn of_contour_set(set: &Set) -> Vec<String> {
-    let points = set.row();
-    let refusal = refusal(&[&points], sound(&set.contours, points.len() / 2));
+    let points = set.points.all();
+    let refusal = refusal(&[&points], set.sound_contours());
     let original = || contour_set(&points, &set.contours);
-    let contours = refusal.map(|()| original().to_contours());
+    let contours = refusal.map(|()| set.to_contours());
     vec![
         column(&refusal.map(|()| original().is_empty()), yes_or_no),
         column(&refusal.map(|()| original().is_single_contour()), yes_or_no),
@@ -46,11 +46,10 @@ fn of_contour_set(set: &Set) -> Vec<String> {
 }
 
 fn of_shape_set(set: &Set) -> Vec<String> {
-    let points = set.row();
-    let both = sound(&set.contours, points.len() / 2) && sound(&set.shapes, set.contours.len());
-    let refusal = refusal(&[&points], both);
+    let points = set.points.all();
+    let refusal = refusal(&[&points], set.sound_shapes());
     let original = || shape_set(&points, &set.contours, &set.shapes);
-    let shapes = refusal.map(|()| original().to_shapes());
+    let shapes = refusal.map(|()| set.to_shapes());
     let contours = shapes.clone().map(|shapes| shapes.concat());
     vec![
         column(&refusal.map(|()| original().is_empty()), yes_or_no),

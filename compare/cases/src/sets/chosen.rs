@@ -1,20 +1,13 @@
 //! Cases of chosen sets, and rows as long as needed, longer and shorter.
 
-use super::case::{Case, Kind, MOST_RECORDS};
-use super::flat::{Record, Set};
-use super::packing::{Form, Lengths, Packed, MOST_LENT, MOST_OUT};
+use super::case::{Case, Kind};
+use super::flat::{Record, Set, MOST_RECORDS};
+use super::packing::{Form, Packed};
+use super::rows::{Lengths, Offsets};
 use super::small::set;
 use crate::damaged::OFF_GRID;
+use crate::line::Row;
 use crate::point::{LIMIT, MOST_POINTS};
-
-pub const LONGEST: Lengths = Lengths {
-    out: MOST_OUT,
-    records: MOST_LENT,
-    groups: MOST_LENT,
-};
-
-/// By how much the rows differ from the need: numbers, contour records, shape records.
-type Offsets = [isize; 3];
 
 const OFFSETS: [Offsets; 11] = [
     [0, 0, 0],
@@ -34,7 +27,7 @@ const OFFSETS: [Offsets; 11] = [
 pub fn asked(sets: &[Set]) -> Vec<Case> {
     let case = |set: &Set| Case {
         kind: Kind::Asked,
-        set: set.clone(),
+        of: set.clone(),
     };
     sets.iter().map(case).collect()
 }
@@ -42,7 +35,7 @@ pub fn asked(sets: &[Set]) -> Vec<Case> {
 /// One packing of the set; in an addition these numbers and ranges are added to it.
 pub fn added(form: Form, lent: Lengths, set: &Set, more: &[i32], ranges: &[Record]) -> Case {
     let mut set = set.clone();
-    set.numbers.extend(more);
+    set.points.numbers.extend(more);
     Case {
         kind: Kind::Packing {
             form,
@@ -50,7 +43,7 @@ pub fn added(form: Form, lent: Lengths, set: &Set, more: &[i32], ranges: &[Recor
             more: more.len(),
             ranges: ranges.to_vec(),
         },
-        set,
+        of: set,
     }
 }
 
@@ -73,7 +66,7 @@ fn packed(form: Form, offsets: Offsets, set: &Set, addition: usize) -> Case {
         _ => (&[][..], &[][..]),
     };
     let need = need(form, set, more, ranges);
-    added(form, beside(need, offsets), set, more, ranges)
+    added(form, need.beside(offsets), set, more, ranges)
 }
 
 /// Exactly as long as what is to be written.
@@ -86,18 +79,9 @@ fn need(form: Form, set: &Set, more: &[i32], ranges: &[Record]) -> Lengths {
         (Packed::OneMore, true) => (set.contours.len() + ranges.len(), set.shapes.len() + 1),
     };
     Lengths {
-        out: set.numbers.len() * set.times + more.len(),
+        out: set.points.all().len() + more.len(),
         records,
         groups,
-    }
-}
-
-/// Rows longer or shorter by the offsets, but none beyond the longest.
-fn beside(need: Lengths, [out, records, groups]: Offsets) -> Lengths {
-    Lengths {
-        out: need.out.saturating_add_signed(out).min(MOST_OUT),
-        records: need.records.saturating_add_signed(records).min(MOST_LENT),
-        groups: need.groups.saturating_add_signed(groups).min(MOST_LENT),
     }
 }
 
@@ -144,21 +128,26 @@ pub fn rows() -> Vec<Case> {
     cases
 }
 
-/// A set of which one number is off the grid, in each place in turn, and what every
-/// form makes of it; one that is unsound or of an odd count as well.
+/// What every form makes of a set with a number off the grid.
 pub fn off_in_one_place() -> Vec<Case> {
+    let sets = off_grid(&set(&[vec![3, 2], vec![], vec![1]]));
+    [asked(&sets), packed_in_turn(&sets, 3)].concat()
+}
+
+/// The set of three contours with one number off the grid, in each place in turn; that with
+/// ranges that are unsound as well; and that with an odd count too.
+pub fn off_grid(sound: &Set) -> Vec<Set> {
     let mut sets = vec![];
-    let sound = set(&[vec![3, 2], vec![], vec![1]]);
-    for place in 0..sound.numbers.len() {
+    for place in 0..sound.points.numbers.len() {
         let mut set = sound.clone();
-        set.numbers[place] = OFF_GRID[place % OFF_GRID.len()];
+        set.points.numbers[place] = OFF_GRID[place % OFF_GRID.len()];
         sets.push(set.clone());
         set.contours[place % 3][1] += 1;
         sets.push(set.clone());
-        set.numbers.push(1);
+        set.points.numbers.push(1);
         sets.push(set);
     }
-    [asked(&sets), packed_in_turn(&sets, 3)].concat()
+    sets
 }
 
 /// As many contours and shapes as a case can give, with points and without.
@@ -178,8 +167,7 @@ pub fn many_points() -> Vec<Case> {
     let wound = |numbers: &[i32], times: usize| Set {
         contours: vec![[0, numbers.len() * times / 2]],
         shapes: vec![[0, 1]],
-        numbers: numbers.to_vec(),
-        times,
+        points: Row::wound(numbers, times),
     };
     let sets = [
         wound(&[7, 8], MOST_POINTS - 1),
@@ -216,15 +204,14 @@ fn additions_at_the_limit() -> Vec<Case> {
             cases.push(Case {
                 kind: Kind::Packing {
                     form,
-                    lent: LONGEST,
+                    lent: Lengths::LONGEST,
                     more: 2 * more,
                     ranges: vec![[0, more]],
                 },
-                set: Set {
+                of: Set {
                     contours: vec![[0, end]],
                     shapes: vec![[0, 1]],
-                    numbers: vec![7, 8],
-                    times: points,
+                    points: Row::wound(&[7, 8], points),
                 },
             });
         }

@@ -1,45 +1,97 @@
 //! A shape set as document 01 has it: points and ranges, sound or not.
 
 use crate::cleaner::{contour, Contour};
+use crate::line::{length, Part, Row, Words};
 use crate::point::{Point, MOST_POINTS};
 use crate::reply::{on_grid, refused_if, Reply, ODD, RANGES, TOO_MANY};
 use i_shape::flat::buffer::{FlatContoursBuffer, FlatShapesBuffer};
+use std::fmt;
 use std::ops::Range;
 
 /// A start and an end.
 pub type Record = [usize; 2];
 
-/// The row of the points is `numbers`, `times` over.
+/// A case gives at most so many records of each kind.
+pub const MOST_RECORDS: usize = 64;
+
+/// Points, the ranges of their contours and those of the shapes.
 #[derive(Clone, Debug, Default, PartialEq, Eq)]
 pub struct Set {
     pub contours: Vec<Record>,
     pub shapes: Vec<Record>,
-    pub numbers: Vec<i32>,
-    pub times: usize,
+    pub points: Row,
 }
 
 impl Set {
     /// The set of these shapes, whose contours follow one upon the other.
     pub fn of(shapes: &[Vec<Vec<Point>>]) -> Set {
         let mut set = Set {
-            times: 1,
+            points: Row::wound(&[], 1),
             ..Set::default()
         };
         for shape in shapes {
             let first = set.contours.len();
             for contour in shape {
-                let start = set.numbers.len() / 2;
+                let start = set.points.numbers.len() / 2;
                 set.contours.push([start, start + contour.len()]);
-                set.numbers.extend(contour.concat());
+                set.points.numbers.extend(contour.concat());
             }
             set.shapes.push([first, set.contours.len()]);
         }
         set
     }
 
-    pub fn row(&self) -> Vec<i32> {
-        self.numbers.repeat(self.times)
+    /// Whether the ranges of its contours are sound.
+    pub fn sound_contours(&self) -> bool {
+        sound(&self.contours, self.points.all().len() / 2)
     }
+
+    /// Whether those of its shapes are sound too.
+    pub fn sound_shapes(&self) -> bool {
+        self.sound_contours() && sound(&self.shapes, self.contours.len())
+    }
+
+    /// Its contours, by the original.
+    pub fn to_contours(&self) -> Vec<Contour> {
+        contour_set(&self.points.all(), &self.contours).to_contours()
+    }
+
+    /// Its shapes, by the original.
+    pub fn to_shapes(&self) -> Vec<Vec<Contour>> {
+        shape_set(&self.points.all(), &self.contours, &self.shapes).to_shapes()
+    }
+}
+
+impl fmt::Display for Set {
+    fn fmt(&self, out: &mut fmt::Formatter) -> fmt::Result {
+        write_records(out, &self.contours)?;
+        write_records(out, &self.shapes)?;
+        write!(out, "{}", self.points)
+    }
+}
+
+impl Part for Set {
+    fn read(words: &mut Words) -> Result<Set, String> {
+        Ok(Set {
+            contours: next_records(words)?,
+            shapes: next_records(words)?,
+            points: Row::read(words)?,
+        })
+    }
+}
+
+pub fn write_records(out: &mut fmt::Formatter, records: &[Record]) -> fmt::Result {
+    write!(out, " {}", records.len())?;
+    for [start, end] in records {
+        write!(out, " {start} {end}")?;
+    }
+    Ok(())
+}
+
+pub fn next_records(words: &mut Words) -> Result<Vec<Record>, String> {
+    let count = length(words, MOST_RECORDS)?;
+    let mut place = || length(words, i32::MAX as usize);
+    (0..count).map(|_| Ok([place()?, place()?])).collect()
 }
 
 /// Whether the first starts at 0, each starts where the one before ends, none runs

@@ -2,15 +2,12 @@
 //! before the call, and as document 01 has them after it.
 
 use super::flat::{contour_set, records, refusal, shape, shape_set, sound, Record, Set};
-use crate::checksum::checksum;
+use super::rows::{Lengths, Rows};
 use crate::cleaner::{contour, row};
-use crate::reply::{domain, refused_if, Reply, DONE, ROOM};
+use crate::line::{next_number, Words};
+use crate::reply::{domain, Reply, DONE};
 use i_shape::flat::buffer::{FlatContoursBuffer, FlatShapesBuffer};
 use std::fmt;
-
-/// The longest rows that can be lent.
-pub const MOST_OUT: usize = 1100;
-pub const MOST_LENT: usize = 80;
 
 /// What is packed.
 #[derive(Clone, Copy, Debug, PartialEq, Eq)]
@@ -51,22 +48,13 @@ impl Form {
         (number < Form::COUNT).then_some(form)
     }
 
+    pub fn read(words: &mut Words) -> Result<Form, String> {
+        let form = Form::numbered(next_number(words)?);
+        form.ok_or("no form has that number".into())
+    }
+
     pub fn all() -> Vec<Form> {
         (0..Form::COUNT).filter_map(Form::numbered).collect()
-    }
-}
-
-/// How many entries the rows have: numbers, contour records and shape records.
-#[derive(Clone, Copy, Debug, PartialEq, Eq)]
-pub struct Lengths {
-    pub out: usize,
-    pub records: usize,
-    pub groups: usize,
-}
-
-impl fmt::Display for Lengths {
-    fn fmt(&self, out: &mut fmt::Formatter) -> fmt::Result {
-        write!(out, "{} {} {}", self.out, self.records, self.groups)
     }
 }
 
@@ -77,30 +65,48 @@ pub struct Packing {
     points: usize,
     contours: usize,
     shapes: usize,
-    out: Vec<i32>,
-    records: Vec<Record>,
-    groups: Vec<Record>,
+    rows: Rows,
 }
 
 pub fn answer(form: Form, lent: Lengths, more: usize, ranges: &[Record], set: &Set) -> Packing {
-    let all = set.row();
+    let all = set.points.all();
     let (points, more) = all.split_at(all.len().saturating_sub(more));
-    let lent = Packing {
-        reply: DONE,
+    let rows = Rows::with_canaries(lent);
+    let stored = match refusal_of(form, points, more, ranges, set) {
+        Err(reply) => Err(reply),
+        Ok(()) if form.with_shapes => {
+            let packed = shapes(form, points, more, ranges, set);
+            let contours = records(&packed.contour_ranges);
+            stored(
+                &rows,
+                &row(&packed.points),
+                &contours,
+                &records(&packed.shape_ranges),
+            )
+        }
+        Ok(()) => {
+            let packed = contours(form, points, more, set);
+            stored(&rows, &row(&packed.points), &records(&packed.ranges), &[])
+        }
+    };
+    stored.unwrap_or_else(|reply| Packing {
+        reply,
         points: 0,
         contours: 0,
         shapes: 0,
-        out: vec![-7; lent.out],
-        records: vec![[7, 7]; lent.records],
-        groups: vec![[7, 7]; lent.groups],
-    };
-    let refusal = refusal_of(form, points, more, ranges, set);
-    let stored = match refusal {
-        Err(reply) => Err(reply),
-        Ok(()) if form.with_shapes => lent.store_shapes(&shapes(form, points, more, ranges, set)),
-        Ok(()) => lent.store_contours(&contours(form, points, more, set)),
-    };
-    stored.unwrap_or_else(|reply| Packing { reply, ..lent })
+        rows,
+    })
+}
+
+/// The set in front of the rows, if there is room for all of it.
+fn stored(rows: &Rows, points: &[i32], contours: &[Record], shapes: &[Record]) -> Reply<Packing> {
+    Ok(Packing {
+        reply: DONE,
+        points: points.len() / 2,
+        contours: contours.len(),
+        shapes: shapes.len(),
+        rows: rows.holding(points, contours, shapes)?,
+    })
 }
 
 /// The first refusal that is due before the room is looked at: 1, 2, 6, 3.
@@ -117,20 +123,29 @@ fn refusal_of(form: Form, points: &[i32], more: &[i32], ranges: &[Record], set: 
     }
 }
 
+/// The packings that the original's two sets have in common.
+macro_rules! pack {
+    ($into:expr, $packed:expr, $points:expr, $set:expr) => {
+        match $packed {
+            Packed::Contour => $into.set_with_contour(&contour($points)),
+            Packed::Shape => $into.set_with_shape(&shape($points, &$set.contours)),
+            _ => {
+                let shapes = shape_set($points, &$set.contours, &$set.shapes).to_shapes();
+                $into.set_with_shapes(&shapes);
+            }
+        }
+    };
+}
+
 /// The contour set that the original packs, over one that holds something else.
 fn contours(form: Form, points: &[i32], more: &[i32], set: &Set) -> FlatContoursBuffer<i32> {
-    let mut packed = contour_set(&[1, 2, 3, 4], &[[0, 1], [1, 2]]);
-    match form.packed {
-        Packed::Contour => packed.set_with_contour(&contour(points)),
-        Packed::Shape => packed.set_with_shape(&shape(points, &set.contours)),
-        Packed::Shapes => {
-            packed.set_with_shapes(&shape_set(points, &set.contours, &set.shapes).to_shapes());
-        }
-        Packed::OneMore => {
-            packed = contour_set(points, &set.contours);
-            packed.add_contour(&contour(more));
-        }
+    if form.packed == Packed::OneMore {
+        let mut enlarged = contour_set(points, &set.contours);
+        enlarged.add_contour(&contour(more));
+        return enlarged;
     }
+    let mut packed = contour_set(&[1, 2, 3, 4], &[[0, 1], [1, 2]]);
+    pack!(packed, form.packed, points, set);
     packed
 }
 
@@ -142,67 +157,20 @@ fn shapes(
     ranges: &[Record],
     set: &Set,
 ) -> FlatShapesBuffer<i32> {
+    if form.packed == Packed::OneMore {
+        let mut enlarged = shape_set(points, &set.contours, &set.shapes);
+        enlarged.add_shape(&shape(more, ranges));
+        return enlarged;
+    }
     let mut packed = shape_set(&[1, 2, 3, 4], &[[0, 1], [1, 2]], &[[0, 2]]);
-    match form.packed {
-        Packed::Contour => packed.set_with_contour(&contour(points)),
-        Packed::Shape => packed.set_with_shape(&shape(points, &set.contours)),
-        Packed::Shapes => {
-            packed.set_with_shapes(&shape_set(points, &set.contours, &set.shapes).to_shapes());
-        }
-        Packed::OneMore => {
-            packed = shape_set(points, &set.contours, &set.shapes);
-            packed.add_shape(&shape(more, ranges));
-        }
-    }
+    pack!(packed, form.packed, points, set);
     packed
-}
-
-impl Packing {
-    fn store_contours(&self, set: &FlatContoursBuffer<i32>) -> Reply<Packing> {
-        self.stored(&row(&set.points), &records(&set.ranges), &[])
-    }
-
-    fn store_shapes(&self, set: &FlatShapesBuffer<i32>) -> Reply<Packing> {
-        let contours = records(&set.contour_ranges);
-        self.stored(&row(&set.points), &contours, &records(&set.shape_ranges))
-    }
-
-    /// The rows with the set in front, if there is room for all of it.
-    fn stored(&self, points: &[i32], contours: &[Record], shapes: &[Record]) -> Reply<Packing> {
-        Ok(Packing {
-            reply: DONE,
-            points: points.len() / 2,
-            contours: contours.len(),
-            shapes: shapes.len(),
-            out: front(points, &self.out)?,
-            records: front(contours, &self.records)?,
-            groups: front(shapes, &self.groups)?,
-        })
-    }
-}
-
-/// The row with these entries in front.
-fn front<T: Clone>(entries: &[T], row: &[T]) -> Reply<Vec<T>> {
-    refused_if(row.len() < entries.len(), ROOM)?;
-    Ok([entries, &row[entries.len()..]].concat())
 }
 
 impl fmt::Display for Packing {
     fn fmt(&self, out: &mut fmt::Formatter) -> fmt::Result {
-        let flat = |records: &[Record]| records.concat().iter().map(|&n| n as i64).collect();
-        let records: Vec<i64> = flat(&self.records);
-        let groups: Vec<i64> = flat(&self.groups);
-        write!(
-            out,
-            "{} {} {} {} {} {} {}",
-            self.reply,
-            self.points,
-            self.contours,
-            self.shapes,
-            checksum(&self.out),
-            checksum(&records),
-            checksum(&groups)
-        )
+        let counts = [self.points, self.contours, self.shapes].map(|count| count.to_string());
+        write!(out, "{} {} {}", self.reply, counts.join(" "), self.rows)
     }
 }
 
@@ -219,7 +187,7 @@ mod tests {
                 lent,
                 more,
                 ranges,
-            } => answer(form, lent, more, &ranges, &case.set),
+            } => answer(form, lent, more, &ranges, &case.of),
             Kind::Asked => panic!("{line}"),
         }
     }
@@ -229,18 +197,18 @@ mod tests {
         let packing = packed("p 6 5 2 3 0 0 1 0 2 1 0 1 1 2 3 4");
         assert_eq!((packing.reply, packing.points), (0, 2));
         assert_eq!((packing.contours, packing.shapes), (1, 1));
-        assert_eq!(packing.out, [1, 2, 3, 4, -7]);
-        assert_eq!(packing.records, [[0, 2], [7, 7]]);
-        assert_eq!(packing.groups, [[0, 1], [7, 7], [7, 7]]);
+        assert_eq!(packing.rows.out, [1, 2, 3, 4, -7]);
+        assert_eq!(packing.rows.records, [[0, 2], [7, 7]]);
+        assert_eq!(packing.rows.groups, [[0, 1], [7, 7], [7, 7]]);
     }
 
     #[test]
     fn an_addition_writes_the_enlarged_set() {
         let packing = packed("p 7 8 3 2 4 2 0 1 1 2 1 0 2 1 0 1 1 2 3 4 5 6 7 8");
         assert_eq!(packing.reply, 0);
-        assert_eq!(packing.out, [1, 2, 3, 4, 5, 6, 7, 8]);
-        assert_eq!(packing.records, [[0, 2], [2, 3], [3, 4]]);
-        assert_eq!(packing.groups, [[0, 1], [1, 3]]);
+        assert_eq!(packing.rows.out, [1, 2, 3, 4, 5, 6, 7, 8]);
+        assert_eq!(packing.rows.records, [[0, 2], [2, 3], [3, 4]]);
+        assert_eq!(packing.rows.groups, [[0, 1], [1, 3]]);
     }
 
     #[test]
@@ -254,7 +222,10 @@ mod tests {
         ] {
             let packing = packed(line);
             assert_eq!(packing.reply, reply, "{line}");
-            assert!(packing.out.iter().all(|&number| number == -7), "{line}");
+            assert!(
+                packing.rows.out.iter().all(|&number| number == -7),
+                "{line}"
+            );
         }
     }
 }

@@ -16,7 +16,7 @@ pub fn sound() -> Vec<Case> {
     [asked(&sets), packed_in_turn(&sets, 3)].concat()
 }
 
-fn set(rng: &mut Rng) -> Set {
+pub fn set(rng: &mut Rng) -> Set {
     let shapes: Vec<_> = (0..rng.below(6)).map(|_| shape(rng)).collect();
     Set::of(&shapes)
 }
@@ -48,17 +48,20 @@ pub fn damaged() -> Vec<Case> {
     [asked(&sets), packed_in_turn(&sets, 3)].concat()
 }
 
-fn spoil(mut set: Set, rng: &mut Rng) -> Set {
+pub fn spoil(mut set: Set, rng: &mut Rng) -> Set {
     for _ in 0..rng.pick(&[1, 1, 2, 3]) {
         match rng.below(8) {
-            0 => set.numbers.push(0),
+            0 => set.points.numbers.push(0),
             1 | 2 => {
-                let place = rng.below(set.numbers.len());
-                if let Some(number) = set.numbers.get_mut(place) {
+                let place = rng.below(set.points.numbers.len());
+                if let Some(number) = set.points.numbers.get_mut(place) {
                     *number = rng.pick(&OFF_GRID);
                 }
             }
-            3 => set.numbers.truncate(rng.below(set.numbers.len() + 1)),
+            3 => set
+                .points
+                .numbers
+                .truncate(rng.below(set.points.numbers.len() + 1)),
             4 | 5 => spoil_ranges(&mut set.contours, rng),
             _ => spoil_ranges(&mut set.shapes, rng),
         }

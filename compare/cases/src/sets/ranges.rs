@@ -1,9 +1,11 @@
 //! Ranges of every kind: sound, with a gap, overlapping, backward, short, long, or none.
 
 use super::case::Case;
-use super::chosen::{added, asked, packed_in_turn, LONGEST};
+use super::chosen::{added, asked, packed_in_turn};
 use super::flat::{Record, Set};
 use super::packing::Form;
+use super::rows::Lengths;
+use crate::line::Row;
 
 /// The row of two points.
 const TWO: [i32; 4] = [1, 2, 3, 5];
@@ -24,33 +26,36 @@ fn records() -> Vec<Vec<Record>> {
 }
 
 /// Contour ranges over two points, in one shape.
-pub fn of_contours() -> Vec<Case> {
+pub fn contour_ranges() -> Vec<Set> {
     let set = |contours: Vec<Record>| Set {
         shapes: vec![[0, contours.len()]],
         contours,
-        numbers: TWO.to_vec(),
-        times: 1,
+        points: Row::wound(&TWO, 1),
     };
-    let sets: Vec<Set> = records().into_iter().map(set).collect();
-    [asked(&sets), packed_in_turn(&sets, 1)].concat()
+    records().into_iter().map(set).collect()
 }
 
 /// Shape ranges over two contours.
-pub fn of_shapes() -> Vec<Case> {
+pub fn shape_ranges() -> Vec<Set> {
     let set = |shapes: Vec<Record>| Set {
         contours: vec![[0, 1], [1, 2]],
         shapes,
-        numbers: TWO.to_vec(),
-        times: 1,
+        points: Row::wound(&TWO, 1),
     };
-    let sets: Vec<Set> = records().into_iter().map(set).collect();
-    [asked(&sets), packed_in_turn(&sets, 1)].concat()
+    records().into_iter().map(set).collect()
+}
+
+/// Ranges of every kind, of contours and of shapes.
+pub fn of_a_set() -> Vec<Case> {
+    let (contours, shapes) = (contour_ranges(), shape_ranges());
+    let each = |sets: &[Set]| [asked(sets), packed_in_turn(sets, 1)].concat();
+    [each(&contours), each(&shapes)].concat()
 }
 
 /// Contour ranges of a shape of two points that is added to a set of one.
 pub fn of_an_addition() -> Vec<Case> {
     let set = Set::of(&[vec![vec![[8, 9]]]]);
     let form = Form::numbered(7).expect("a form");
-    let case = |ranges: Vec<Record>| added(form, LONGEST, &set, &TWO, &ranges);
+    let case = |ranges: Vec<Record>| added(form, Lengths::LONGEST, &set, &TWO, &ranges);
     records().into_iter().map(case).collect()
 }

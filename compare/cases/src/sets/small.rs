@@ -27,7 +27,7 @@ pub fn empty_shapes() -> Vec<Case> {
 }
 
 /// All rows of up to `most` of the entries.
-fn rows_up_to<T: Clone>(most: usize, entries: &[T]) -> Vec<Vec<T>> {
+pub fn rows_up_to<T: Clone>(most: usize, entries: &[T]) -> Vec<Vec<T>> {
     if most == 0 {
         return vec![vec![]];
     }

@@ -1,7 +1,6 @@
 //! A point of the grid, and a difference of two.
 
 use super::number::int::IntNumber;
-use crate::count::one_more_cross;
 use core::ops::Sub;
 
 #[derive(Clone, Copy, Debug, PartialEq, Eq)]
@@ -23,7 +22,8 @@ impl<I: IntNumber> IntPoint<I> {
 
     #[inline(always)]
     pub fn cross_product(self, other: Self) -> I::Wide {
-        one_more_cross();
+        #[cfg(feature = "count")]
+        crate::count::one_more_cross();
         self.x.to_wide() * other.y.to_wide() - self.y.to_wide() * other.x.to_wide()
     }
 

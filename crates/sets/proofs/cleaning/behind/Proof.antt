@@ -1,9 +1,13 @@
 -- `sets::cleaning::behind` meets its contract: the contour stays behind what is written, or all is as it was.
 use borrow.Author.Needs.{needs}
 use mathlib.Core.Path.{sym}
+use Prim.Native.Nat.{_-_, _*_}
 use native.Mathlib.Omega.{arith}
+use lib.ListN.{length}
 use lib.Seq.{length-take-le}
-use Rattle.sets.proofs.PlaceLaws.{ready-behind, counts-fit, behind-gone, behind-stays}
+use borrow.Rule.Slice.PartMut.{same-len-mid}
+use Rattle.grid.specs.Domain.{count}
+use Rattle.sets.proofs.PlaceLaws.{back-long, ready-behind, counts-fit, behind-gone, behind-stays}
 use Rattle.sets.proofs.cleaning.behind.Statement.{statement}
 use Rattle.sets.proofs.cleaning.behind.Tie as tie
 
@@ -50,16 +54,28 @@ add-decisions c =
     omega (arith, k .0, k .1, s .pre .room, s .pre .fits)
 
 same-length : tie.Need-same-length
-same-length c = search needs
+same-length c =
+    let s = c .before .before .before .before .before .before .before .before .before .before .before .before .before .before .before .before .before .before .before in
+    let w = c .before .before .before .before .before .before .before .before .before .before .before .one in
+    back-long (count (s .args .contour .now)) (s .args .next .now) (w .last .1 .1 .0) (w .kept .1 .1 .0)
 
 same-length-2 : tie.Need-same-length-2
-same-length-2 c = search needs
+same-length-2 c =
+    let s = c .before .before .before .before .before .before .before .before .before .before .before .before .before .before .before .before .before .before .before in
+    let w = c .before .before .before .before .before .before .before .before .before .before .before .one in
+    back-long (count (s .args .contour .now)) (s .args .prev .now) (w .last .1 .1 .1 .0) (w .kept .1 .1 .1 .0)
 
 same-length-3 : tie.Need-same-length-3
-same-length-3 c = search needs
+same-length-3 c =
+    let s = c .before .before .before .before .before .before .before .before .before .before .before .before .before .before .before .before .before .before .before in
+    let w = c .before .before .before .before .before .before .before .before .before .before .before .one in
+    back-long (count (s .args .contour .now)) (s .args .mark .now) (w .last .1 .1 .1 .1 .0) (w .kept .1 .1 .1 .1 .0)
 
 same-length-4 : tie.Need-same-length-4
-same-length-4 c = search needs
+same-length-4 c =
+    let s = c .before .before .before .before .before .before .before .before .before .before .before .before .before .before .before .before .before .before .before in
+    let w = c .before .before .before .before .before .before .before .before .before .before .before .one in
+    same-len-mid (2 * s .args .at .points) (length (s .args .out .now) - 2 * s .args .at .points) (s .args .out .now) (w .last .1 .1 .1 .1 .1 .0) (w .kept .1 .1 .1 .1 .1 .0)
 
 returns : tie.Need-returns
 returns c =
@@ -82,16 +98,28 @@ add-t24 : tie.Need-add-t24
 add-t24 c = omega (arith, c .before .before .before .before .before .before .before .before .before .before .before .before .before .before .before .before .before .before .before .before .pre .narrow)
 
 same-length-5 : tie.Need-same-length-5
-same-length-5 c = search needs
+same-length-5 c =
+    let s = c .before .before .before .before .before .before .before .before .before .before .before .before .before .before .before .before .before .before .before .before in
+    let w = c .before .before .before .before .before .before .before .before .before .before .before .before .one in
+    back-long (count (s .args .contour .now)) (s .args .next .now) (w .last .1 .1 .0) (w .kept .1 .1 .0)
 
 same-length-6 : tie.Need-same-length-6
-same-length-6 c = search needs
+same-length-6 c =
+    let s = c .before .before .before .before .before .before .before .before .before .before .before .before .before .before .before .before .before .before .before .before in
+    let w = c .before .before .before .before .before .before .before .before .before .before .before .before .one in
+    back-long (count (s .args .contour .now)) (s .args .prev .now) (w .last .1 .1 .1 .0) (w .kept .1 .1 .1 .0)
 
 same-length-7 : tie.Need-same-length-7
-same-length-7 c = search needs
+same-length-7 c =
+    let s = c .before .before .before .before .before .before .before .before .before .before .before .before .before .before .before .before .before .before .before .before in
+    let w = c .before .before .before .before .before .before .before .before .before .before .before .before .one in
+    back-long (count (s .args .contour .now)) (s .args .mark .now) (w .last .1 .1 .1 .1 .0) (w .kept .1 .1 .1 .1 .0)
 
 same-length-8 : tie.Need-same-length-8
-same-length-8 c = search needs
+same-length-8 c =
+    let s = c .before .before .before .before .before .before .before .before .before .before .before .before .before .before .before .before .before .before .before .before in
+    let w = c .before .before .before .before .before .before .before .before .before .before .before .before .one in
+    same-len-mid (2 * s .args .at .points) (length (s .args .out .now) - 2 * s .args .at .points) (s .args .out .now) (w .last .1 .1 .1 .1 .1 .0) (w .kept .1 .1 .1 .1 .1 .0)
 
 same-length-9 : tie.Need-same-length-9
 same-length-9 c = search needs

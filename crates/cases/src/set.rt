@@ -1,12 +1,12 @@
 // The shape set of a case.
 ghost use Rattle.cases.specs.Buffer.{Held};
-ghost use Rattle.replay_sets.specs.Reading.{Readable};
+ghost use Rattle.cases.specs.Reading.{Readable};
 use crate::records;
 use crate::records::RECORDS;
-use cases::row;
-use cases::row::ROW;
-use cases::source::BUFFER;
-use cases::source::Source;
+use crate::row;
+use crate::row::ROW;
+use crate::source::BUFFER;
+use crate::source::Source;
 
 // How many contour records, shape records and numbers were read, and the byte after them.
 pub struct Set {

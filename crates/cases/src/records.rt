@@ -1,10 +1,10 @@
 // Ranges as records, each a start and an end.
 ghost use Prim.Native.Nat.{_≤_};
 ghost use Rattle.cases.specs.Buffer.{Held};
-use cases::checksum;
-use cases::number;
-use cases::source::BUFFER;
-use cases::source::Source;
+use crate::checksum;
+use crate::number;
+use crate::source::BUFFER;
+use crate::source::Source;
 
 // How many records a case can give.
 pub const RECORDS: usize = 64;

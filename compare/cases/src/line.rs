@@ -1,0 +1,156 @@
+//! What the lines of every list have in common: how a case is written and read.
+
+use std::fmt;
+use std::str::{FromStr, Split};
+
+/// A row is at most this long: one point more than a contour or a set may have.
+pub const MOST_NUMBERS: usize = 131_074;
+
+/// The words of a line that are still to be read.
+pub type Words<'a> = Split<'a, char>;
+
+/// What takes words of a line. It is written as it is read.
+pub trait Part: fmt::Display + Sized {
+    fn read(words: &mut Words) -> Result<Self, String>;
+}
+
+/// What is asked, and of what.
+#[derive(Clone, Debug, PartialEq, Eq)]
+pub struct Case<K, T> {
+    pub kind: K,
+    pub of: T,
+}
+
+impl<K: Part, T: Part> fmt::Display for Case<K, T> {
+    fn fmt(&self, out: &mut fmt::Formatter) -> fmt::Result {
+        write!(out, "{}{}", self.kind, self.of)
+    }
+}
+
+impl<K: Part, T: Part> FromStr for Case<K, T> {
+    type Err = String;
+
+    fn from_str(line: &str) -> Result<Case<K, T>, String> {
+        let words = &mut line.split(' ');
+        let kind = K::read(words)?;
+        let of = T::read(words)?;
+        Ok(Case { kind, of })
+    }
+}
+
+/// The rest of a line: `numbers`, `times` over.
+#[derive(Clone, Debug, Default, PartialEq, Eq)]
+pub struct Row {
+    pub numbers: Vec<i32>,
+    pub times: usize,
+}
+
+impl Row {
+    pub fn wound(numbers: &[i32], times: usize) -> Row {
+        Row {
+            numbers: numbers.to_vec(),
+            times,
+        }
+    }
+
+    /// All its numbers.
+    pub fn all(&self) -> Vec<i32> {
+        self.numbers.repeat(self.times)
+    }
+}
+
+impl fmt::Display for Row {
+    fn fmt(&self, out: &mut fmt::Formatter) -> fmt::Result {
+        for number in &self.numbers {
+            write!(out, " {number}")?;
+        }
+        if self.times > 1 {
+            write!(out, " *{}", self.times)?;
+        }
+        Ok(())
+    }
+}
+
+impl Part for Row {
+    fn read(words: &mut Words) -> Result<Row, String> {
+        let mut words: Vec<&str> = words.collect();
+        let mut times = 1;
+        if let Some(word) = words.last().and_then(|word| word.strip_prefix('*')) {
+            times = number(word)?;
+            words.pop();
+        }
+        let numbers = words.into_iter().map(number);
+        let numbers = numbers.collect::<Result<Vec<i32>, String>>()?;
+        if times == 0 || numbers.len().saturating_mul(times) > MOST_NUMBERS {
+            return Err("that is no row".into());
+        }
+        Ok(Row { numbers, times })
+    }
+}
+
+/// A count of entries, at most so many.
+pub fn length(words: &mut Words, most: usize) -> Result<usize, String> {
+    let length = next_number(words)?;
+    if length > most {
+        return Err(format!("no row has {length} entries"));
+    }
+    Ok(length)
+}
+
+pub fn next_number<T: FromStr>(words: &mut Words) -> Result<T, String> {
+    number(words.next().ok_or("the line is too short")?)
+}
+
+fn number<T: FromStr>(word: &str) -> Result<T, String> {
+    match word.parse() {
+        Ok(number) if !word.starts_with('+') => Ok(number),
+        _ => Err(format!("{word:?} is no number")),
+    }
+}
+
+#[cfg(test)]
+pub mod tests {
+    use super::{Case, Part};
+    use std::collections::{BTreeMap, BTreeSet};
+    use std::fmt::Debug;
+
+    pub fn read_as_written<K, T>(cases: Vec<Case<K, T>>)
+    where
+        K: Part + Debug + PartialEq,
+        T: Part + Debug + PartialEq,
+    {
+        for case in cases {
+            assert_eq!(case.to_string().parse(), Ok(case));
+        }
+    }
+
+    /// The first words of the answers to the cases that have a form, for each form.
+    pub fn replies_met<K, T>(
+        cases: Vec<Case<K, T>>,
+        form: fn(&K) -> Option<usize>,
+        answer: fn(&Case<K, T>) -> String,
+    ) -> BTreeMap<usize, Vec<String>> {
+        let mut met: BTreeMap<usize, BTreeSet<String>> = BTreeMap::new();
+        for case in cases {
+            if let Some(form) = form(&case.kind) {
+                let reply = answer(&case).split(' ').next().unwrap().to_string();
+                met.entry(form).or_default().insert(reply);
+            }
+        }
+        let sorted = |(form, replies)| (form, Vec::from_iter(replies));
+        met.into_iter().map(sorted).collect()
+    }
+
+    pub fn written_as_read<K: Part + Debug, T: Part + Debug>(lines: &[&str]) {
+        for line in lines {
+            let case: Case<K, T> = line.parse().unwrap();
+            assert_eq!(case.to_string(), *line);
+        }
+    }
+
+    pub fn refused<K: Part, T: Part>(lines: &[&str]) {
+        for line in lines {
+            assert!(line.parse::<Case<K, T>>().is_err(), "{line}");
+        }
+    }
+}
