@@ -2,6 +2,7 @@ pub mod ListLaws
 pub mod SpanLaws
 pub mod RefusalLaws
 pub mod RowLaws
+pub mod PlacedLaws
 pub mod AnswerLaws
 pub mod PartLaws
 pub mod PackLaws

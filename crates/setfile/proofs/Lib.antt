@@ -4,4 +4,10 @@ pub mod ByteLaws
 pub mod RoundTrip
 pub mod GatherLaws
 pub mod CarryLaws
+pub mod CoordinateLaws
+pub mod WriteLaws
+pub mod CodedLaws
+pub mod RefusedLaws
+pub mod OutcomeLaws
+pub mod WriteCases
 pub mod Theorems

@@ -15,7 +15,8 @@ use Rattle.sets.specs.Fates.ShapeFate.{stands, fallen}
 use Rattle.sets.specs.Inside.{Reached, Tested, run-shape, Grouped, grouped, added, run-shapes, Room}
 use Rattle.sets.specs.Promises.{AllContours}
 use Rattle.sets.proofs.LaidLaws.{points-even}
-use Rattle.sets.proofs.AfterLaws.{placed-none, set-placed, laid-behind, after, after-none, after-both, same-reached, same-place, shaped, shape-after}
+use Rattle.buffer.proofs.PlacedLaws.{placed-none, set-placed}
+use Rattle.sets.proofs.AfterLaws.{laid-behind, after, after-none, after-both, same-reached, same-place, shaped, shape-after}
 use Rattle.sets.proofs.EachLaws.{Leaves, room-front, shape-leaves, adding-reached, adding-few, adding-long}
 use Rattle.sets.proofs.Kept.{ShapeRight, shape-is-right}
 

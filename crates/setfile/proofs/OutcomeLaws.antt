@@ -1,0 +1,94 @@
+-- What the writer leaves: nothing, or the file.
+use mathlib.Core.Path.{_≡_, refl, sym, _∙_, ap, ap₂}
+use mathlib.Core.Bool.{not}
+use mathlib.Core.List.{List, _++_}
+use Prim.Native.Nat.{ℕ, zero, suc, _+_, _<_, _≤_}
+use native.Mathlib.Omega.{arith}
+use lib.Dec.{leb}
+use lib.ListN.{length}
+use lib.IntN.{ℤ}
+use borrow.Author.Tests.{le-leb, lt-leb}
+use Rattle.grid.specs.Ladder.{first-of}
+use Rattle.grid.specs.Domain.{count}
+use Rattle.grid.specs.Rows.{front}
+use Rattle.grid.proofs.LadderLaws.{First, first-is, stopped, onward}
+use Rattle.grid.proofs.LadderLaws.First.{here, past, foot}
+use Rattle.buffer.specs.Spans.{spans}
+use Rattle.buffer.specs.Sets.{shapes}
+use Rattle.buffer.specs.Refusals.{room}
+use Rattle.buffer.proofs.SpanLaws.{range-within}
+use Rattle.buffer.proofs.RowLaws.{placed-front}
+use Rattle.buffer.proofs.PlacedLaws.{placed-long}
+use Rattle.setfile.specs.Format.{Entry, entries, file-length}
+use Rattle.setfile.specs.Inside.{two, coded-contours}
+use Rattle.setfile.specs.InsideWriting.{Put, Room, Named, Grouped, coded-shapes}
+use Rattle.setfile.specs.Writing.{refusals, left, written, outcome}
+use Rattle.setfile.specs.Promises.{Small, Carriable, file-of}
+use Rattle.setfile.proofs.ByteLaws.{coded-length, file-by-bytes}
+use Rattle.setfile.proofs.CarryLaws.{carriable, carried-count, carried-total, set-carried}
+use Rattle.setfile.proofs.WriteLaws.{both-put}
+
+-- the file of a set that a file can carry
+module _ (p : List ℤ) (cs ss : List (List ℕ)) (h : Carriable p cs ss) where
+  abbrev carried : List Entry
+  carried = entries (shapes p (spans cs) (spans ss))
+
+  small : Small carried
+  small = set-carried p cs ss h .small
+
+  file-is : file-of p cs ss ≡ two (4096 + length cs) ++ coded-shapes p cs ss
+  file-is = file-by-bytes carried small ∙ ap (λ (n : ℕ). two (4096 + n) ++ coded-contours carried) (carried-count p cs ss h)
+
+  file-long : length (file-of p cs ss) ≡ file-length (length cs) (count p)
+  file-long =
+      ap length (file-by-bytes carried small) ∙ coded-length carried (small .even)
+      ∙ ap₂ file-length (carried-count p cs ss h) (carried-total p cs ss h)
+
+  -- its ranges name contours, and its shapes end within them
+  pub all-named : Named p cs (length cs)
+  all-named k l =
+      let w = range-within cs (count p) k (h .contours) l in
+      record { there = l; forward = w .forward; fits = omega (arith, w .ends, h .even) }
+
+  pub all-grouped : Grouped ss (length cs)
+  all-grouped i l = range-within ss (length cs) i (h .shapes) l .ends
+
+module _ (p : List ℤ) (cs ss : List (List ℕ)) (row : List ℕ) where
+  outcome-is : (k : ℕ) → k ≡ first-of (refusals p cs ss ++ room (leb (file-length (length cs) (count p)) (length row))) → written k (file-of p cs ss) row ≡ outcome p cs ss row
+  unfolding outcome
+  outcome-is k e = ap (λ (n : ℕ). written n (file-of p cs ss) row) e
+
+  module _ (m r : ℕ) (g : m ≡ file-length (length cs) (count p)) (e : r ≡ first-of (refusals p cs ss)) where
+    pub write-refused : (r ≡ 0 → ⊥) → left r 0 row ≡ outcome p cs ss row
+    write-refused n = go r n ∙ outcome-is r (first-is _ _ (stopped (refusals p cs ss) (room (leb (file-length (length cs) (count p)) (length row))) r e n))
+      where
+        go : (r : ℕ) → (r ≡ 0 → ⊥) → left r 0 row ≡ written r (file-of p cs ss) row
+        go zero n = absurd (n refl)
+        go (suc r) n = refl
+
+    module _ (z : r ≡ 0) where
+      beyond : (k : ℕ) → First (room (leb (file-length (length cs) (count p)) (length row))) k → written k (file-of p cs ss) row ≡ outcome p cs ss row
+      beyond k f = outcome-is k (first-is _ _ (onward (refusals p cs ss) (room (leb (file-length (length cs) (count p)) (length row))) k tt (sym e ∙ z) f))
+
+      pub write-full : length row < m → left 5 0 row ≡ outcome p cs ss row
+      write-full h = beyond 5 (here (ap not (lt-leb (file-length (length cs) (count p)) (length row) (omega (arith, g)))))
+
+      pub accepted-set : Carriable p cs ss
+      accepted-set = carriable p cs ss (sym e ∙ z)
+
+      module _ (h : m ≤ length row) where
+        all-room : Room 0 (two (4096 + length cs) ++ coded-shapes p cs ss) row
+        all-room = omega (arith, h, g, sym (ap length (file-is p cs ss accepted-set)) ∙ file-long p cs ss accepted-set)
+
+        pub shapes-room : {b : ℕ} {mid : List ℕ} → Put 0 (two (4096 + length cs)) row b mid → Room b (coded-shapes p cs ss) mid
+        shapes-room {b} {mid} u =
+            let l : length mid ≡ length row = ap length (u .is) ∙ placed-long row 0 (two (4096 + length cs)) (omega (arith, h, g)) in
+            omega (arith, all-room, u .place)
+
+        pub write-done : {b c : ℕ} {mid exit : List ℕ} → Put 0 (two (4096 + length cs)) row b mid → Put b (coded-shapes p cs ss) mid c exit
+            → left 0 m exit ≡ outcome p cs ss row
+        write-done {b} {c} {mid} {exit} u v =
+            let w = both-put all-room u v in
+            let f : exit ≡ front (file-of p cs ss) row = w .is ∙ placed-front row (two (4096 + length cs) ++ coded-shapes p cs ss) ∙ ap (λ (l : List ℕ). front l row) (sym (file-is p cs ss accepted-set)) in
+            ap₂ (λ (n : ℕ) (l : List ℕ). left 0 n l) (g ∙ sym (file-long p cs ss accepted-set)) f
+            ∙ beyond 0 (past (ap not (le-leb (file-length (length cs) (count p)) (length row) (omega (arith, g)))) foot)

@@ -1,0 +1,68 @@
+-- `setfile::putting::put_places` meets its contract: what is left is written behind what is written.
+use borrow.Author.Needs.{needs}
+use Prim.Native.Nat.{_-_}
+use native.Mathlib.Omega.{arith}
+use lib.ListN.{length, drop}
+use Rattle.setfile.specs.Inside.{coded-places}
+use Rattle.setfile.proofs.WriteLaws.{Writing, none-written, part-room, part-written, all-written}
+use Rattle.setfile.proofs.CodedLaws.{next-place, no-place}
+use Rattle.setfile.proofs.putting.put_places.Statement.{statement}
+use Rattle.setfile.proofs.putting.put_places.Tie as tie
+
+abbrev Inv-loop : tie.InvT-loop
+Inv-loop contour bytes₀ at place₀ i₀ bytes place i =
+    Writing at (coded-places contour) bytes₀ place (coded-places (drop i contour)) bytes
+
+abbrev μ-loop : tie.MeasureT-loop
+μ-loop contour bytes₀ at place₀ i₀ bytes place i = length contour - i
+
+loop-holds : tie.Need-loop-holds Inv-loop μ-loop
+loop-holds c = none-written _ _ _ (c .before .pre)
+
+mul-bits : tie.Need-mul-bits Inv-loop μ-loop
+mul-bits c = search needs
+
+shared-slice-copy-out-bits : tie.Need-shared-slice-copy-out-bits Inv-loop μ-loop
+shared-slice-copy-out-bits c = search needs
+
+bits-requires : tie.Need-bits-requires Inv-loop μ-loop
+bits-requires c κs = search needs
+
+put-quad-requires : tie.Need-put-quad-requires Inv-loop μ-loop
+put-quad-requires c κs =
+    part-room (c .before .before .before .before .loop .inv) (next-place (c .before .before .before .before .before .before .args .contour .now) (c .before .before .before .before .loop .i) (c .before .bits .ensures) (c .before .before .bits-arg .given) (c .before .before .before .loop-test .taken))
+
+add-i : tie.Need-add-i Inv-loop μ-loop
+add-i c = search needs
+
+loop-less : tie.Need-loop-less Inv-loop μ-loop
+loop-less c = search needs
+
+loop-again : tie.Need-loop-again Inv-loop μ-loop
+loop-again c =
+    part-written (c .before .before .before .before .before .before .before .loop .inv)
+    (next-place (c .before .before .before .before .before .before .before .before .before .args .contour .now) (c .before .before .before .before .before .before .before .loop .i) (c .before .before .before .before .bits .ensures) (c .before .before .before .before .before .bits-arg .given) (c .before .before .before .before .before .before .loop-test .taken))
+    (c .before .before .put-quad .ensures)
+
+same-length : tie.Need-same-length Inv-loop μ-loop
+same-length c = c .before .loop .inv .long
+
+returns : tie.Need-returns Inv-loop μ-loop
+returns c = all-written (c .before .loop .inv) (no-place (c .before .before .before .args .contour .now) (c .before .loop .i) (omega arith))
+
+pub put-places-spec : {M : Type 1} → statement M
+put-places-spec =
+    tie.close
+    (tie.spec
+    Inv-loop
+    μ-loop
+    loop-holds
+    mul-bits
+    shared-slice-copy-out-bits
+    bits-requires
+    put-quad-requires
+    add-i
+    loop-less
+    loop-again
+    same-length
+    returns)

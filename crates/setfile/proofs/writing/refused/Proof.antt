@@ -1,0 +1,55 @@
+-- `setfile::writing::refused` meets its contract, refusal by refusal.
+use borrow.Author.Needs.{needs}
+use Rattle.setfile.proofs.RefusedLaws.{refused-odd, refused-long, refused-set, refused-carry, refused-none}
+use Rattle.setfile.proofs.writing.refused.Statement.{statement}
+use Rattle.setfile.proofs.writing.refused.Tie as tie
+
+returns : tie.Need-returns
+returns c =
+    let s = c .before .args in
+    refused-odd (s .points .now) (s .contours .now) (s .shapes .now) (c .if1 .taken)
+
+file-length-requires : tie.Need-file-length-requires
+file-length-requires c κs = search needs
+
+returns-2 : tie.Need-returns-2
+returns-2 c =
+    let s = c .before .before .before .args in
+    refused-long (s .points .now) (s .contours .now) (s .shapes .now) (c .before .before .if1 .left) _ (c .before .file-length .ensures) (c .if2 .taken)
+
+refused-requires : tie.Need-refused-requires
+refused-requires c κs = search needs
+
+returns-3 : tie.Need-returns-3
+returns-3 c =
+    let s = c .before .before .before .before .before .args in
+    refused-set (s .points .now) (s .contours .now) (s .shapes .now) (c .before .before .before .before .if1 .left) _ (c .before .before .before .file-length .ensures) (c .before .before .if2 .left)
+    _ (c .before .refused .ensures) (c .if3 .taken)
+
+some-empty-requires : tie.Need-some-empty-requires
+some-empty-requires c κs = search needs
+
+returns-4 : tie.Need-returns-4
+returns-4 c =
+    let s = c .before .before .before .before .before .before .before .args in
+    refused-carry (s .points .now) (s .contours .now) (s .shapes .now) (c .before .before .before .before .before .before .if1 .left) _ (c .before .before .before .before .before .file-length .ensures) (c .before .before .before .before .if2 .left)
+    _ (c .before .before .before .refused .ensures) (c .before .before .if3 .left) _ (c .before .some-empty .ensures) (c .if4 .taken)
+
+returns-5 : tie.Need-returns-5
+returns-5 c =
+    let s = c .before .before .before .before .before .before .before .args in
+    refused-none (s .points .now) (s .contours .now) (s .shapes .now) (c .before .before .before .before .before .before .if1 .left) _ (c .before .before .before .before .before .file-length .ensures) (c .before .before .before .before .if2 .left)
+    _ (c .before .before .before .refused .ensures) (c .before .before .if3 .left) _ (c .before .some-empty .ensures) (c .if4 .left)
+
+pub refused-spec : {M : Type 1} → statement M
+refused-spec =
+    tie.close
+    (tie.spec
+    returns
+    file-length-requires
+    returns-2
+    refused-requires
+    returns-3
+    some-empty-requires
+    returns-4
+    returns-5)

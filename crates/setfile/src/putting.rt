@@ -1,0 +1,108 @@
+// Numbers, contours and shapes, written into the row of bytes; each function answers the place behind what it wrote.
+ghost use mathlib.Core.Path.{_≡_};
+ghost use lib.ListN.{length};
+ghost use mir.Syntax.{w32};
+ghost use mir.Val.{ofZ};
+ghost use Rattle.setfile.specs.Format.{entry};
+ghost use Rattle.setfile.specs.Inside.{two, four, coded-places, coded-contour};
+ghost use Rattle.setfile.specs.InsideWriting.{Put, Room, Named, Grouped, coded-shape, coded-shapes};
+
+// A number in two bytes.
+pub fn put_pair(n: usize, bytes: &mut [u8], at: usize) -> usize
+    requires { ⌜ Room at (two n) (now bytes) ⌝ }
+    ensures { λ r. ⌜ Put at (two n) (now (bytes .entry)) r (now (bytes .exit)) ⌝ }
+{
+    bytes[at] = (n / 256 % 256) as u8;
+    bytes[at + 1] = (n % 256) as u8;
+    at + 2
+}
+
+// A number in four bytes.
+fn put_quad(n: u64, bytes: &mut [u8], at: usize) -> usize
+    requires { ⌜ Room at (four n) (now bytes) ⌝ }
+    ensures { λ r. ⌜ Put at (four n) (now (bytes .entry)) r (now (bytes .exit)) ⌝ }
+{
+    bytes[at] = (n / 16_777_216 % 256) as u8;
+    bytes[at + 1] = (n / 65_536 % 256) as u8;
+    bytes[at + 2] = (n / 256 % 256) as u8;
+    bytes[at + 3] = (n % 256) as u8;
+    at + 4
+}
+
+// The bits of a coordinate, two's complement.
+fn bits(z: i32) -> u64
+    ensures { λ r. ⌜ r ≡ ofZ w32 z ⌝ }
+{
+    if z < 0 {
+        return (z as i64 + 4_294_967_296) as u64;
+    }
+    z as u64
+}
+
+// The coordinates of a contour.
+fn put_places(contour: &[i32], bytes: &mut [u8], at: usize) -> usize
+    requires { ⌜ Room at (coded-places (now contour)) (now bytes) ⌝ }
+    ensures { λ r. ⌜ Put at (coded-places (now (contour .entry))) (now (bytes .entry)) r (now (bytes .exit)) ⌝ }
+{
+    let mut place = at;
+    let mut i: usize = 0;
+    while i < contour.len() {
+        place = put_quad(bits(contour[i]), bytes, place);
+        i += 1;
+    }
+    place
+}
+
+// A contour, which begins a shape or not.
+fn put_contour(begins: bool, contour: &[i32], bytes: &mut [u8], at: usize) -> usize
+    requires { ⌜ Room at (coded-contour (entry begins (now contour))) (now bytes) ⌝ }
+    ensures { λ r. ⌜ Put at (coded-contour (entry begins (now (contour .entry)))) (now (bytes .entry)) r (now (bytes .exit)) ⌝ }
+{
+    let head = begins as usize * 32_768 + contour.len() / 2;
+    let place = put_pair(head, bytes, at);
+    put_places(contour, bytes, place)
+}
+
+// A shape: the contours from one number to another, of which the first begins it.
+fn put_shape(
+    points: &[i32],
+    ranges: &[[usize; 2]],
+    from: usize,
+    to: usize,
+    bytes: &mut [u8],
+    at: usize,
+) -> usize
+    requires { ⌜ Named (now points) (now ranges) to × Room at (coded-shape (now points) (now ranges) from to) (now bytes) ⌝ }
+    ensures { λ r. ⌜ Put at (coded-shape (now (points .entry)) (now (ranges .entry)) from to) (now (bytes .entry)) r (now (bytes .exit)) ⌝ }
+{
+    let mut place = at;
+    let mut k = from;
+    while k < to {
+        let contour = buffer::parts::named(points, ranges, k);
+        place = put_contour(k == from, contour, bytes, place);
+        k += 1;
+    }
+    place
+}
+
+// The shapes of a set.
+pub fn put_shapes(
+    points: &[i32],
+    ranges: &[[usize; 2]],
+    groups: &[[usize; 2]],
+    bytes: &mut [u8],
+    at: usize,
+) -> usize
+    requires { ⌜ Named (now points) (now ranges) (length (now ranges)) × Grouped (now groups) (length (now ranges)) × Room at (coded-shapes (now points) (now ranges) (now groups)) (now bytes) ⌝ }
+    ensures { λ r. ⌜ Put at (coded-shapes (now (points .entry)) (now (ranges .entry)) (now (groups .entry))) (now (bytes .entry)) r (now (bytes .exit)) ⌝ }
+{
+    let mut place = at;
+    let mut i: usize = 0;
+    while i < groups.len() {
+        let from = groups[i][0];
+        let to = groups[i][1];
+        place = put_shape(points, ranges, from, to, bytes, place);
+        i += 1;
+    }
+    place
+}
