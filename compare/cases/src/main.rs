@@ -1,5 +1,6 @@
 //! `cases list` writes the list of cases of a program; `cases answers` reads a list and
-//! writes the answers of the Rust original to it.
+//! writes the answers of the Rust original to it; `cases listings` writes set files and
+//! their listings.
 
 mod answers;
 mod asked;
@@ -8,6 +9,7 @@ mod checksum;
 mod cleaner;
 mod cleaning;
 mod damaged;
+mod files;
 mod known;
 mod lent;
 mod line;
@@ -36,10 +38,16 @@ fn main() -> ExitCode {
         ["list", "replay"] => write_list(&list()),
         ["list", "replay_sets"] => write_list(&once(sets::list())),
         ["list", "replay_cleaning"] => write_list(&once(cleaning::list())),
+        ["list", "replay_files"] => write_list(&once(files::list())),
         ["answers", "replay"] => write_answers(answers::HEADER, answers::answer),
         ["answers", "replay_sets"] => write_answers(sets::HEADER, sets::answer),
         ["answers", "replay_cleaning"] => write_answers(cleaning::HEADER, cleaning::answer),
-        _ => Err("usage: cases list PROGRAM | cases answers PROGRAM <list".into()),
+        ["answers", "replay_files"] => write_answers(files::HEADER, files::answer),
+        ["listings", folder] => files::write_listings(folder.as_ref()).map_err(Into::into),
+        _ => Err(
+            "usage: cases list PROGRAM | cases answers PROGRAM <list | cases listings FOLDER"
+                .into(),
+        ),
     };
     match outcome {
         Ok(()) => ExitCode::SUCCESS,

@@ -65,7 +65,7 @@ pub record Fits (k a b c : ℕ) (out : List ℤ) (contours shapes : List (List �
   pub contours-in : b ≤ length contours
   pub shapes-in : c ≤ length shapes
 
-clear-of : (k : ℕ) (b : Bool) → first-of (told k ++ room b) ≡ 0 → (k ≡ 0) × (b ≡ true)
+pub clear-of : (k : ℕ) (b : Bool) → first-of (told k ++ room b) ≡ 0 → (k ≡ 0) × (b ≡ true)
 unfolding first-of
 clear-of zero true e = (refl, refl)
 clear-of zero false e = absurd (omega arith)

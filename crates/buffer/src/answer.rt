@@ -11,6 +11,7 @@ pub struct Counted {
 }
 
 // What packing wrote: its reply number, and how many of each; 0 where it is refused, and no shapes in a contour set.
+#[repr(C)]
 pub struct Packed {
     pub reply: u32,
     pub points: usize,

@@ -1,10 +1,10 @@
 // Sets of contours and of shapes, flat: points, and the ranges that name their parts.
-mod answer;
+pub mod answer;
 pub mod contours;
 pub mod copy;
 pub mod parts;
 pub mod ranges;
-mod refusal;
+pub mod refusal;
 pub mod shapes;
 
 pub use answer::Counted;

@@ -11,6 +11,7 @@ ghost use Rattle.clean.specs.Inside.{Ready, Settled, Swept};
 use ring::Rule;
 
 // The answer of a cleaning: its reply number, how many points are kept, and after how many decisions.
+#[repr(C)]
 pub struct Cleaned {
     pub reply: u32,
     pub points: usize,

@@ -25,6 +25,7 @@ pub struct Point {
 }
 
 // The answer to a question of yes or no: its reply number, and no where it is refused.
+#[repr(C)]
 pub struct Verdict {
     pub reply: u32,
     pub yes: bool,

@@ -2,6 +2,7 @@ pub mod Bits
 pub mod Format
 pub mod Reading
 pub mod Writing
-pub mod Inside
-pub mod InsideWriting
 pub mod Promises
+pub mod Inside
+pub mod InsideReading
+pub mod InsideWriting

@@ -6,11 +6,9 @@ ghost use Rattle.grid.specs.Domain.{count};
 ghost use Rattle.buffer.specs.Spans.{spans};
 ghost use Rattle.setfile.specs.Format.{file-length};
 ghost use Rattle.setfile.specs.Writing.{some-empty, refusals, left, outcome};
+use crate::MOST_BYTES;
 use crate::answer::Written;
 use crate::putting;
-
-// The most bytes of a file.
-const MOST_BYTES: usize = 65_536;
 
 // The most contours of a file.
 const MOST_CONTOURS: usize = 4_095;

@@ -15,6 +15,7 @@ use clean::Cleaned;
 use ring::Rule;
 
 // The answer of cleaning a set: its reply number, how many of each are kept, and after how many decisions.
+#[repr(C)]
 pub struct CleanedSet {
     pub reply: u32,
     pub points: usize,

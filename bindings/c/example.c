@@ -1,0 +1,84 @@
+/* A worked example: ask about a contour, clean it, clean a shape with a hole, and build a set. */
+#include <inttypes.h>
+#include <stdio.h>
+#include <stdlib.h>
+
+#include "ukmerelt.h"
+
+#define LENGTH(row) (sizeof(row) / sizeof *(row))
+
+static void print_points(const int32_t *points, size_t from, size_t to)
+{
+    for (size_t i = from; i < to; i++)
+        printf(" (%" PRId32 ",%" PRId32 ")", points[2 * i], points[2 * i + 1]);
+    printf("\n");
+}
+
+/* A contour with a point in its lower edge. */
+static void one_contour(void)
+{
+    const int32_t contour[] = {0, 0, 2, 0, 4, 0, 4, 4, 0, 4};
+    size_t n = LENGTH(contour) / 2;
+
+    UkmArea area = ukm_area_two(contour, LENGTH(contour));
+    printf("doubled area %" PRId64 "\n", area.value);
+    printf("simple: %s\n", ukm_is_simple(contour, LENGTH(contour)).yes ? "yes" : "no");
+    printf("contains (1,1): %s\n", ukm_contains(contour, LENGTH(contour), 1, 1).yes ? "yes" : "no");
+
+    /* The scratch has an entry for each point, and the output room for the whole input. */
+    uint32_t *next = malloc(n * sizeof *next);
+    uint32_t *prev = malloc(n * sizeof *prev);
+    uint8_t *mark = malloc(n);
+    int32_t *out = malloc(sizeof contour);
+    UkmCleaned cleaned = ukm_simplified(contour, LENGTH(contour), next, n, prev, n, mark, n, out, LENGTH(contour));
+    if (cleaned.reply == UKM_DONE) {
+        printf("simplified, after %zu decisions:", cleaned.decisions);
+        print_points(out, 0, cleaned.points);
+    }
+    free(next);
+    free(prev);
+    free(mark);
+    free(out);
+}
+
+/* An outline with a spike, and a hole that collapses. */
+static void one_shape(void)
+{
+    const int32_t points[] = {0, 0, 8, 0, 8, 8, 8, 12, 8, 8, 0, 8, /* hole */ 2, 2, 4, 4, 6, 6};
+    const UkmRange ranges[] = {{0, 6}, {6, 9}};
+    uint32_t next[9], prev[9];
+    uint8_t mark[9];
+    int32_t out[18];
+    UkmRange records[2];
+
+    UkmCleanedSet cleaned = ukm_despiked_shape(points, LENGTH(points), ranges, LENGTH(ranges), next, LENGTH(next), prev,
+                                               LENGTH(prev), mark, LENGTH(mark), out, LENGTH(out), records,
+                                               LENGTH(records));
+    printf("despiked: reply %" PRIu32 ", contours %zu of %zu\n", cleaned.reply, cleaned.contours, LENGTH(ranges));
+    for (size_t i = 0; i < cleaned.contours; i++)
+        print_points(out, records[i].start, records[i].end);
+}
+
+/* A set that starts empty, whose rows are then NULL, and is enlarged by a contour. */
+static void a_set(void)
+{
+    const int32_t triangle[] = {0, 0, 4, 0, 0, 4};
+    int32_t out[6];
+    UkmRange records[1];
+
+    UkmPacked set = ukm_add_contour(NULL, 0, NULL, 0, triangle, LENGTH(triangle), out, LENGTH(out), records, 1);
+    printf("set: %zu contour of %zu points\n", set.contours, set.points);
+
+    set = ukm_add_contour(NULL, 0, NULL, 0, triangle, LENGTH(triangle), out, 5, records, 1);
+    printf("with room for 5 numbers: reply %" PRIu32 "\n", set.reply);
+}
+
+int main(void)
+{
+    one_contour();
+    one_shape();
+    a_set();
+
+    printf("area of nothing: reply %" PRIu32 "\n", ukm_area(NULL, 0).reply);
+    return 0;
+}

@@ -1,0 +1,281 @@
+/*
+ * Ukmerelt: closed contours of whole numbers, cleaned and asked about.
+ *
+ * Link libukmerelt.a, which `rt staticlib ukmerelt` writes into target/staticlib.
+ *
+ * Rows. A row is a pointer and a length in elements. A contour is a row of numbers x, y, x, y, read as closed, so its
+ * length is twice its count of points. A contour set is points and a row of ranges, one for each contour; a shape set
+ * has a second row of ranges, which count contours. A shape is a contour set whose first contour is the outline.
+ * An empty row may be passed as NULL with length 0. Any other row is aligned for its elements and readable, and if it
+ * is lent for writing writable, over its whole length. A row lent for writing overlaps no other row of the call; rows
+ * that are only read may overlap. Nothing is kept after the call, nothing is allocated, and there is no shared state:
+ * calls may run at the same time in many threads.
+ *
+ * Answers. `reply` is 0, or the number of the first refusal in the order 1, 2, 6, 3, 12, 4, 5, 8, 7; ukm_read_set
+ * has an order of its own. On a refusal every other field is 0 or false and every row is as it was, but for 7, which
+ * reports its decisions and leaves the scratch zeroed. Whatever numbers arrive are answered or refused; none traps.
+ *
+ * Scratch. A cleaner is lent three rows, next, prev and mark, with at least as many entries each as the input has
+ * points. After 0 and 7 that many entries of each are 0; what they held before plays no part.
+ *
+ * Output. What is kept stands in front of the rows, and the rest of each row is as it was.
+ */
+#ifndef UKMERELT_H
+#define UKMERELT_H
+
+#include <stdbool.h>
+#include <stddef.h>
+#include <stdint.h>
+
+#ifdef __cplusplus
+extern "C" {
+#endif
+
+/* The largest coordinate, either side of 0. */
+#define UKM_LIMIT 536870912
+
+/* The most points of a contour or a set, and the most bytes of a file. */
+#define UKM_MOST 65536
+
+/* The replies. */
+enum {
+    UKM_DONE = 0,        /* done */
+    UKM_ODD = 1,         /* an odd count of coordinates */
+    UKM_TOO_MANY = 2,    /* over 65,536 points, or a file, read or to be written, over 65,536 bytes */
+    UKM_OFF_GRID = 3,    /* a coordinate, or the asked point, beyond 536,870,912 either side of 0 */
+    UKM_SCRATCH = 4,     /* a scratch row with fewer entries than the input has points */
+    UKM_ROOM = 5,        /* an output row that is too short */
+    UKM_RANGES = 6,      /* ranges that are not sound */
+    UKM_COLLAPSED = 7,   /* collapsed: under three points, or cleaned away */
+    UKM_EMPTY = 8,       /* the area or the winding of an empty contour, or the area of a set that has one */
+    UKM_EDITION = 9,     /* a file whose edition is not 1 */
+    UKM_LENGTH = 10,     /* a file that is short or has bytes left over */
+    UKM_NO_SHAPE = 11,   /* a file whose first contour does not begin a shape */
+    UKM_CANT_CARRY = 12  /* a set that no file carries: over 4,095 contours, 32,767 points in one, or an empty shape */
+};
+
+/* A part of a row: from start up to end, which is not part of it. Points for a contour, contours for a shape. */
+typedef struct UkmRange {
+    size_t start;
+    size_t end;
+} UkmRange;
+
+typedef struct UkmVerdict {
+    uint32_t reply;
+    bool yes;
+} UkmVerdict;
+
+typedef struct UkmArea {
+    uint32_t reply;
+    int64_t value;
+} UkmArea;
+
+/* points: how many are kept. decisions: how often the walk looked at a vertex and decided. */
+typedef struct UkmCleaned {
+    uint32_t reply;
+    size_t points;
+    size_t decisions;
+} UkmCleaned;
+
+/* The same, of a set. */
+typedef struct UkmCleanedSet {
+    uint32_t reply;
+    size_t points;
+    size_t contours;
+    size_t shapes;
+    size_t decisions;
+} UkmCleanedSet;
+
+/* How many of each are written. */
+typedef struct UkmPacked {
+    uint32_t reply;
+    size_t points;
+    size_t contours;
+    size_t shapes;
+} UkmPacked;
+
+/* How many bytes are written. */
+typedef struct UkmWritten {
+    uint32_t reply;
+    size_t bytes;
+} UkmWritten;
+
+/* One contour. */
+
+/* The doubled area, counter-clockwise positive, modulo 2^64 in the range of int64_t. Refuses with 1, 2, 3, and 8 if
+ * there are no points. */
+UkmArea ukm_area_two(const int32_t *points, size_t points_len);
+
+/* Its half, cut toward zero. Refuses as ukm_area_two does. */
+UkmArea ukm_area(const int32_t *points, size_t points_len);
+
+/* Whether all turns have one sign and no edge reverses, equal neighbours skipped; two points or fewer are convex.
+ * Refuses with 1, 2, 3. */
+UkmVerdict ukm_is_convex(const int32_t *points, size_t points_len);
+
+/* Whether the doubled area that ukm_area_two reports is at or below 0. Refuses with 1, 2, 3, and 8 if there are no
+ * points. */
+UkmVerdict ukm_is_clockwise(const int32_t *points, size_t points_len);
+
+/* Whether there are three or more points and no vertex whose two edges have cross product 0. Refuses with 1, 2, 3. */
+UkmVerdict ukm_is_simple(const int32_t *points, size_t points_len);
+
+/* Whether, equal neighbours skipped, three or more points are left and the way turns back at none. Refuses with
+ * 1, 2, 3. */
+UkmVerdict ukm_has_no_spikes(const int32_t *points, size_t points_len);
+
+/* Whether the point x, y is inside, by the parity of the edges to its right. Refuses with 1, 2, and 3 also for a point
+ * x, y off the grid. */
+UkmVerdict ukm_contains(const int32_t *points, size_t points_len, int32_t x, int32_t y);
+
+/* The contour without the vertices whose two edges have cross product 0. Refuses with 1, 2, 3, with 4 if a scratch row
+ * has fewer entries than there are points, with 5 if out is shorter than points, and with 7 if fewer than three
+ * points would stay. */
+UkmCleaned ukm_simplified(const int32_t *points, size_t points_len,
+                          uint32_t *next, size_t next_len,
+                          uint32_t *prev, size_t prev_len,
+                          uint8_t *mark, size_t mark_len,
+                          int32_t *out, size_t out_len);
+
+/* The contour without its spikes and without equal neighbours. Refuses as ukm_simplified does. */
+UkmCleaned ukm_despiked(const int32_t *points, size_t points_len,
+                        uint32_t *next, size_t next_len,
+                        uint32_t *prev, size_t prev_len,
+                        uint8_t *mark, size_t mark_len,
+                        int32_t *out, size_t out_len);
+
+/* Contour sets. */
+
+/* Whether the ranges are sound: the first starts at 0, each starts where the one before ends, none runs backward, and
+ * the last ends at count; no ranges are sound for count 0. Refuses nothing. */
+bool ukm_ranges_sound(const UkmRange *ranges, size_t ranges_len, size_t count);
+
+/* Whether every contour is simple. Refuses with 1, 2, 6, 3. */
+UkmVerdict ukm_set_is_simple(const int32_t *points, size_t points_len, const UkmRange *ranges, size_t ranges_len);
+
+/* Whether no contour has spikes. Refuses with 1, 2, 6, 3. */
+UkmVerdict ukm_set_has_no_spikes(const int32_t *points, size_t points_len, const UkmRange *ranges, size_t ranges_len);
+
+/* The sum of the contours' doubled areas, modulo 2^64 in the range of int64_t. Refuses with 1, 2, 6, 3, and 8 if a
+ * contour is empty. */
+UkmArea ukm_set_area_two(const int32_t *points, size_t points_len, const UkmRange *ranges, size_t ranges_len);
+
+/* Its half, cut toward zero. Refuses as ukm_set_area_two does. */
+UkmArea ukm_set_area(const int32_t *points, size_t points_len, const UkmRange *ranges, size_t ranges_len);
+
+/* Whether the point x, y is in the first contour and in no later one. Refuses with 1, 2, 6, and 3 also for a point x, y
+ * off the grid. */
+UkmVerdict ukm_in_shape(const int32_t *points, size_t points_len, const UkmRange *ranges, size_t ranges_len,
+                        int32_t x, int32_t y);
+
+/* Shapes. A contour that already passes (ukm_is_simple, ukm_has_no_spikes) is copied and adds no decisions. A later
+ * contour that collapses is dropped. */
+
+/* The shape with each contour simplified; shapes is 1 on 0. Refuses with 1, 2, 6, 3, with 4 if a scratch row has fewer
+ * entries than the whole shape has points, with 5 if out is shorter than points or records than ranges, and with 7 if
+ * the first contour collapses. */
+UkmCleanedSet ukm_simplified_shape(const int32_t *points, size_t points_len,
+                                   const UkmRange *ranges, size_t ranges_len,
+                                   uint32_t *next, size_t next_len,
+                                   uint32_t *prev, size_t prev_len,
+                                   uint8_t *mark, size_t mark_len,
+                                   int32_t *out, size_t out_len,
+                                   UkmRange *records, size_t records_len);
+
+/* The shape with each contour despiked. Refuses as ukm_simplified_shape does. */
+UkmCleanedSet ukm_despiked_shape(const int32_t *points, size_t points_len,
+                                 const UkmRange *ranges, size_t ranges_len,
+                                 uint32_t *next, size_t next_len,
+                                 uint32_t *prev, size_t prev_len,
+                                 uint8_t *mark, size_t mark_len,
+                                 int32_t *out, size_t out_len,
+                                 UkmRange *records, size_t records_len);
+
+/* The shapes of a set, each simplified; one whose first contour collapses is dropped, and one of no contours stays.
+ * Refuses with 1, 2, 6, 3, with 4 if a scratch row has fewer entries than the whole set has points, and with 5 if out
+ * is shorter than points, records than contours, or groups than shapes. */
+UkmCleanedSet ukm_simplified_shapes(const int32_t *points, size_t points_len,
+                                    const UkmRange *contours, size_t contours_len,
+                                    const UkmRange *shapes, size_t shapes_len,
+                                    uint32_t *next, size_t next_len,
+                                    uint32_t *prev, size_t prev_len,
+                                    uint8_t *mark, size_t mark_len,
+                                    int32_t *out, size_t out_len,
+                                    UkmRange *records, size_t records_len,
+                                    UkmRange *groups, size_t groups_len);
+
+/* The shapes of a set, each despiked. Refuses as ukm_simplified_shapes does. */
+UkmCleanedSet ukm_despiked_shapes(const int32_t *points, size_t points_len,
+                                  const UkmRange *contours, size_t contours_len,
+                                  const UkmRange *shapes, size_t shapes_len,
+                                  uint32_t *next, size_t next_len,
+                                  uint32_t *prev, size_t prev_len,
+                                  uint8_t *mark, size_t mark_len,
+                                  int32_t *out, size_t out_len,
+                                  UkmRange *records, size_t records_len,
+                                  UkmRange *groups, size_t groups_len);
+
+/* Packing: a set written in front of out (points), records (contour ranges) and groups (shape ranges). */
+
+/* One shape of one contour. Refuses with 1, 2, 3, and 5 if an output row is too short for what is written. */
+UkmPacked ukm_pack_contour(const int32_t *contour, size_t contour_len,
+                           int32_t *out, size_t out_len,
+                           UkmRange *records, size_t records_len,
+                           UkmRange *groups, size_t groups_len);
+
+/* One shape. Refuses with 1, 2, 6, 3, and 5 if an output row is too short for what is written. */
+UkmPacked ukm_pack_shape(const int32_t *points, size_t points_len,
+                         const UkmRange *ranges, size_t ranges_len,
+                         int32_t *out, size_t out_len,
+                         UkmRange *records, size_t records_len,
+                         UkmRange *groups, size_t groups_len);
+
+/* A shape set. Refuses with 1, 2, 6, 3, and 5 if an output row is too short for what is written. */
+UkmPacked ukm_pack_shapes(const int32_t *points, size_t points_len,
+                          const UkmRange *contours, size_t contours_len,
+                          const UkmRange *shapes, size_t shapes_len,
+                          int32_t *out, size_t out_len,
+                          UkmRange *records, size_t records_len,
+                          UkmRange *groups, size_t groups_len);
+
+/* A contour set and one contour more; shapes is 0. Refuses with 1, 2 also where both together have too many points, 6,
+ * 3, and 5 if an output row is too short for what is written. */
+UkmPacked ukm_add_contour(const int32_t *points, size_t points_len,
+                          const UkmRange *ranges, size_t ranges_len,
+                          const int32_t *contour, size_t contour_len,
+                          int32_t *out, size_t out_len,
+                          UkmRange *records, size_t records_len);
+
+/* A shape set and one shape more, of the points in more and the contours in ranges. Refuses with 1, 2 also where both
+ * together have too many points, 6, 3, and 5 if an output row is too short for what is written. */
+UkmPacked ukm_add_shape(const int32_t *points, size_t points_len,
+                        const UkmRange *contours, size_t contours_len,
+                        const UkmRange *shapes, size_t shapes_len,
+                        const int32_t *more, size_t more_len,
+                        const UkmRange *ranges, size_t ranges_len,
+                        int32_t *out, size_t out_len,
+                        UkmRange *records, size_t records_len,
+                        UkmRange *groups, size_t groups_len);
+
+/* Set files. */
+
+/* The shape set of a file. Refuses with 2; with 10 if there are under two bytes; with 9; then contour by contour with
+ * 10 for a missing header, 11 for a first contour that begins no shape, 10 for missing points; with 10 for bytes left
+ * over; with 3; and with 5 if an output row is too short for what the file holds. */
+UkmPacked ukm_read_set(const uint8_t *bytes, size_t bytes_len,
+                       int32_t *out, size_t out_len,
+                       UkmRange *records, size_t records_len,
+                       UkmRange *groups, size_t groups_len);
+
+/* The file of a shape set, in front of out. Refuses with 1, with 2 for too many points or too long a file, with 6, 3,
+ * 12, and 5 if out is shorter than the file. */
+UkmWritten ukm_write_set(const int32_t *points, size_t points_len,
+                         const UkmRange *contours, size_t contours_len,
+                         const UkmRange *shapes, size_t shapes_len,
+                         uint8_t *out, size_t out_len);
+
+#ifdef __cplusplus
+}
+#endif
+
+#endif

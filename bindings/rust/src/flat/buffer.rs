@@ -1,0 +1,370 @@
+use crate::int::point::IntPoint;
+use crate::int::shape::{IntContour, IntShape, IntShapes};
+use crate::library::{self, Scratch};
+use crate::refused::Refused;
+use crate::Cleaned;
+
+/// Contours: their points end to end, and for each the start and the end of its own.
+///
+/// Ranges are sound if the first starts at 0, each starts where the one before ends, none runs backward, and the last
+/// ends at the count of points. With others questions, cleanings and additions are refused as [`Refused::Ranges`].
+#[derive(Debug, Clone, PartialEq, Eq, Default)]
+pub struct FlatContoursBuffer {
+    pub points: Vec<IntPoint>,
+    pub ranges: Vec<[usize; 2]>,
+}
+
+/// Shapes: a contour set, and for each shape the start and the end of its contours.
+#[derive(Debug, Clone, PartialEq, Eq, Default)]
+pub struct FlatShapesBuffer {
+    pub points: Vec<IntPoint>,
+    pub contour_ranges: Vec<[usize; 2]>,
+    pub shape_ranges: Vec<[usize; 2]>,
+}
+
+impl FlatContoursBuffer {
+    pub fn with_capacity(capacity: usize) -> Self {
+        FlatContoursBuffer {
+            points: Vec::with_capacity(capacity),
+            ranges: Vec::new(),
+        }
+    }
+
+    pub fn is_empty(&self) -> bool {
+        self.points.is_empty()
+    }
+
+    pub fn is_single_contour(&self) -> bool {
+        self.ranges.len() == 1
+    }
+
+    /// The first contour: all points where there are no ranges, and none where the first range is beyond them.
+    pub fn as_first_contour(&self) -> &[IntPoint] {
+        match self.ranges.first() {
+            Some(&[start, end]) => self.points.get(start..end).unwrap_or(&[]),
+            None => &self.points,
+        }
+    }
+
+    pub fn as_first_contour_mut(&mut self) -> &mut [IntPoint] {
+        match self.ranges.first() {
+            Some(&[start, end]) => self.points.get_mut(start..end).unwrap_or(&mut []),
+            None => &mut self.points,
+        }
+    }
+
+    /// Becomes the set of one contour; stays as it is where that is refused, as with every `set_with` and `add`.
+    pub fn set_with_contour(&mut self, contour: &[IntPoint]) -> Result<(), Refused> {
+        let mut set = FlatContoursBuffer::default();
+        set.add_contour(contour)?;
+        *self = set;
+        Ok(())
+    }
+
+    pub fn set_with_shape(&mut self, shape: &[IntContour]) -> Result<(), Refused> {
+        let mut set = FlatShapesBuffer::default();
+        set.set_with_shape(shape)?;
+        *self = set.into_contours();
+        Ok(())
+    }
+
+    /// Becomes the set of all contours of the shapes; where a shape ends is dropped.
+    pub fn set_with_shapes(&mut self, shapes: &[IntShape]) -> Result<(), Refused> {
+        let mut set = FlatShapesBuffer::default();
+        set.set_with_shapes(shapes)?;
+        *self = set.into_contours();
+        Ok(())
+    }
+
+    pub fn clear_and_reserve(&mut self, points: usize, contours: usize) {
+        self.points.clear();
+        self.points.reserve(points);
+        self.ranges.clear();
+        self.ranges.reserve(contours);
+    }
+
+    /// Adds one contour. The whole set is written anew: make a large one by `set_with_shape`.
+    pub fn add_contour(&mut self, contour: &[IntPoint]) -> Result<(), Refused> {
+        let mut set =
+            FlatContoursBuffer::rows(self.points.len() + contour.len(), self.ranges.len() + 1);
+        library::add_contour(
+            &self.points,
+            &self.ranges,
+            contour,
+            &mut set.points,
+            &mut set.ranges,
+        )
+        .read()?;
+        *self = set;
+        Ok(())
+    }
+
+    pub fn to_contours(&self) -> Result<Vec<IntContour>, Refused> {
+        check_sound(&self.ranges, self.points.len())?;
+        Ok(self.contours())
+    }
+
+    /// Whether every contour is simple.
+    pub fn is_simple(&self) -> Result<bool, Refused> {
+        library::set_is_simple(&self.points, &self.ranges).read()
+    }
+
+    /// Whether no contour has spikes.
+    pub fn has_no_spikes(&self) -> Result<bool, Refused> {
+        library::set_has_no_spikes(&self.points, &self.ranges).read()
+    }
+
+    /// Whether the point is in the first contour and in no later one.
+    pub fn contains_point(&self, point: IntPoint) -> Result<bool, Refused> {
+        library::in_shape(&self.points, &self.ranges, point).read()
+    }
+
+    /// The set, as a shape, simplified: see [`SimpleShape`](crate::int::simple::SimpleShape).
+    pub fn simplified(&self) -> Result<Cleaned<FlatContoursBuffer>, Refused> {
+        let mut out = FlatContoursBuffer::rows(self.points.len(), self.ranges.len());
+        library::simplified_shape(
+            &self.points,
+            &self.ranges,
+            &mut Scratch::default(),
+            &mut out.points,
+            &mut out.ranges,
+        )
+        .read_contours(out)
+    }
+
+    /// The set, as a shape, despiked: see [`DeSpikeShape`](crate::int::despike::DeSpikeShape).
+    pub fn despiked_shape(&self) -> Result<Cleaned<FlatContoursBuffer>, Refused> {
+        let mut out = FlatContoursBuffer::rows(self.points.len(), self.ranges.len());
+        library::despiked_shape(
+            &self.points,
+            &self.ranges,
+            &mut Scratch::default(),
+            &mut out.points,
+            &mut out.ranges,
+        )
+        .read_contours(out)
+    }
+
+    /// The contours end to end, as they are.
+    pub(crate) fn of_shape(shape: &[IntContour]) -> Self {
+        let mut set = FlatContoursBuffer::default();
+        for contour in shape {
+            let start = set.points.len();
+            set.points.extend_from_slice(contour);
+            set.ranges.push([start, set.points.len()]);
+        }
+        set
+    }
+
+    /// The contours of sound ranges.
+    pub(crate) fn contours(&self) -> Vec<IntContour> {
+        parts(&self.points, &self.ranges)
+    }
+
+    fn rows(points: usize, contours: usize) -> Self {
+        FlatContoursBuffer {
+            points: vec![IntPoint::ZERO; points],
+            ranges: vec![[0, 0]; contours],
+        }
+    }
+}
+
+impl FlatShapesBuffer {
+    pub fn with_capacity(points: usize, contours: usize, shapes: usize) -> Self {
+        FlatShapesBuffer {
+            points: Vec::with_capacity(points),
+            contour_ranges: Vec::with_capacity(contours),
+            shape_ranges: Vec::with_capacity(shapes),
+        }
+    }
+
+    pub fn is_empty(&self) -> bool {
+        self.points.is_empty()
+    }
+
+    /// Becomes the set of one shape of one contour; stays as it is where that is refused, as with every `set_with` and
+    /// `add`.
+    pub fn set_with_contour(&mut self, contour: &[IntPoint]) -> Result<(), Refused> {
+        let mut set = FlatShapesBuffer::rows(contour.len(), 1, 1);
+        library::pack_contour(
+            contour,
+            &mut set.points,
+            &mut set.contour_ranges,
+            &mut set.shape_ranges,
+        )
+        .read()?;
+        *self = set;
+        Ok(())
+    }
+
+    pub fn set_with_shape(&mut self, shape: &[IntContour]) -> Result<(), Refused> {
+        let from = FlatContoursBuffer::of_shape(shape);
+        let mut set = FlatShapesBuffer::rows(from.points.len(), from.ranges.len(), 1);
+        library::pack_shape(
+            &from.points,
+            &from.ranges,
+            &mut set.points,
+            &mut set.contour_ranges,
+            &mut set.shape_ranges,
+        )
+        .read()?;
+        *self = set;
+        Ok(())
+    }
+
+    pub fn set_with_shapes(&mut self, shapes: &[IntShape]) -> Result<(), Refused> {
+        let from = FlatShapesBuffer::of_shapes(shapes);
+        let mut set = from.rows_alike();
+        library::pack_shapes(
+            &from.points,
+            &from.contour_ranges,
+            &from.shape_ranges,
+            &mut set.points,
+            &mut set.contour_ranges,
+            &mut set.shape_ranges,
+        )
+        .read()?;
+        *self = set;
+        Ok(())
+    }
+
+    pub fn clear_and_reserve(&mut self, points: usize, contours: usize, shapes: usize) {
+        self.points.clear();
+        self.points.reserve(points);
+        self.contour_ranges.clear();
+        self.contour_ranges.reserve(contours);
+        self.shape_ranges.clear();
+        self.shape_ranges.reserve(shapes);
+    }
+
+    /// Adds one shape. The whole set is written anew: make a large one by `set_with_shapes`.
+    pub fn add_shape(&mut self, shape: &[IntContour]) -> Result<(), Refused> {
+        let more = FlatContoursBuffer::of_shape(shape);
+        let mut set = FlatShapesBuffer::rows(
+            self.points.len() + more.points.len(),
+            self.contour_ranges.len() + more.ranges.len(),
+            self.shape_ranges.len() + 1,
+        );
+        library::add_shape(
+            &self.points,
+            &self.contour_ranges,
+            &self.shape_ranges,
+            &more.points,
+            &more.ranges,
+            &mut set.points,
+            &mut set.contour_ranges,
+            &mut set.shape_ranges,
+        )
+        .read()?;
+        *self = set;
+        Ok(())
+    }
+
+    pub fn to_shapes(&self) -> Result<IntShapes, Refused> {
+        check_sound(&self.contour_ranges, self.points.len())?;
+        check_sound(&self.shape_ranges, self.contour_ranges.len())?;
+        Ok(self.shapes())
+    }
+
+    /// Whether every contour is simple.
+    pub fn is_simple(&self) -> Result<bool, Refused> {
+        library::set_is_simple(&self.points, &self.contour_ranges).read()
+    }
+
+    /// Whether no contour has spikes.
+    pub fn has_no_spikes(&self) -> Result<bool, Refused> {
+        library::set_has_no_spikes(&self.points, &self.contour_ranges).read()
+    }
+
+    /// The shapes, each simplified: see [`SimpleShapes`](crate::int::simple::SimpleShapes).
+    pub fn simplified(&self) -> Result<Cleaned<FlatShapesBuffer>, Refused> {
+        let mut out = self.rows_alike();
+        library::simplified_shapes(
+            &self.points,
+            &self.contour_ranges,
+            &self.shape_ranges,
+            &mut Scratch::default(),
+            &mut out.points,
+            &mut out.contour_ranges,
+            &mut out.shape_ranges,
+        )
+        .read_shapes(out)
+    }
+
+    /// The shapes, each despiked: see [`DeSpikeShapes`](crate::int::despike::DeSpikeShapes).
+    pub fn despiked_shapes(&self) -> Result<Cleaned<FlatShapesBuffer>, Refused> {
+        let mut out = self.rows_alike();
+        library::despiked_shapes(
+            &self.points,
+            &self.contour_ranges,
+            &self.shape_ranges,
+            &mut Scratch::default(),
+            &mut out.points,
+            &mut out.contour_ranges,
+            &mut out.shape_ranges,
+        )
+        .read_shapes(out)
+    }
+
+    /// The shapes end to end, as they are.
+    pub(crate) fn of_shapes(shapes: &[IntShape]) -> Self {
+        let mut set = FlatShapesBuffer::default();
+        for shape in shapes {
+            let start = set.contour_ranges.len();
+            for contour in shape {
+                let first = set.points.len();
+                set.points.extend_from_slice(contour);
+                set.contour_ranges.push([first, set.points.len()]);
+            }
+            set.shape_ranges.push([start, set.contour_ranges.len()]);
+        }
+        set
+    }
+
+    /// The shapes of sound ranges.
+    pub(crate) fn shapes(&self) -> IntShapes {
+        self.shape_ranges
+            .iter()
+            .map(|&[start, end]| parts(&self.points, &self.contour_ranges[start..end]))
+            .collect()
+    }
+
+    fn into_contours(self) -> FlatContoursBuffer {
+        FlatContoursBuffer {
+            points: self.points,
+            ranges: self.contour_ranges,
+        }
+    }
+
+    fn rows_alike(&self) -> Self {
+        FlatShapesBuffer::rows(
+            self.points.len(),
+            self.contour_ranges.len(),
+            self.shape_ranges.len(),
+        )
+    }
+
+    pub(crate) fn rows(points: usize, contours: usize, shapes: usize) -> Self {
+        FlatShapesBuffer {
+            points: vec![IntPoint::ZERO; points],
+            contour_ranges: vec![[0, 0]; contours],
+            shape_ranges: vec![[0, 0]; shapes],
+        }
+    }
+}
+
+fn check_sound(ranges: &[[usize; 2]], count: usize) -> Result<(), Refused> {
+    if library::ranges_sound(ranges, count) {
+        Ok(())
+    } else {
+        Err(Refused::Ranges)
+    }
+}
+
+/// The parts of the points that sound ranges name.
+fn parts(points: &[IntPoint], ranges: &[[usize; 2]]) -> Vec<IntContour> {
+    ranges
+        .iter()
+        .map(|&[start, end]| points[start..end].to_vec())
+        .collect()
+}

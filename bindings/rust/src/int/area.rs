@@ -1,0 +1,66 @@
+use crate::flat::buffer::{FlatContoursBuffer, FlatShapesBuffer};
+use crate::int::point::IntPoint;
+use crate::int::shape::{IntContour, IntShape};
+use crate::library;
+use crate::refused::Refused;
+
+/// Area, counter-clockwise positive.
+///
+/// Refused as [`Refused::Empty`] where a contour has no points, and as `TooMany` or `OffGrid`.
+pub trait Area {
+    /// The doubled area, modulo 2^64 in the range of `i64`; of many contours the sum of theirs.
+    fn area_two(&self) -> Result<i64, Refused>;
+
+    /// Its half, cut toward zero.
+    fn area(&self) -> Result<i64, Refused>;
+}
+
+impl Area for [IntPoint] {
+    fn area_two(&self) -> Result<i64, Refused> {
+        library::area_two(self).read()
+    }
+
+    fn area(&self) -> Result<i64, Refused> {
+        library::area(self).read()
+    }
+}
+
+impl Area for FlatContoursBuffer {
+    fn area_two(&self) -> Result<i64, Refused> {
+        library::set_area_two(&self.points, &self.ranges).read()
+    }
+
+    fn area(&self) -> Result<i64, Refused> {
+        library::set_area(&self.points, &self.ranges).read()
+    }
+}
+
+impl Area for FlatShapesBuffer {
+    fn area_two(&self) -> Result<i64, Refused> {
+        library::set_area_two(&self.points, &self.contour_ranges).read()
+    }
+
+    fn area(&self) -> Result<i64, Refused> {
+        library::set_area(&self.points, &self.contour_ranges).read()
+    }
+}
+
+impl Area for [IntContour] {
+    fn area_two(&self) -> Result<i64, Refused> {
+        FlatContoursBuffer::of_shape(self).area_two()
+    }
+
+    fn area(&self) -> Result<i64, Refused> {
+        FlatContoursBuffer::of_shape(self).area()
+    }
+}
+
+impl Area for [IntShape] {
+    fn area_two(&self) -> Result<i64, Refused> {
+        FlatShapesBuffer::of_shapes(self).area_two()
+    }
+
+    fn area(&self) -> Result<i64, Refused> {
+        FlatShapesBuffer::of_shapes(self).area()
+    }
+}

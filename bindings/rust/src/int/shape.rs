@@ -1,0 +1,9 @@
+use crate::int::point::IntPoint;
+
+/// A closed contour.
+pub type IntContour = Vec<IntPoint>;
+
+/// An outline, and the contours of its holes.
+pub type IntShape = Vec<IntContour>;
+
+pub type IntShapes = Vec<IntShape>;

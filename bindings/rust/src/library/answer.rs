@@ -1,0 +1,126 @@
+//! The answers of the library, and what they say of the rows that were lent.
+
+use crate::flat::buffer::{FlatContoursBuffer, FlatShapesBuffer};
+use crate::int::shape::IntContour;
+use crate::refused::Refused;
+
+#[repr(C)]
+pub struct Verdict {
+    reply: u32,
+    yes: bool,
+}
+
+#[repr(C)]
+pub struct Area {
+    reply: u32,
+    value: i64,
+}
+
+#[repr(C)]
+pub struct Cleaned {
+    reply: u32,
+    points: usize,
+    decisions: usize,
+}
+
+#[repr(C)]
+pub struct CleanedSet {
+    reply: u32,
+    points: usize,
+    contours: usize,
+    shapes: usize,
+    decisions: usize,
+}
+
+#[repr(C)]
+pub struct Packed {
+    reply: u32,
+    points: usize,
+    contours: usize,
+    shapes: usize,
+}
+
+#[repr(C)]
+pub struct Written {
+    reply: u32,
+    bytes: usize,
+}
+
+impl Verdict {
+    pub fn read(self) -> Result<bool, Refused> {
+        Refused::read(self.reply, 0).map(|()| self.yes)
+    }
+}
+
+impl Area {
+    pub fn read(self) -> Result<i64, Refused> {
+        Refused::read(self.reply, 0).map(|()| self.value)
+    }
+}
+
+impl Cleaned {
+    /// The points in front of the row that was lent.
+    pub fn read(self, mut out: IntContour) -> Result<crate::Cleaned<IntContour>, Refused> {
+        Refused::read(self.reply, self.decisions)?;
+        out.truncate(self.points);
+        Ok(crate::Cleaned {
+            kept: out,
+            decisions: self.decisions,
+        })
+    }
+}
+
+impl CleanedSet {
+    /// The contour set in front of the rows that were lent.
+    pub fn read_contours(
+        self,
+        mut out: FlatContoursBuffer,
+    ) -> Result<crate::Cleaned<FlatContoursBuffer>, Refused> {
+        Refused::read(self.reply, self.decisions)?;
+        out.points.truncate(self.points);
+        out.ranges.truncate(self.contours);
+        Ok(crate::Cleaned {
+            kept: out,
+            decisions: self.decisions,
+        })
+    }
+
+    /// The shape set in front of the rows that were lent.
+    pub fn read_shapes(
+        self,
+        mut out: FlatShapesBuffer,
+    ) -> Result<crate::Cleaned<FlatShapesBuffer>, Refused> {
+        Refused::read(self.reply, self.decisions)?;
+        out.points.truncate(self.points);
+        out.contour_ranges.truncate(self.contours);
+        out.shape_ranges.truncate(self.shapes);
+        Ok(crate::Cleaned {
+            kept: out,
+            decisions: self.decisions,
+        })
+    }
+}
+
+impl Written {
+    /// The file in front of the row that was lent.
+    pub fn read(self, mut out: Vec<u8>) -> Result<Vec<u8>, Refused> {
+        Refused::read(self.reply, 0)?;
+        out.truncate(self.bytes);
+        Ok(out)
+    }
+}
+
+impl Packed {
+    /// The shape set in front of the rows that were lent.
+    pub fn read_shapes(self, mut out: FlatShapesBuffer) -> Result<FlatShapesBuffer, Refused> {
+        Refused::read(self.reply, 0)?;
+        out.points.truncate(self.points);
+        out.contour_ranges.truncate(self.contours);
+        out.shape_ranges.truncate(self.shapes);
+        Ok(out)
+    }
+
+    pub fn read(self) -> Result<(), Refused> {
+        Refused::read(self.reply, 0)
+    }
+}

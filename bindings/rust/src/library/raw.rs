@@ -1,0 +1,229 @@
+//! The functions of libukmerelt.a, as bindings/c/ukmerelt.h declares them.
+
+use super::answer::{Area, Cleaned, CleanedSet, Packed, Verdict, Written};
+use super::Range;
+
+extern "C" {
+    pub fn ukm_read_set(
+        bytes: *const u8,
+        bytes_len: usize,
+        out: *mut i32,
+        out_len: usize,
+        records: *mut Range,
+        records_len: usize,
+        groups: *mut Range,
+        groups_len: usize,
+    ) -> Packed;
+    pub fn ukm_write_set(
+        points: *const i32,
+        points_len: usize,
+        contours: *const Range,
+        contours_len: usize,
+        shapes: *const Range,
+        shapes_len: usize,
+        out: *mut u8,
+        out_len: usize,
+    ) -> Written;
+    pub fn ukm_area_two(points: *const i32, points_len: usize) -> Area;
+    pub fn ukm_area(points: *const i32, points_len: usize) -> Area;
+    pub fn ukm_is_convex(points: *const i32, points_len: usize) -> Verdict;
+    pub fn ukm_is_clockwise(points: *const i32, points_len: usize) -> Verdict;
+    pub fn ukm_is_simple(points: *const i32, points_len: usize) -> Verdict;
+    pub fn ukm_has_no_spikes(points: *const i32, points_len: usize) -> Verdict;
+    pub fn ukm_contains(points: *const i32, points_len: usize, x: i32, y: i32) -> Verdict;
+    pub fn ukm_simplified(
+        points: *const i32,
+        points_len: usize,
+        next: *mut u32,
+        next_len: usize,
+        prev: *mut u32,
+        prev_len: usize,
+        mark: *mut u8,
+        mark_len: usize,
+        out: *mut i32,
+        out_len: usize,
+    ) -> Cleaned;
+    pub fn ukm_despiked(
+        points: *const i32,
+        points_len: usize,
+        next: *mut u32,
+        next_len: usize,
+        prev: *mut u32,
+        prev_len: usize,
+        mark: *mut u8,
+        mark_len: usize,
+        out: *mut i32,
+        out_len: usize,
+    ) -> Cleaned;
+    pub fn ukm_ranges_sound(ranges: *const Range, ranges_len: usize, count: usize) -> bool;
+    pub fn ukm_set_is_simple(
+        points: *const i32,
+        points_len: usize,
+        ranges: *const Range,
+        ranges_len: usize,
+    ) -> Verdict;
+    pub fn ukm_set_has_no_spikes(
+        points: *const i32,
+        points_len: usize,
+        ranges: *const Range,
+        ranges_len: usize,
+    ) -> Verdict;
+    pub fn ukm_set_area_two(
+        points: *const i32,
+        points_len: usize,
+        ranges: *const Range,
+        ranges_len: usize,
+    ) -> Area;
+    pub fn ukm_set_area(
+        points: *const i32,
+        points_len: usize,
+        ranges: *const Range,
+        ranges_len: usize,
+    ) -> Area;
+    pub fn ukm_in_shape(
+        points: *const i32,
+        points_len: usize,
+        ranges: *const Range,
+        ranges_len: usize,
+        x: i32,
+        y: i32,
+    ) -> Verdict;
+    pub fn ukm_simplified_shape(
+        points: *const i32,
+        points_len: usize,
+        ranges: *const Range,
+        ranges_len: usize,
+        next: *mut u32,
+        next_len: usize,
+        prev: *mut u32,
+        prev_len: usize,
+        mark: *mut u8,
+        mark_len: usize,
+        out: *mut i32,
+        out_len: usize,
+        records: *mut Range,
+        records_len: usize,
+    ) -> CleanedSet;
+    pub fn ukm_despiked_shape(
+        points: *const i32,
+        points_len: usize,
+        ranges: *const Range,
+        ranges_len: usize,
+        next: *mut u32,
+        next_len: usize,
+        prev: *mut u32,
+        prev_len: usize,
+        mark: *mut u8,
+        mark_len: usize,
+        out: *mut i32,
+        out_len: usize,
+        records: *mut Range,
+        records_len: usize,
+    ) -> CleanedSet;
+    pub fn ukm_simplified_shapes(
+        points: *const i32,
+        points_len: usize,
+        contours: *const Range,
+        contours_len: usize,
+        shapes: *const Range,
+        shapes_len: usize,
+        next: *mut u32,
+        next_len: usize,
+        prev: *mut u32,
+        prev_len: usize,
+        mark: *mut u8,
+        mark_len: usize,
+        out: *mut i32,
+        out_len: usize,
+        records: *mut Range,
+        records_len: usize,
+        groups: *mut Range,
+        groups_len: usize,
+    ) -> CleanedSet;
+    pub fn ukm_despiked_shapes(
+        points: *const i32,
+        points_len: usize,
+        contours: *const Range,
+        contours_len: usize,
+        shapes: *const Range,
+        shapes_len: usize,
+        next: *mut u32,
+        next_len: usize,
+        prev: *mut u32,
+        prev_len: usize,
+        mark: *mut u8,
+        mark_len: usize,
+        out: *mut i32,
+        out_len: usize,
+        records: *mut Range,
+        records_len: usize,
+        groups: *mut Range,
+        groups_len: usize,
+    ) -> CleanedSet;
+    pub fn ukm_pack_contour(
+        contour: *const i32,
+        contour_len: usize,
+        out: *mut i32,
+        out_len: usize,
+        records: *mut Range,
+        records_len: usize,
+        groups: *mut Range,
+        groups_len: usize,
+    ) -> Packed;
+    pub fn ukm_pack_shape(
+        points: *const i32,
+        points_len: usize,
+        ranges: *const Range,
+        ranges_len: usize,
+        out: *mut i32,
+        out_len: usize,
+        records: *mut Range,
+        records_len: usize,
+        groups: *mut Range,
+        groups_len: usize,
+    ) -> Packed;
+    pub fn ukm_pack_shapes(
+        points: *const i32,
+        points_len: usize,
+        contours: *const Range,
+        contours_len: usize,
+        shapes: *const Range,
+        shapes_len: usize,
+        out: *mut i32,
+        out_len: usize,
+        records: *mut Range,
+        records_len: usize,
+        groups: *mut Range,
+        groups_len: usize,
+    ) -> Packed;
+    pub fn ukm_add_contour(
+        points: *const i32,
+        points_len: usize,
+        ranges: *const Range,
+        ranges_len: usize,
+        contour: *const i32,
+        contour_len: usize,
+        out: *mut i32,
+        out_len: usize,
+        records: *mut Range,
+        records_len: usize,
+    ) -> Packed;
+    pub fn ukm_add_shape(
+        points: *const i32,
+        points_len: usize,
+        contours: *const Range,
+        contours_len: usize,
+        shapes: *const Range,
+        shapes_len: usize,
+        more: *const i32,
+        more_len: usize,
+        ranges: *const Range,
+        ranges_len: usize,
+        out: *mut i32,
+        out_len: usize,
+        records: *mut Range,
+        records_len: usize,
+        groups: *mut Range,
+        groups_len: usize,
+    ) -> Packed;
+}

@@ -1,0 +1,99 @@
+use std::error::Error;
+use std::fmt;
+
+/// Why there is no answer: the library's reply, where it is not 0.
+#[derive(Debug, Clone, Copy, PartialEq, Eq)]
+pub enum Refused {
+    /// 1
+    Odd,
+    /// 2
+    TooMany,
+    /// 3
+    OffGrid,
+    /// 4
+    Scratch,
+    /// 5
+    Room,
+    /// 6
+    Ranges,
+    /// 7
+    Collapsed { decisions: usize },
+    /// 8
+    Empty,
+    /// 9
+    Edition,
+    /// 10
+    Length,
+    /// 11
+    NoShape,
+    /// 12
+    CantCarry,
+}
+
+impl Refused {
+    /// The reply's number.
+    pub fn number(self) -> u32 {
+        match self {
+            Refused::Odd => 1,
+            Refused::TooMany => 2,
+            Refused::OffGrid => 3,
+            Refused::Scratch => 4,
+            Refused::Room => 5,
+            Refused::Ranges => 6,
+            Refused::Collapsed { .. } => 7,
+            Refused::Empty => 8,
+            Refused::Edition => 9,
+            Refused::Length => 10,
+            Refused::NoShape => 11,
+            Refused::CantCarry => 12,
+        }
+    }
+
+    /// Reads a reply of the library; `decisions` is what came with it, 0 where the call makes none.
+    pub(crate) fn read(reply: u32, decisions: usize) -> Result<(), Refused> {
+        Err(match reply {
+            0 => return Ok(()),
+            1 => Refused::Odd,
+            2 => Refused::TooMany,
+            3 => Refused::OffGrid,
+            4 => Refused::Scratch,
+            5 => Refused::Room,
+            6 => Refused::Ranges,
+            7 => Refused::Collapsed { decisions },
+            8 => Refused::Empty,
+            9 => Refused::Edition,
+            10 => Refused::Length,
+            11 => Refused::NoShape,
+            12 => Refused::CantCarry,
+            other => unreachable!("the library has no reply {other}"),
+        })
+    }
+}
+
+impl fmt::Display for Refused {
+    fn fmt(&self, f: &mut fmt::Formatter<'_>) -> fmt::Result {
+        f.write_str(match self {
+            Refused::Odd => "an odd count of coordinates",
+            Refused::TooMany => "over 65,536 points, or a file of over 65,536 bytes",
+            Refused::OffGrid => "a coordinate, or the asked point, beyond 536,870,912 either side of 0",
+            Refused::Scratch => "a scratch row with fewer entries than there are points",
+            Refused::Room => "an output row that is too short",
+            Refused::Ranges => "ranges that are not sound",
+            Refused::Collapsed { decisions } => {
+                return write!(
+                    f,
+                    "collapsed: fewer than three points would stay, after {decisions} decisions"
+                );
+            }
+            Refused::Empty => "the area or the winding of an empty contour",
+            Refused::Edition => "a file whose edition is not 1",
+            Refused::Length => "a file that is short or has bytes left over",
+            Refused::NoShape => "a file whose first contour does not begin a shape",
+            Refused::CantCarry => {
+                "a set that no file carries: over 4,095 contours, over 32,767 points in one, or an empty shape"
+            }
+        })
+    }
+}
+
+impl Error for Refused {}

@@ -1,0 +1,152 @@
+use ukmerelt::flat::buffer::{FlatContoursBuffer, FlatShapesBuffer};
+use ukmerelt::int::area::Area;
+use ukmerelt::int::despike::{DeSpikeShape, DeSpikeShapes};
+use ukmerelt::int::shape::{IntContour, IntShape};
+use ukmerelt::int::simple::{SimpleShape, SimpleShapes};
+use ukmerelt::{Cleaned, IntPoint, Refused};
+
+fn contour<const N: usize>(points: [[i32; 2]; N]) -> IntContour {
+    points.map(IntPoint::from).to_vec()
+}
+
+fn square(from: i32, to: i32) -> IntContour {
+    contour([[from, from], [to, from], [to, to], [from, to]])
+}
+
+fn line() -> IntContour {
+    contour([[2, 2], [4, 4], [6, 6]])
+}
+
+/// A square with a point in its lower edge.
+fn straight() -> IntContour {
+    contour([[0, 0], [4, 0], [8, 0], [8, 8], [0, 8]])
+}
+
+#[test]
+fn a_shape_with_a_hole() {
+    let shape: IntShape = vec![square(0, 8), square(2, 6)];
+    assert_eq!(shape.is_simple(), Ok(true));
+    assert_eq!(shape.has_no_spikes(), Ok(true));
+    assert_eq!(shape.area_two(), Ok(2 * (64 + 16)));
+    assert_eq!(shape.area(), Ok(64 + 16));
+
+    let mut flat = FlatContoursBuffer::default();
+    flat.set_with_shape(&shape).unwrap();
+    assert_eq!(flat.ranges, [[0, 4], [4, 8]]);
+    assert_eq!(flat.to_contours(), Ok(shape));
+    assert_eq!(flat.contains_point(IntPoint::new(1, 1)), Ok(true));
+    assert_eq!(flat.contains_point(IntPoint::new(3, 3)), Ok(false));
+    assert_eq!(flat.as_first_contour(), square(0, 8));
+}
+
+#[test]
+fn cleaning_a_shape() {
+    let shape: IntShape = vec![straight(), line(), square(2, 6)];
+    let cleaned = Cleaned {
+        kept: vec![square(0, 8), square(2, 6)],
+        decisions: 6 + 1,
+    };
+    assert_eq!(shape.simplified(), Ok(cleaned));
+    let despiked = shape.despiked_shape().unwrap();
+    assert_eq!(despiked.kept, [straight(), square(2, 6)]);
+
+    let fallen: IntShape = vec![line(), square(0, 8)];
+    assert_eq!(
+        fallen.simplified(),
+        Err(Refused::Collapsed { decisions: 1 })
+    );
+    let none: IntShape = vec![];
+    assert_eq!(none.simplified().map(|cleaned| cleaned.kept), Ok(none));
+}
+
+#[test]
+fn cleaning_shapes() {
+    let shapes = [
+        vec![straight(), line()],
+        vec![line(), square(0, 8)],
+        vec![],
+        vec![square(0, 8)],
+    ];
+    assert_eq!(shapes.is_simple(), Ok(false));
+    let cleaned = shapes.simplified().unwrap();
+    assert_eq!(
+        cleaned.kept,
+        [vec![square(0, 8)], vec![], vec![square(0, 8)]]
+    );
+    assert_eq!(cleaned.decisions, 6 + 1 + 1);
+    let despiked = shapes.despiked_shapes().unwrap();
+    assert_eq!(
+        despiked.kept,
+        [vec![straight()], vec![], vec![square(0, 8)]]
+    );
+}
+
+#[test]
+fn building_contours() {
+    let mut set = FlatContoursBuffer::with_capacity(8);
+    assert!(set.is_empty());
+    set.set_with_contour(&square(0, 8)).unwrap();
+    assert!(set.is_single_contour());
+    set.add_contour(&line()).unwrap();
+    assert_eq!(set.ranges, [[0, 4], [4, 7]]);
+    assert_eq!(set.to_contours(), Ok(vec![square(0, 8), line()]));
+
+    let before = set.clone();
+    let off = contour([[0, 0], [536_870_913, 0], [0, 1]]);
+    assert_eq!(set.add_contour(&off), Err(Refused::OffGrid));
+    assert_eq!(set.set_with_contour(&off), Err(Refused::OffGrid));
+    assert_eq!(set, before);
+
+    set.set_with_shapes(&[vec![line()], vec![], vec![square(0, 8)]])
+        .unwrap();
+    assert_eq!(set.ranges, [[0, 3], [3, 7]]);
+    set.as_first_contour_mut()[0] = IntPoint::new(1, 1);
+    assert_eq!(set.points[0], IntPoint::new(1, 1));
+    set.clear_and_reserve(8, 1);
+    assert!(set.is_empty());
+}
+
+#[test]
+fn building_shapes() {
+    let mut set = FlatShapesBuffer::with_capacity(8, 2, 1);
+    set.set_with_contour(&square(0, 8)).unwrap();
+    assert_eq!(set.to_shapes(), Ok(vec![vec![square(0, 8)]]));
+    set.set_with_shape(&[square(0, 8), square(2, 6)]).unwrap();
+    assert_eq!(set.shape_ranges, [[0, 2]]);
+    set.add_shape(&[]).unwrap();
+    set.add_shape(&[line()]).unwrap();
+    assert_eq!(set.shape_ranges, [[0, 2], [2, 2], [2, 3]]);
+
+    let shapes = vec![vec![square(0, 8), square(2, 6)], vec![], vec![line()]];
+    assert_eq!(set.to_shapes(), Ok(shapes.clone()));
+    let mut again = FlatShapesBuffer::default();
+    again.set_with_shapes(&shapes).unwrap();
+    assert_eq!(again, set);
+    assert_eq!(again.area_two(), shapes.area_two());
+    assert_eq!(again.has_no_spikes(), Ok(false));
+}
+
+#[test]
+fn ranges_that_are_not_sound() {
+    let mut set = FlatContoursBuffer {
+        points: square(0, 8),
+        ranges: vec![[0, 3]],
+    };
+    assert_eq!(set.is_simple(), Err(Refused::Ranges));
+    assert_eq!(set.to_contours(), Err(Refused::Ranges));
+    assert_eq!(set.simplified(), Err(Refused::Ranges));
+    assert_eq!(set.add_contour(&line()), Err(Refused::Ranges));
+    assert_eq!(set.as_first_contour().len(), 3);
+    set.ranges = vec![[5, 2]];
+    assert_eq!(set.as_first_contour(), []);
+    set.ranges = vec![];
+    assert_eq!(set.as_first_contour(), square(0, 8));
+
+    let shapes = FlatShapesBuffer {
+        points: square(0, 8),
+        contour_ranges: vec![[0, 4]],
+        shape_ranges: vec![],
+    };
+    assert_eq!(shapes.to_shapes(), Err(Refused::Ranges));
+    assert_eq!(shapes.simplified(), Err(Refused::Ranges));
+}

@@ -1,0 +1,125 @@
+//! One line of the list of files.
+
+use super::text::{read_file, read_records, write_file, write_records};
+use crate::line::{length, Part, Row, Words};
+use crate::sets::flat::Set;
+use crate::sets::rows::Lengths;
+use std::fmt;
+use std::str::FromStr;
+
+/// The first byte of a line names its kind.
+const READING: &str = "r";
+const WRITING: &str = "w";
+
+/// A case gives at most so many bytes of a file, and so many records of each kind.
+pub const MOST_FILE: usize = 65_600;
+pub const MOST_RECORDS: usize = 32_800;
+
+/// The longest rows that can be lent to a reading.
+pub const LONGEST: Lengths = Lengths {
+    out: 16_400,
+    records: 4100,
+    groups: 4100,
+};
+
+#[derive(Clone, Debug, PartialEq, Eq)]
+pub enum Case {
+    /// A file is read into rows of these lengths.
+    Reading { lent: Lengths, file: Vec<u8> },
+    /// A set is written into a row of so many bytes.
+    Writing { room: usize, set: Set },
+}
+
+impl fmt::Display for Case {
+    fn fmt(&self, out: &mut fmt::Formatter) -> fmt::Result {
+        match self {
+            Case::Reading { lent, file } => {
+                write!(out, "{READING} {lent}")?;
+                write_file(out, file)
+            }
+            Case::Writing { room, set } => {
+                write!(out, "{WRITING} {room}")?;
+                write_records(out, &set.contours)?;
+                write_records(out, &set.shapes)?;
+                write!(out, "{}", set.points)
+            }
+        }
+    }
+}
+
+impl FromStr for Case {
+    type Err = String;
+
+    fn from_str(line: &str) -> Result<Case, String> {
+        let words: &mut Words = &mut line.split(' ');
+        match words.next() {
+            Some(READING) => Ok(Case::Reading {
+                lent: Lengths {
+                    out: length(words, LONGEST.out)?,
+                    records: length(words, LONGEST.records)?,
+                    groups: length(words, LONGEST.groups)?,
+                },
+                file: read_file(words, MOST_FILE)?,
+            }),
+            Some(WRITING) => Ok(Case::Writing {
+                room: length(words, MOST_FILE)?,
+                set: Set {
+                    contours: read_records(words, MOST_RECORDS)?,
+                    shapes: read_records(words, MOST_RECORDS)?,
+                    points: Row::read(words)?,
+                },
+            }),
+            _ => Err("no kind of case begins so".into()),
+        }
+    }
+}
+
+#[cfg(test)]
+mod tests {
+    use super::Case;
+
+    #[test]
+    fn a_line_is_written_as_it_was_read() {
+        for line in [
+            "r 0 0 0",
+            "r 16400 4100 4100 1000",
+            "r 2 1 1 10018001 00*100",
+            "r 2 1 1 1fff 8000*4094 80",
+            "w 0 0 0",
+            "w 65600 1 0 1 1 0 1 5 -6",
+            "w 9 32800 0 0*32799 1 0 1 0 2147483647 7 8 *8191",
+        ] {
+            let case: Case = line.parse().unwrap();
+            assert_eq!(case.to_string(), line);
+        }
+    }
+
+    #[test]
+    fn a_damaged_line_is_refused() {
+        for line in ["", "c", "r", "r 0 0", "r 0 0 0 ", "r 0 0 0 1", "r 0 0 0 1G"] {
+            assert!(line.parse::<Case>().is_err(), "{line}");
+        }
+        for line in [
+            "r 16401 0 0",
+            "r 0 4101 0",
+            "r 0 0 4101",
+            "r 0 0 0 00*0",
+            "r 0 0 0 00*65601",
+            "r 0 0 0 00*65600 00",
+        ] {
+            assert!(line.parse::<Case>().is_err(), "{line}");
+        }
+        for line in [
+            "w",
+            "w 0 0",
+            "w 65601 0 0",
+            "w 0 32801 0 0*32801 0",
+            "w 0 1 0 0*2 0",
+            "w 0 1 0 0*0 0",
+            "w 0 2 0 0 0",
+            "w 0 1 -1 0 0",
+        ] {
+            assert!(line.parse::<Case>().is_err(), "{line}");
+        }
+    }
+}

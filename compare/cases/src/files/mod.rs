@@ -1,0 +1,80 @@
+//! Set files, and sets to be written: their cases, the list of them, and the answers by
+//! a reader and a writer of our own.
+
+mod answers;
+mod bits;
+mod case;
+mod damaged;
+mod edition;
+mod large;
+mod listing;
+mod sound;
+mod text;
+mod writings;
+
+pub use answers::{answer, HEADER};
+pub use case::Case;
+pub use listing::write_listings;
+
+/// Every case, in the order of the list: files to be read, then sets to be written.
+pub fn list() -> Vec<Case> {
+    [
+        sound::small(),
+        sound::coordinates(),
+        sound::random(),
+        sound::rows(),
+        damaged::cut_and_longer(),
+        damaged::bits(),
+        damaged::editions(),
+        damaged::counts(),
+        damaged::beginnings(),
+        damaged::off_in_one_place(),
+        damaged::random(),
+        large::readings(),
+        writings::small(),
+        writings::ranges(),
+        writings::off_in_one_place(),
+        writings::random(),
+        writings::rows(),
+        large::writings(),
+    ]
+    .concat()
+}
+
+#[cfg(test)]
+mod tests {
+    use super::{answer, list, Case};
+    use std::collections::BTreeSet;
+
+    #[test]
+    fn every_case_of_the_list_is_read_as_it_was_written() {
+        for case in list() {
+            assert_eq!(case.to_string().parse::<Case>(), Ok(case));
+        }
+    }
+
+    /// The replies to the cases of one kind.
+    fn replies(kind: char) -> Vec<u8> {
+        let of_it = |case: &Case| case.to_string().starts_with(kind);
+        let reply = |case| answer(&case).split(' ').next().unwrap().parse().unwrap();
+        let met: BTreeSet<u8> = list().into_iter().filter(of_it).map(reply).collect();
+        met.into_iter().collect()
+    }
+
+    #[test]
+    fn every_reply_that_is_due_is_met() {
+        assert_eq!(replies('r'), [0, 2, 3, 5, 9, 10, 11]);
+        assert_eq!(replies('w'), [0, 1, 2, 3, 5, 6, 12]);
+    }
+
+    #[test]
+    fn what_is_read_is_written_as_it_was() {
+        for case in list() {
+            if let Case::Reading { file, .. } = case {
+                if let Ok(shapes) = super::edition::read(&file) {
+                    assert_eq!(super::edition::write(&shapes), file);
+                }
+            }
+        }
+    }
+}

@@ -1,0 +1,39 @@
+-- What is wrong with the contour at a position.
+use mathlib.Core.Path.{_≡_, sym, _∙_, ap}
+use mathlib.Core.Bool.{Bool, true, false, not, _&&_}
+use mathlib.Core.List.{List}
+use Prim.Native.Nat.{ℕ, _+_, _*_, _-_, _≤_, _<_}
+use native.Mathlib.Omega.{arith}
+use lib.Dec.{ltb}
+use lib.ListN.{length, drop, length-drop}
+use borrow.Author.Tests.{lt-ltb, le-ltb}
+use Rattle.grid.proofs.LadderLaws.{first-is}
+use Rattle.grid.proofs.LadderLaws.First.{here, past, foot}
+use Rattle.setfile.specs.Inside.{starts, held, fault}
+
+module _ (f : List ℕ) (at : ℕ) (first : Bool) where
+  abbrev here-on : ℕ
+  here-on = length (drop at f)
+
+  short : (n : ℕ) → length f - at < n → ltb here-on n ≡ true
+  short n h = lt-ltb here-on n (omega (arith, length-drop at f))
+
+  enough : (n : ℕ) → n ≤ length f - at → ltb here-on n ≡ false
+  enough n h = le-ltb here-on n (omega (arith, length-drop at f))
+
+  pub no-header : length f - at < 2 → 10 ≡ fault first (drop at f)
+  no-header h = first-is _ _ (here (short 2 h))
+
+  module _ (h : 2 ≤ length f - at) (b : Bool) (e : b ≡ starts (drop at f)) where
+    begun : {t : Bool} → (first && not b) ≡ t → (first && not (starts (drop at f))) ≡ t
+    begun g = ap (λ (s : Bool). first && not s) (sym e) ∙ g
+
+    pub no-shape : (first && not b) ≡ true → 11 ≡ fault first (drop at f)
+    no-shape g = first-is _ _ (past (enough 2 h) (here (begun g)))
+
+    module _ (g : (first && not b) ≡ false) (n : ℕ) (k : n ≡ held (drop at f)) where
+      pub no-points : length f - at < 2 + 8 * n → 10 ≡ fault first (drop at f)
+      no-points l = first-is _ _ (past (enough 2 h) (past (begun g) (here (short (2 + 8 * held (drop at f)) (omega arith)))))
+
+      pub no-fault : 2 + 8 * n ≤ length f - at → 0 ≡ fault first (drop at f)
+      no-fault l = first-is _ _ (past (enough 2 h) (past (begun g) (past (enough (2 + 8 * held (drop at f)) (omega arith)) foot)))

@@ -1,0 +1,196 @@
+-- What is judged of a file, contour by contour.
+use mathlib.Core.Path.{_≡_, refl, sym, _∙_, ap, ap₂, subst}
+use mathlib.Core.Bool.{Bool, true, false, not, _&&_, and-assoc, and-true}
+use mathlib.Core.List.{List, [], _∷_, _++_}
+use Prim.Native.Nat.{ℕ, zero, suc, _+_, _*_, _/_, _%_, _-_, _≤_, _<_}
+use native.Mathlib.Omega.{arith}
+use native.Mathlib.Nat.{zero-add}
+use lib.Dec.{eqb, eqb·suc-zero}
+use lib.ListN.{length, drop, length-append, length-drop}
+use lib.Seq.{drop-drop}
+use lib.IntN.{ℤ}
+use mir.Val.{boolByte}
+use borrow.Author.Tests.{ltb-false, lt-ltb, le-ltb, eq-eqb, ne-eqb}
+use Rattle.grid.specs.Limits.{on-grid, all-on-grid}
+use Rattle.grid.specs.Ladder.{first-of}
+use Rattle.grid.specs.Domain.{off}
+use Rattle.grid.proofs.LadderLaws.{clear, first-is}
+use Rattle.grid.proofs.LadderLaws.First.{here, past, foot}
+use Rattle.buffer.proofs.RefusalLaws.{found}
+use Rattle.buffer.specs.Sets.{joined}
+use Rattle.setfile.specs.declared.judging.Met.{Met}
+use Rattle.setfile.specs.declared.judging.Judged.{Judged}
+use Rattle.setfile.specs.Bits.{digit}
+use Rattle.setfile.specs.Format.{Entry, entry, contours-of, shapes-of, gathered, Parsed, and-then, read-contours}
+use Rattle.setfile.specs.Format.Parsed.{carries, damaged}
+use Rattle.setfile.specs.Inside.{pair, places, starts, held, fault, walk, head-fault, walked}
+use Rattle.setfile.specs.InsideReading.{none-met, met-more, Inside, judged, on-or-refused, summed, contained, refusals-of, Readable, Judgement}
+use Rattle.setfile.proofs.ReadLaws.{places-length, walk-more, Numbered, walk-numbered, Long, walk-long}
+
+all-on-append : (p q : List ℤ) → all-on-grid (p ++ q) ≡ (all-on-grid p && all-on-grid q)
+unfolding all-on-grid
+all-on-append [] q = refl
+all-on-append (z ∷ p) q = ap (λ (b : Bool). on-grid z && b) (all-on-append p q) ∙ sym (and-assoc (on-grid z) (all-on-grid p) (all-on-grid q))
+
+same-judged : {a b c d k l m n : ℕ} → a ≡ k → b ≡ l → c ≡ m → d ≡ n → judged a b c d ≡ judged k l m n
+same-judged e f g h = cc
+
+shapes-more : (b : Bool) (c : List ℤ) (l : List Entry) → length (shapes-of (entry b c ∷ l)) ≡ digit b + length (shapes-of l)
+unfolding gathered
+shapes-more true c l = omega arith
+shapes-more false c l = omega arith
+
+-- one contour more
+summed-more : (m : Met) (n at k : ℕ) (b : Bool) (c : List ℤ) (w : Parsed) → length c ≡ k
+    → summed m n (and-then (entry b c) w) ≡ summed (record { at = at; numbers = m .numbers + k; shapes = m .shapes + digit b; on = m .on && all-on-grid c }) (n + 1) w
+unfolding joined
+summed-more m n at k b c (damaged r) e = refl
+summed-more m n at k b c (carries l) e =
+    same-judged
+    (ap on-or-refused (ap (λ (t : Bool). m .on && t) (all-on-append c (joined (contours-of l))) ∙ sym (and-assoc (m .on) (all-on-grid c) (all-on-grid (joined (contours-of l))))))
+    (omega (arith, length-append c (joined (contours-of l))))
+    (omega arith)
+    (omega (arith, shapes-more b c l))
+
+module _ (f : List ℕ) (n i : ℕ) (m : Met) where
+  pub judged-more : (first : Bool) → i < n → fault first (drop (m .at) f) ≡ 0
+      → summed m i (walk (n - i) first (drop (m .at) f)) ≡ summed (met-more (drop (m .at) f) m) (i + 1) (walk (n - (i + 1)) (eqb (i + 1) 0) (drop (met-more (drop (m .at) f) m .at) f))
+  judged-more first h e =
+      let g : List ℕ = drop (m .at) f in
+      let w : Parsed = walk (n - (i + 1)) (eqb (i + 1) 0) (drop (m .at + (2 + 8 * held g)) f) in
+      ap (summed m i) (walk-more f n i (m .at) first h e)
+      ∙ summed-more m i (m .at + (2 + 8 * held g)) (2 * held g) (starts g) (places (2 * held g) (drop 2 g)) w (places-length (2 * held g) (drop 2 g))
+
+  pub inside-more : Inside f m → m .at + (2 + 8 * held (drop (m .at) f)) ≤ length f → Inside f (met-more (drop (m .at) f) m)
+  inside-more h e = record {
+    within = e;
+    numbers-few = omega (arith, h .numbers-few);
+    shapes-few = omega (arith, h .shapes-few, digit-few (starts (drop (m .at) f)));
+  }
+    where
+      digit-few : (b : Bool) → digit b ≤ 1
+      digit-few true = omega arith
+      digit-few false = omega arith
+
+same-met : {a b c d : ℕ} {x y : Bool} {k l : ℕ} → a ≡ b → c ≡ d → k ≡ l → x ≡ y
+    → _≡_ {A = Met} (record { at = a; numbers = c; shapes = k; on = x }) (record { at = b; numbers = d; shapes = l; on = y })
+same-met e f g h = cc
+
+byte-digit : (b : Bool) → boolByte b ≡ digit b
+byte-digit true = refl
+byte-digit false = refl
+
+-- as the code counts
+pub met-is : (f : List ℕ) (m : Met) (h : ℕ) (b on : Bool) → h ≡ held (drop (m .at) f) → b ≡ starts (drop (m .at) f) → on ≡ all-on-grid (places (2 * h) (drop (m .at + 2) f))
+    → record { at = m .at + (2 + 8 * h); numbers = m .numbers + 2 * h; shapes = m .shapes + boolByte b; on = m .on && on } ≡ met-more (drop (m .at) f) m
+met-is f m h b on e g k =
+    same-met
+    (ap (λ (t : ℕ). m .at + (2 + 8 * t)) e)
+    (ap (λ (t : ℕ). m .numbers + 2 * t) e)
+    (ap (λ (t : ℕ). m .shapes + t) (byte-digit b ∙ ap digit g))
+    (ap (λ (t : Bool). m .on && t) (k ∙ ap₂ (λ (t : ℕ) (l : List ℕ). all-on-grid (places (2 * t) l)) e (sym (drop-drop 2 (m .at) f))))
+
+-- behind the last contour
+module _ (f : List ℕ) (m : Met) (n : ℕ) where
+  pub left-over : m .at ≤ length f → (m .at ≡ length f → ⊥) → judged 10 0 0 0 ≡ summed m n (walk 0 false (drop (m .at) f))
+  unfolding walk
+  left-over h z =
+      let e : eqb (length (drop (m .at) f)) 0 ≡ false = ne-eqb (length (drop (m .at) f)) 0 (λ (k : length (drop (m .at) f) ≡ 0). z (omega (arith, length-drop (m .at) f))) in
+      rw (e, walk)
+
+  pub all-met : m .at ≡ length f → (r : ℕ) → r ≡ on-or-refused (m .on) → judged r (m .numbers) n (m .shapes) ≡ summed m n (walk 0 false (drop (m .at) f))
+  unfolding walk joined all-on-grid gathered
+  all-met h r k =
+      let e : eqb (length (drop (m .at) f)) 0 ≡ true = eq-eqb (length (drop (m .at) f)) 0 (omega (arith, length-drop (m .at) f)) in
+      rw (e, walk) (same-judged (k ∙ ap on-or-refused (sym (and-true (m .on)))) (omega arith) (omega arith) (omega arith))
+
+-- a file, by what is wrong with its head
+module _ (f : List ℕ) where
+  walked-faulty : (r : ℕ) → r ≡ head-fault f → (r ≡ 0 → ⊥) → walked f ≡ damaged r
+  unfolding walked
+  walked-faulty zero e z = absurd (z refl)
+  walked-faulty (suc r) e z = rw (sym e, walked)
+
+  walked-behind : 0 ≡ head-fault f → walked f ≡ walk (pair f % 4096) true (drop 2 f)
+  unfolding walked
+  walked-behind e = rw (sym e, walked)
+
+  walked-numbered : Numbered (walked f)
+  unfolding walked
+  walked-numbered = go (head-fault f)
+    where
+      go : (r : ℕ) → Numbered (elim r [ suc r ↦ damaged (suc r) | zero ↦ walk (pair f % 4096) true (drop 2 f) ])
+      go zero = walk-numbered (pair f % 4096) true (drop 2 f)
+      go (suc r) = tt
+
+  -- a file that can be read
+  readable : (l : List Entry) → walked f ≡ carries l → Readable f (length l)
+  readable l e = go (head-fault f) refl
+    where
+      go : (r : ℕ) → r ≡ head-fault f → Readable f (length l)
+      go (suc r) h =
+          let d : damaged (suc r) ≡ carries l = sym (walked-faulty (suc r) h (λ z. omega arith)) ∙ e in
+          let z : _≡_ {A = ℕ} 0 1 = cc in
+          absurd (omega arith)
+      go zero h =
+          let c = clear _ tt (sym h) in
+          let w : walk (pair f % 4096) true (drop 2 f) ≡ carries l = sym (walked-behind h) ∙ e in
+          let n : length l ≡ pair f % 4096 = subst (Long (pair f % 4096)) w (walk-long (pair f % 4096) true (drop 2 f)) in
+          record {
+            head = ltb-false _ _ (c .0);
+            reads = ap (λ (k : ℕ). walk k true (drop 2 f)) n ∙ w ∙ ap carries (sym (ap read-contours e));
+          }
+
+  judgement : length f ≤ 65536 → (r : Judged) → r ≡ summed none-met 0 (walked f) → Judgement f r
+  judgement few r e = go (walked f) refl walked-numbered
+    where
+      go : (w : Parsed) → walked f ≡ w → Numbered w → Judgement f r
+      go (damaged zero) h n = absurd n
+      go (damaged (suc k)) h n =
+          let j : r ≡ judged (suc k) 0 0 0 = e ∙ ap (summed none-met 0) h in
+          let a : r .reply ≡ suc k = ap (λ (j : Judged). j .reply) j in
+          record {
+            reply = a ∙ first-is (refusals-of (length f) (damaged (suc k))) (suc k) (past (le-ltb _ _ few) (here (ap not (eqb·suc-zero k)))) ∙ ap (λ (w : Parsed). first-of (refusals-of (length f) w)) (sym h);
+            counts = λ z. absurd (omega arith);
+          }
+      go (carries l) h n =
+          let j : r ≡ summed none-met 0 (carries l) = e ∙ ap (summed none-met 0) h in
+          let c : l ≡ contained f = sym (ap read-contours h) in
+          let k : r .contours ≡ length l = ap (λ (j : Judged). j .contours) j ∙ omega arith in
+          record {
+            reply =
+                ap (λ (j : Judged). j .reply) j
+                ∙ first-is (refusals-of (length f) (carries l)) _ (past (le-ltb _ _ few) (past refl (found (off (joined (contours-of l))) _ refl)))
+                ∙ ap (λ (w : Parsed). first-of (refusals-of (length f) w)) (sym h);
+            counts = λ z. record {
+              readable = subst (Readable f) (sym k) (readable l h);
+              numbers = ap (λ (j : Judged). j .numbers) j ∙ zero-add (length (joined (contours-of l))) ∙ ap (λ (l : List Entry). length (joined (contours-of l))) c;
+              contours = k ∙ ap length c;
+              shapes = ap (λ (j : Judged). j .shapes) j ∙ zero-add (length (shapes-of l)) ∙ ap (λ (l : List Entry). length (shapes-of l)) c;
+            };
+          }
+
+  -- a file over 65,536 bytes
+  pub over : 65536 < length f → (r : Judged) → r ≡ judged 2 0 0 0 → Judgement f r
+  over h r e = record {
+    reply = ap (λ (j : Judged). j .reply) e ∙ first-is _ _ (here (lt-ltb _ _ h));
+    counts = λ z. absurd (omega (arith, ap (λ (j : Judged). j .reply) e));
+  }
+
+  pub judged-short : length f < 2 → (r : Judged) → r ≡ judged 10 0 0 0 → Judgement f r
+  judged-short h r e =
+      let k : 10 ≡ head-fault f = first-is _ _ (here (lt-ltb _ _ h)) in
+      judgement (omega arith) r (e ∙ ap (summed none-met 0) (sym (walked-faulty 10 k (λ z. omega arith))))
+
+  module _ (few : length f ≤ 65536) (long : 2 ≤ length f) (h : ℕ) (e : h ≡ pair f) where
+    pub judged-edition : (h / 4096 ≡ 1 → ⊥) → (r : Judged) → r ≡ judged 9 0 0 0 → Judgement f r
+    judged-edition z r j =
+        let b : not (eqb (pair f / 4096) 1) ≡ true = ap not (ne-eqb (pair f / 4096) 1 (λ k. z (omega arith))) in
+        let k : 9 ≡ head-fault f = first-is _ _ (past (le-ltb _ _ long) (here b)) in
+        judgement few r (j ∙ ap (summed none-met 0) (sym (walked-faulty 9 k (λ z. omega arith))))
+
+    pub judged-contours : h / 4096 ≡ 1 → (r : Judged) → r ≡ summed none-met 0 (walk (h % 4096) true (drop 2 f)) → Judgement f r
+    judged-contours z r j =
+        let b : not (eqb (pair f / 4096) 1) ≡ false = ap not (eq-eqb (pair f / 4096) 1 (omega arith)) in
+        let k : 0 ≡ head-fault f = first-is _ _ (past (le-ltb _ _ long) (past b foot)) in
+        judgement few r (j ∙ ap (summed none-met 0) (ap (λ (n : ℕ). walk (n % 4096) true (drop 2 f)) e ∙ sym (walked-behind k)))

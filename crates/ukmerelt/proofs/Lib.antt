@@ -1,0 +1,4 @@
+-- What the proofs of several functions use.
+mod Coordinates
+pub mod Table
+pub mod Determined

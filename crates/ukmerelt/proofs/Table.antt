@@ -1,0 +1,24 @@
+-- W1 to W12: the table says what the definitions answer.
+use mathlib.Core.Path.{_≡_, refl}
+use mathlib.Core.List.{map}
+use mathlib.Core.Bool.{xor}
+use Rattle.integers.specs.Modulo.{mod64}
+use Rattle.grid.specs.Limits.{limit, most, on-grid, all-on-grid}
+use Rattle.grid.specs.Points.{points, bend, reverses}
+use Rattle.grid.specs.Corners.{last, differing, distinct-neighbours, corners-from, corners, some}
+use Rattle.grid.specs.Area.{around, exact, wrapped}
+use Rattle.grid.specs.Ladder.{first-of}
+use Rattle.area.specs.Answers.{doubled, half}
+use Rattle.path.specs.Convex.{convex-left, is-convex, convex}
+use Rattle.path.specs.Clockwise.{clockwise}
+use Rattle.path.specs.Contains.{crosses, odd, contained, contains}
+use Rattle.ring.specs.Walk.{survivors-from, others, successor, predecessor, count, unmark, unmark-about, remove, decide, look, looks, walk}
+use Rattle.ring.specs.Rule.{goes-at}
+use Rattle.clean.specs.Verdicts.{is-simple, no-spike-left, no-spikes, simple, spike-free}
+use Rattle.clean.specs.Outcome.{chosen}
+use Rattle.sets.specs.Fates.{fate}
+use Rattle.ukmerelt.specs.Table.{answers, table}
+
+pub the-table-holds : map answers table ≡ table
+unfolding xor mod64 limit most on-grid all-on-grid points bend reverses last differing distinct-neighbours corners-from corners some around exact wrapped first-of doubled half convex-left is-convex convex clockwise crosses odd contained contains survivors-from others successor predecessor count unmark unmark-about remove decide look looks walk goes-at is-simple no-spike-left no-spikes simple spike-free chosen fate
+the-table-holds = refl

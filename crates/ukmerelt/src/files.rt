@@ -1,0 +1,39 @@
+// The set file: read into a shape set's rows, and written from them.
+ghost use mathlib.Core.Path.{_≡_};
+ghost use Rattle.buffer.specs.Answers.{left};
+ghost use Rattle.setfile.specs.Reading.{outcome as read-outcome};
+ghost use Rattle.setfile.specs.Writing.{left as written-left, outcome as write-outcome};
+use buffer::Packed;
+use setfile::Written;
+
+// Reads a file into the front of the rows.
+#[no_mangle]
+pub extern "C" fn ukm_read_set(
+    bytes: &[u8],
+    out: &mut [i32],
+    records: &mut [[usize; 2]],
+    groups: &mut [[usize; 2]],
+) -> Packed
+    ensures { λ r. ⌜
+        left r (now (out .exit)) (now (records .exit)) (now (groups .exit))
+        ≡ read-outcome (now (bytes .entry)) (now (out .entry)) (now (records .entry)) (now (groups .entry))
+        ⌝ }
+{
+    setfile::read(bytes, out, records, groups)
+}
+
+// Writes a shape set's file into the front of the row of bytes.
+#[no_mangle]
+pub extern "C" fn ukm_write_set(
+    points: &[i32],
+    contours: &[[usize; 2]],
+    shapes: &[[usize; 2]],
+    bytes: &mut [u8],
+) -> Written
+    ensures { λ r. ⌜
+        written-left (r .reply) (r .bytes) (now (bytes .exit))
+        ≡ write-outcome (now (points .entry)) (now (contours .entry)) (now (shapes .entry)) (now (bytes .entry))
+        ⌝ }
+{
+    setfile::write(points, contours, shapes, bytes)
+}
