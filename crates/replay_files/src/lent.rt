@@ -1,7 +1,9 @@
 // A file read into rows of given lengths and written again, and the line that says how it went.
-ghost use Prim.Native.Nat.{_*_, _≤_};
+ghost use Prim.Native.Nat.{_+_, _*_, _≤_};
 ghost use lib.ListN.{length};
 ghost use Rattle.replay_files.specs.Given.{Lendable};
+use crate::listed;
+use crate::listed::Listed;
 use crate::written;
 use crate::written::Writing;
 use buffer::Packed;
@@ -25,12 +27,14 @@ pub struct Lengths {
     pub groups: usize,
 }
 
-// What the library answers of a reading, the checksums of the rows that it was lent, and how what was read is written.
+// What the library answers of a reading, the checksums of the rows that it was lent, the file's listing, and how what was
+// read is written.
 pub struct Reading {
     pub packed: Packed,
     pub out: u64,
     pub records: u64,
     pub groups: u64,
+    pub listed: Listed,
     pub again: Writing,
 }
 
@@ -68,6 +72,7 @@ fn summed(
         out: checksum::of_numbers(out),
         records: records::checksum(records),
         groups: records::checksum(groups),
+        listed: listed::of(file),
         again: written_again(file.len(), packed, out, records, groups),
     }
 }
@@ -109,17 +114,35 @@ pub fn put(text: &mut [u8; TEXT], case: u64, reading: Reading) -> usize
 {
     let packed = reading.packed;
     let mut at = number::put_unsigned(text, 0, case);
-    at = column::put_number(text, at, packed.reply as u64);
-    at = column::put_number(text, at, packed.points as u64);
-    at = column::put_number(text, at, packed.contours as u64);
-    at = column::put_number(text, at, packed.shapes as u64);
-    at = column::put_number(text, at, reading.out);
-    at = column::put_number(text, at, reading.records);
-    at = column::put_number(text, at, reading.groups);
+    at = put_packed(text, at, packed);
+    at = put_checksums(text, at, reading);
+    let listed = reading.listed;
+    at = listed::put(text, at, listed);
     if packed.reply != reply::DONE {
         return text::put(text, at, b"\n");
     }
     let again = reading.again;
     at = written::put(text, at, again);
     text::put(text, at, b"\n")
+}
+
+// Puts the numbers that a reading answered, each after a space, into `text` from `at` on.
+fn put_packed(text: &mut [u8; TEXT], at: usize, packed: Packed) -> usize
+    requires { ⌜ at + 84 ≤ 512 ⌝ }
+    ensures { λ r. ⌜ r ≤ at + 84 ⌝ }
+{
+    let reply = column::put_number(text, at, packed.reply as u64);
+    let points = column::put_number(text, reply, packed.points as u64);
+    let contours = column::put_number(text, points, packed.contours as u64);
+    column::put_number(text, contours, packed.shapes as u64)
+}
+
+// Puts the checksums of the rows, each after a space, into `text` from `at` on.
+fn put_checksums(text: &mut [u8; TEXT], at: usize, reading: Reading) -> usize
+    requires { ⌜ at + 63 ≤ 512 ⌝ }
+    ensures { λ r. ⌜ r ≤ at + 63 ⌝ }
+{
+    let out = column::put_number(text, at, reading.out);
+    let records = column::put_number(text, out, reading.records);
+    column::put_number(text, records, reading.groups)
 }

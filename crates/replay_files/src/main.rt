@@ -8,6 +8,7 @@ mod case;
 mod hex;
 mod lent;
 mod list;
+mod listed;
 mod reading;
 mod records;
 mod times;
@@ -28,7 +29,7 @@ fn main() {
     let mut text = [0u8; TEXT];
     if io::write_all(
         STDOUT_FILENO,
-        b"case reply points contours shapes numbers contour_records shape_records reply bytes file\n",
+        b"case reply points contours shapes numbers contour_records shape_records listing reply bytes file\n",
     ) {
         list::replay(&mut bytes, &mut row, &mut contours, &mut shapes, &mut text);
     }

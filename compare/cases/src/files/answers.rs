@@ -2,6 +2,7 @@
 
 use super::case::Case;
 use super::edition::{read, written, Shape};
+use super::listing::listing;
 use crate::checksum::checksum;
 use crate::reply::Reply;
 use crate::sets::flat::Set;
@@ -9,7 +10,7 @@ use crate::sets::rows::{Lengths, Rows};
 
 /// The columns of a reading, and behind them those of writing what was read.
 pub const HEADER: &str =
-    "case reply points contours shapes numbers contour_records shape_records reply bytes file";
+    "case reply points contours shapes numbers contour_records shape_records listing reply bytes file";
 
 /// One line of answers, without its number.
 pub fn answer(case: &Case) -> String {
@@ -28,10 +29,12 @@ fn of_reading(lent: Lengths, file: &[u8]) -> String {
         Ok((set, rows))
     };
     let stored: Reply<(Set, Rows)> = read(file).and_then(stored);
+    let listing = listing(file);
+    let listed = format!("{}:{}", listing.len(), checksum(listing.as_bytes()));
     match stored {
-        Err(reply) => format!("{reply} 0 0 0 {rows}"),
+        Err(reply) => format!("{reply} 0 0 0 {rows} {listed}"),
         Ok((set, rows)) => format!(
-            "0 {} {} {} {rows} {}",
+            "0 {} {} {} {rows} {listed} {}",
             set.points.all().len() / 2,
             set.contours.len(),
             set.shapes.len(),
@@ -60,14 +63,19 @@ mod tests {
         answer(&line.parse().unwrap())
     }
 
+    fn listed(listing: &str) -> String {
+        format!("{}:{}", listing.len(), checksum(listing.as_bytes()))
+    }
+
     #[test]
     fn a_reading_stands_in_front_of_the_rows_and_is_written_again() {
         let file = checksum(&[0x10u8, 1, 0x80, 1, 0, 0, 0, 5, 0, 0, 0, 6]);
         let records = checksum(&[0, 1, 7, 7]);
         let rows = format!("{} {records} 1", checksum(&[5, 6, -7]));
+        let listed = listed("contour before after decisions area2\n1 1 - 0 0\n");
         assert_eq!(
             answered("r 3 2 1 10018001 0000000500000006"),
-            format!("0 1 1 1 {rows} 0 12 {file}")
+            format!("0 1 1 1 {rows} {listed} 0 12 {file}")
         );
     }
 
@@ -76,9 +84,15 @@ mod tests {
         let rows = format!("{} 224 224", checksum(&[-7]));
         assert_eq!(
             answered("r 1 1 1 10018001 0000000500000006"),
-            format!("5 0 0 0 {rows}")
+            format!(
+                "5 0 0 0 {rows} {}",
+                listed("contour before after decisions area2\n1 1 - 0 0\n")
+            )
         );
-        assert_eq!(answered("r 1 1 1 20"), format!("10 0 0 0 {rows}"));
+        assert_eq!(
+            answered("r 1 1 1 20"),
+            format!("10 0 0 0 {rows} {}", listed("refused 10\n"))
+        );
     }
 
     #[test]

@@ -19,7 +19,7 @@ pub fn write_listings(folder: &Path) -> io::Result<()> {
 }
 
 /// What is listed of a file: each contour cleaned alone by the original's collinear walk.
-fn listing(file: &[u8]) -> String {
+pub fn listing(file: &[u8]) -> String {
     let shapes = match read(file) {
         Ok(shapes) => shapes,
         Err(reply) => return format!("refused {reply}\n"),

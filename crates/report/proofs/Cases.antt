@@ -1,0 +1,38 @@
+-- The file of 01, and what the program writes for it.
+use mathlib.Core.Path.{_≡_, refl}
+use mathlib.Core.List.{[], _∷_, _++_}
+use lib.IntN.ℤ.{negsuc}
+use Rattle.ring.specs.Walk.{survivors-from, others, successor, predecessor, count, unmark, unmark-about, remove, decide, look, looks, walk}
+use Rattle.ring.specs.Rule.{goes-at}
+use Rattle.grid.specs.Ladder.{first-of}
+use Rattle.grid.specs.Limits.{limit, on-grid, all-on-grid}
+use Rattle.grid.specs.Points.{points, bend}
+use Rattle.grid.specs.Area.{around, exact, wrapped}
+use Rattle.integers.specs.Modulo.{mod64}
+use Rattle.buffer.specs.Sets.{joined}
+use Rattle.setfile.specs.Bits.{value, field, bits}
+use Rattle.setfile.specs.Format.{parsed, contours-in, coordinates}
+use Rattle.report.specs.Text.{places, decimal, heading, signed}
+use Rattle.report.specs.Listing.{line, lines, listing}
+
+three : decimal 120 ≡ 49 ∷ 50 ∷ 48 ∷ []
+unfolding decimal places
+three = refl
+
+below : signed (negsuc 41) ≡ 45 ∷ 52 ∷ 50 ∷ []
+unfolding decimal places
+below = refl
+
+refused-10 : listing [] ≡ 114 ∷ 101 ∷ 102 ∷ 117 ∷ 115 ∷ 101 ∷ 100 ∷ 32 ∷ 49 ∷ 48 ∷ 10 ∷ []
+unfolding listing parsed bits field value first-of decimal places
+refused-10 = refl
+
+none : listing (16 ∷ 0 ∷ []) ≡ heading
+unfolding listing parsed bits field value first-of decimal places contours-in lines all-on-grid joined
+none = refl
+
+w4 : listing (16 ∷ 1 ∷ 128 ∷ 5 ∷ 0 ∷ 0 ∷ 0 ∷ 0 ∷ 0 ∷ 0 ∷ 0 ∷ 0 ∷ 0 ∷ 0 ∷ 0 ∷ 2 ∷ 0 ∷ 0 ∷ 0 ∷ 0 ∷ 0 ∷ 0 ∷ 0 ∷ 4 ∷ 0 ∷ 0 ∷ 0 ∷ 0 ∷ 0 ∷ 0 ∷ 0 ∷ 4 ∷ 0 ∷ 0 ∷ 0 ∷ 4 ∷ 0 ∷ 0 ∷ 0 ∷ 0 ∷ 0 ∷ 0 ∷ 0 ∷ 4 ∷ [])
+    ≡ heading ++ 49 ∷ 32 ∷ 53 ∷ 32 ∷ 52 ∷ 32 ∷ 54 ∷ 32 ∷ 51 ∷ 50 ∷ 10 ∷ []
+unfolding listing parsed bits field value first-of decimal places contours-in coordinates lines line limit on-grid all-on-grid joined
+    survivors-from others successor predecessor count unmark unmark-about remove decide look looks walk goes-at bend points around exact wrapped mod64
+w4 = refl

@@ -1,0 +1,81 @@
+-- How long a listing can be.
+use mathlib.Core.Path.{_≡_, refl}
+use mathlib.Core.Bool.{Bool, true, false}
+use mathlib.Core.List.{List, [], _∷_}
+use Prim.Native.Nat.{ℕ, suc, _+_, _-_, _*_, _≤_, _<_, _^_}
+use native.Mathlib.Omega.{arith}
+use lib.Dec.{eqb}
+use lib.ListN.{length, length-append}
+use lib.IntN.{ℤ}
+use mir.Facts.{sfits-toZ}
+use mir.Syntax.{w64}
+use mir.Val.{SFits}
+use Rattle.integers.proofs.Modulo.{mod64-lt}
+use Rattle.grid.specs.Limits.{most}
+use Rattle.grid.specs.Points.{points}
+use Rattle.grid.specs.Area.{exact, wrapped, reported}
+use Rattle.grid.specs.Domain.{count, Contour}
+use Rattle.ring.specs.declared.Rule as R
+use Rattle.ring.specs.Walk.{Stage}
+use Rattle.ring.specs.Walk.Stage.{under-way, kept, collapsed}
+use Rattle.ring.specs.Rule.{goes}
+use Rattle.ring.specs.Promises.{EndedWithin, Rising}
+use Rattle.ring.proofs.Theorems.{ends-in-4n-9, kept-rising}
+use Rattle.report.specs.Text.{decimal, signed, dash}
+use Rattle.report.specs.Listing.{after, decisions, area2, cleaned, line, lines}
+use Rattle.report.proofs.TextLaws.{decimal-length, signed-length}
+
+-- contours of the domain
+abbrev pub Contours : List (List ℤ) → Type 0
+Contours [] = Unit {0}
+Contours (c ∷ l) = Contour c (count c) × Contours l
+
+rising-few : (low high : ℕ) (s : List ℕ) → Rising low high s → length s ≤ high - low
+rising-few low high [] r = omega arith
+rising-few low high (x ∷ s) r = omega (arith, r .0, r .1, rising-few (suc x) high s (r .2))
+
+module _ (c : List ℤ) (x : Contour c (count c)) where
+  few : count c < 65537
+  unfolding most
+  few = omega (arith, x .few)
+
+  after-length : length (after (cleaned c)) ≤ 5
+  after-length = go (cleaned c) refl
+    where
+      go : (w : Stage) → cleaned c ≡ w → length (after w) ≤ 5
+      go (kept s k) e =
+          let r = rising-few 0 (count c) s (kept-rising (goes R.Rule.Collinear c) (count c) e) in
+          decimal-length (length s) 5 (omega arith) (omega arith) (omega (arith, few))
+      go (collapsed k) e = omega arith
+      go (under-way m p k) e = omega arith
+
+  decisions-length : length (decimal (decisions (cleaned c))) ≤ 6
+  decisions-length = decimal-length _ 6 (omega arith) (omega arith) (go (cleaned c) (ends-in-4n-9 (goes R.Rule.Collinear c) (count c)))
+    where
+      go : (w : Stage) → EndedWithin (4 * count c - 9) w → decisions w < 10 ^ 6
+      go (kept s k) h = omega (arith, few)
+      go (collapsed k) h = omega (arith, few)
+      go (under-way m p k) h = absurd h
+
+  reported-fits : SFits w64 (reported (points c))
+  unfolding wrapped
+  reported-fits = sfits-toZ (record { fits = mod64-lt (exact (points c)) })
+
+  area-length : length (area2 c) ≤ 20
+  area-length = go (eqb (count c) 0)
+    where
+      go : (b : Bool) → length {A = ℕ} (elim b [ true ↦ dash | false ↦ signed (reported (points c)) ]) ≤ 20
+      go true = omega arith
+      go false = signed-length (reported (points c)) reported-fits
+
+  -- a line has at most 45 characters
+  pub line-length : (k : ℕ) → k < 10 ^ 4 → length (line k c) ≤ 45
+  unfolding line
+  line-length k h = simp length-append
+      (omega (arith, decimal-length k 4 (omega arith) (omega arith) h, decimal-length (count c) 5 (omega arith) (omega arith) (omega (arith, few)), after-length, decisions-length, area-length))
+
+pub lines-length : (k : ℕ) (l : List (List ℤ)) → Contours l → k + length l ≤ 10 ^ 4 → length (lines k l) ≤ 45 * length l
+unfolding lines
+lines-length k [] x h = omega arith
+lines-length k (c ∷ l) x h =
+    omega (arith, length-append (line k c) (lines (suc k) l), line-length c (x .0) k (omega arith), lines-length (suc k) l (x .1) (omega arith))

@@ -1,0 +1,93 @@
+-- `report::list` meets its contract: what reading the file answered says which listing it has.
+use mathlib.Core.Path.{sym}
+use Prim.Native.Nat.{ℕ}
+use native.Mathlib.Omega.{arith}
+use borrow.Author.Needs.{needs}
+use lib.ListN.{replicate, length-replicate}
+use lib.Seq.{length-take-le}
+use lib.IntN.{pos}
+use Rattle.report.specs.Listing.{listing}
+use Rattle.report.proofs.PutLaws.{put-front}
+use Rattle.report.proofs.ReportLaws.{listing-length, Read, report-refused, numbers-few, numbers-in, contours-in, report-table, report-small}
+use Rattle.report.proofs.list.Statement.{statement}
+use Rattle.report.proofs.list.Tie as tie
+
+-- what reading the file answered
+read-so : (c : tie.After-read) → Read (c .before .before .before .before .before .before .args .bytes .now) (replicate 16382 (pos 0)) (replicate 4095 (replicate {A = ℕ} 2 0)) (replicate 4095 (replicate {A = ℕ} 2 0)) (c .read .result) (c .read .last .1 .0) (c .read .last .1 .1 .0) (c .read .last .1 .1 .1 .0)
+read-so c = record {
+  out-long = length-replicate 16382 (pos 0);
+  rc-long = length-replicate 4095 (replicate {A = ℕ} 2 0);
+  rs-long = length-replicate 4095 (replicate {A = ℕ} 2 0);
+  is = c .read .ensures;
+}
+
+slice-aggregate-read : tie.Need-slice-aggregate-read
+slice-aggregate-read c = search needs
+
+slice-aggregate-read-2 : tie.Need-slice-aggregate-read-2
+slice-aggregate-read-2 c = search needs
+
+slice-aggregate-read-3 : tie.Need-slice-aggregate-read-3
+slice-aggregate-read-3 c = search needs
+
+read-requires : tie.Need-read-requires
+read-requires c κs = search needs
+
+put-refused-requires : tie.Need-put-refused-requires
+put-refused-requires c κs =
+    let s = c .before .before .before .before .before .before .before .before .before .before .before .before in
+    let e = report-refused (read-so (c .before .before .before .before .before .before)) (c .before .if1 .taken) in
+    omega (arith, s .pre, rw e at (listing-length (s .args .bytes .now)))
+
+same-length : tie.Need-same-length
+same-length c = search needs
+
+returns : tie.Need-returns
+returns c = rw (report-refused (read-so (c .before .before .before .before .before .before .before .before .before)) (c .before .before .before .before .if1 .taken)) (put-front (c .before .before .put-refused .ensures))
+
+mul-numbers : tie.Need-mul-numbers
+mul-numbers c = record { fits = omega (arith, numbers-few (read-so (c .before .before .before .before .before .before)) (c .before .if1 .left)) }
+
+array-share-prefix-points : tie.Need-array-share-prefix-points
+array-share-prefix-points c = numbers-in (read-so (c .before .before .before .before .before .before)) (c .before .if1 .left)
+
+slice-aggregate-put-table : tie.Need-slice-aggregate-put-table
+slice-aggregate-put-table c = sym (length-take-le _ _ (numbers-in (read-so (c .before .before .before .before .before .before .before)) (c .before .before .if1 .left)))
+
+array-share-prefix-contours : tie.Need-array-share-prefix-contours
+array-share-prefix-contours c = contours-in (read-so (c .before .before .before .before .before .before .before)) (c .before .before .if1 .left)
+
+slice-aggregate-put-table-2 : tie.Need-slice-aggregate-put-table-2
+slice-aggregate-put-table-2 c = sym (length-take-le _ _ (contours-in (read-so (c .before .before .before .before .before .before .before .before)) (c .before .before .before .if1 .left)))
+
+put-table-requires : tie.Need-put-table-requires
+put-table-requires c κs =
+    let s = c .before .before .before .before .before .before .before .before .before .before .before .before .before .before .before in
+    let z = c .before .before .before .before .if1 .left in
+    (report-small (read-so (c .before .before .before .before .before .before .before .before .before)) z, omega (arith, s .pre, rw (report-table (read-so (c .before .before .before .before .before .before .before .before .before)) z) at (listing-length (s .args .bytes .now))))
+
+same-length-2 : tie.Need-same-length-2
+same-length-2 c = search needs
+
+returns-2 : tie.Need-returns-2
+returns-2 c = rw (report-table (read-so (c .before .before .before .before .before .before .before .before .before .before .before .before)) (c .before .before .before .before .before .before .before .if1 .left)) (put-front (c .before .before .put-table .ensures))
+
+pub list-spec : {M : Type 1} → statement M
+list-spec =
+    tie.close
+    (tie.spec
+    slice-aggregate-read
+    slice-aggregate-read-2
+    slice-aggregate-read-3
+    read-requires
+    put-refused-requires
+    same-length
+    returns
+    mul-numbers
+    array-share-prefix-points
+    slice-aggregate-put-table
+    array-share-prefix-contours
+    slice-aggregate-put-table-2
+    put-table-requires
+    same-length-2
+    returns-2)
