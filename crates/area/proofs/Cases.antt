@@ -1,4 +1,4 @@
--- The cases of the scope that speak of area: W1, W3, W4, W10, W11, and both sides of the grid's limit.
+-- Both sides of the grid's limit.
 use mathlib.Core.Path.{_≡_, refl}
 use mathlib.Core.List.{List, [], _∷_}
 use Prim.Native.Nat.{ℕ}
@@ -8,7 +8,6 @@ use Rattle.grid.specs.Limits.{limit, most, on-grid, all-on-grid}
 use Rattle.grid.specs.Points.{points}
 use Rattle.grid.specs.Area.{around, exact, wrapped}
 use Rattle.grid.specs.Ladder.{first-of}
-use Rattle.grid.specs.Cases.{W1, W3, W4, W10, W11}
 use Rattle.area.specs.Answers.{doubled, half}
 
 -- both areas of a contour are answered
@@ -18,26 +17,6 @@ Areas row two one = (doubled row ≡ record { reply = 0; value = two }) × (half
 -- both areas of a contour are refused
 abbrev Refused : List ℤ → ℕ → Type 0
 Refused row k = (doubled row ≡ record { reply = k; value = pos 0 }) × (half row ≡ record { reply = k; value = pos 0 })
-
-w1 : Refused W1 8
-unfolding doubled half first-of limit most all-on-grid
-w1 = (refl, refl)
-
-w3 : Areas W3 (pos 16) (pos 8)
-unfolding doubled half first-of limit most on-grid all-on-grid points around exact wrapped mod64
-w3 = (refl, refl)
-
-w4 : Areas W4 (pos 32) (pos 16)
-unfolding doubled half first-of limit most on-grid all-on-grid points around exact wrapped mod64
-w4 = (refl, refl)
-
-w10 : Areas W10 (pos 0) (pos 0)
-unfolding doubled half first-of limit most on-grid all-on-grid points around exact wrapped mod64
-w10 = (refl, refl)
-
-w11 : Areas W11 (negsuc 0) (pos 0)
-unfolding doubled half first-of limit most on-grid all-on-grid points around exact wrapped mod64
-w11 = (refl, refl)
 
 at-the-limit : Areas (pos 536870912 ∷ negsuc 536870911 ∷ []) (pos 0) (pos 0)
 unfolding doubled half first-of limit most on-grid all-on-grid points around exact wrapped mod64

@@ -1,45 +1,16 @@
--- The cases of the scope that speak of the verdicts, and what a cleaning leaves in its rows.
+-- What a cleaning leaves in its rows.
 use mathlib.Core.Path.{_≡_, refl}
-use mathlib.Core.Bool.{Bool, true, false}
-use mathlib.Core.List.{List, [], _∷_}
-use Prim.Native.Nat.{ℕ}
-use lib.IntN.{ℤ, pos, negsuc}
+use mathlib.Core.List.{[], _∷_}
 use lib.ListN.{replicate}
-use Rattle.grid.specs.declared.Verdict.{Verdict}
 use Rattle.grid.specs.Limits.{limit, most, on-grid, all-on-grid}
 use Rattle.grid.specs.Points.{points, bend, reverses}
-use Rattle.grid.specs.Corners.{last, differing, distinct-neighbours, corners-from, corners, some}
 use Rattle.grid.specs.Area.{around, exact}
 use Rattle.grid.specs.Ladder.{first-of}
-use Rattle.grid.specs.Cases.{row, W4, W7, W8, W10, W12}
+use Rattle.grid.specs.Cases.{row, W4, W10}
 use Rattle.ring.specs.declared.Rule.the-variants.{Collinear, Spike}
 use Rattle.ring.specs.Walk.{survivors-from, others, successor, predecessor, count, unmark, unmark-about, remove, decide, look, looks, walk}
 use Rattle.ring.specs.Rule.{goes-at}
-use Rattle.clean.specs.Verdicts.{is-simple, no-spike-left, no-spikes, simple, spike-free}
 use Rattle.clean.specs.Outcome.{chosen, left, answer, outcome}
-
-abbrev answered : Bool → Verdict
-answered b = record { reply = 0; yes = b }
-
-w4-not-simple : simple W4 ≡ answered false
-unfolding limit most on-grid all-on-grid points bend reverses last differing distinct-neighbours corners-from corners some first-of is-simple simple
-w4-not-simple = refl
-
-w7-no-spikes : spike-free W7 ≡ answered true
-unfolding limit most on-grid all-on-grid points bend reverses last differing distinct-neighbours corners-from corners some first-of no-spike-left no-spikes spike-free
-w7-no-spikes = refl
-
-w8-simple : simple W8 ≡ answered true
-unfolding limit most on-grid all-on-grid points bend reverses last differing distinct-neighbours corners-from corners some first-of is-simple simple
-w8-simple = refl
-
-w10-simple : simple W10 ≡ answered true
-unfolding limit most on-grid all-on-grid points bend reverses last differing distinct-neighbours corners-from corners some first-of is-simple simple
-w10-simple = refl
-
-w12-spikes : spike-free W12 ≡ answered false
-unfolding limit most on-grid all-on-grid points bend reverses last differing distinct-neighbours corners-from corners some first-of no-spike-left no-spikes spike-free
-w12-spikes = refl
 
 -- W10 has no area, and is kept
 w10-kept : outcome Collinear W10 (replicate 4 9) (replicate 4 9) (replicate 4 9) (row (replicate 8 9)) ≡ left (answer 0 4 4) (replicate 4 0) (replicate 4 0) (replicate 4 0) W10

@@ -1,5 +1,4 @@
 // Words and numbers as text, put into a row behind what stands there.
-ghost use mathlib.Core.Path.{_≡_};
 ghost use Prim.Native.Nat.{_+_, _≤_};
 ghost use lib.ListN.{length};
 ghost use Rattle.report.specs.Text.{decimal, signed};
