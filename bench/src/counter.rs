@@ -1,7 +1,7 @@
 //! Executed instructions of this program so far.
 //!
-//! Under the emulator with the plugin `icount` a file holds them, which the plugin fills at each read; on x86-64
-//! hardware the kernel's counter has them, where it may be read.
+//! Under the emulator with the plugin `icount.c` the file in `BENCH_COUNT` holds them, which the plugin fills at each
+//! read; on hardware the kernel's counter has them, where it may be read.
 
 use std::sync::OnceLock;
 
@@ -24,14 +24,9 @@ const ASKED: i64 = 0x7ea0;
 fn counter() -> &'static Counter {
     static COUNTER: OnceLock<Counter> = OnceLock::new();
     COUNTER.get_or_init(|| match std::env::var("BENCH_COUNT") {
-        Ok(off) if off == "off" => Counter::None,
         Ok(path) => {
             let file = unsafe { open(format!("{path}\0").as_ptr(), 0) };
-            if file >= 0 {
-                Counter::Plugin(file)
-            } else {
-                Counter::None
-            }
+            if file >= 0 { Counter::Plugin(file) } else { Counter::None }
         }
         Err(_) => kernel(),
     })
@@ -39,21 +34,15 @@ fn counter() -> &'static Counter {
 
 /// `perf_event_open` of the instructions in user mode.
 fn kernel() -> Counter {
-    let user_only = 0b110_0000;
-    let attributes: [u64; 8] = [64 << 32, 1, 0, 0, 0, user_only, 0, 0];
-    let number = if cfg!(target_arch = "x86_64") {
-        298
-    } else {
-        241
-    };
-    let file = unsafe { syscall(number, attributes.as_ptr(), 0, -1i32, -1i32, 0u64) };
-    if file >= 0 {
-        Counter::Kernel(file as i32)
-    } else {
-        Counter::None
-    }
+    const PERF_EVENT_OPEN: i64 = 298;
+    const INSTRUCTIONS: u64 = 1;
+    const USER_ONLY: u64 = 0b110_0000;
+    let attributes: [u64; 8] = [64 << 32, INSTRUCTIONS, 0, 0, 0, USER_ONLY, 0, 0];
+    let file = unsafe { syscall(PERF_EVENT_OPEN, attributes.as_ptr(), 0, -1i32, -1i32, 0u64) };
+    if file >= 0 { Counter::Kernel(file as i32) } else { Counter::None }
 }
 
+/// The count so far, or none where it cannot be read.
 #[inline(never)]
 pub fn instructions() -> Option<u64> {
     let mut bytes = [0u8; 8];

@@ -1,4 +1,4 @@
-//! The contours that are measured.
+//! The contours that are measured, the same in every run.
 
 use i_float::int::point::IntPoint;
 use i_shape::int::simple::SimpleContour;
@@ -6,10 +6,19 @@ use std::f64::consts::TAU;
 
 pub type Point = IntPoint<i32>;
 
+/// The point that each contour is asked about.
+pub const ASKED: (i32, i32) = (7, 40);
+
 /// A kind of input: its name, and its contours.
 pub struct Kind {
     pub name: String,
     pub contours: Vec<Vec<Point>>,
+}
+
+impl Kind {
+    pub fn points(&self) -> usize {
+        self.contours.iter().map(Vec::len).sum()
+    }
 }
 
 struct Random(u64);
@@ -34,12 +43,7 @@ impl Random {
 fn a_box(random: &mut Random) -> Vec<Point> {
     let mut side = || 1 + random.below(1000) as i32;
     let (x, y, w, h) = (side(), side(), side(), side());
-    vec![
-        Point::new(x, y),
-        Point::new(x + w, y),
-        Point::new(x + w, y + h),
-        Point::new(x, y + h),
-    ]
+    vec![Point::new(x, y), Point::new(x + w, y), Point::new(x + w, y + h), Point::new(x, y + h)]
 }
 
 /// A star of random radii with even coordinates, simple.
@@ -49,10 +53,7 @@ fn star(random: &mut Random, points: usize) -> Vec<Point> {
             .map(|i| {
                 let angle = (i as f64 + 0.8 * random.unit()) / points as f64 * TAU;
                 let radius = 1.0e8 + 4.0e8 * random.unit();
-                Point::new(
-                    (radius * angle.cos()) as i32 & !1,
-                    (radius * angle.sin()) as i32 & !1,
-                )
+                Point::new((radius * angle.cos()) as i32 & !1, (radius * angle.sin()) as i32 & !1)
             })
             .collect();
         if contour[..].is_simple() {
@@ -65,10 +66,7 @@ fn circle(points: usize) -> Vec<Point> {
     (0..points)
         .map(|i| {
             let angle = i as f64 / points as f64 * TAU;
-            Point::new(
-                (5.3e8 * angle.cos()).round() as i32,
-                (5.3e8 * angle.sin()).round() as i32,
-            )
+            Point::new((5.3e8 * angle.cos()).round() as i32, (5.3e8 * angle.sin()).round() as i32)
         })
         .collect()
 }
@@ -91,11 +89,7 @@ fn stairs(points: usize) -> Vec<Point> {
 }
 
 /// `percent` of `points` put in the middle of edges of a base, which has the others.
-fn with_straight(
-    base: impl FnOnce(usize) -> Vec<Point>,
-    points: usize,
-    percent: usize,
-) -> Vec<Point> {
+fn with_straight(base: impl FnOnce(usize) -> Vec<Point>, points: usize, percent: usize) -> Vec<Point> {
     let extra = points * percent / 100;
     let base = base(points - extra);
     let mut contour = Vec::with_capacity(points);
@@ -110,11 +104,7 @@ fn with_straight(
 }
 
 /// `percent` of `points` are spikes: out of a point of the base, and back to it.
-fn with_spikes(
-    base: impl FnOnce(usize) -> Vec<Point>,
-    points: usize,
-    percent: usize,
-) -> Vec<Point> {
+fn with_spikes(base: impl FnOnce(usize) -> Vec<Point>, points: usize, percent: usize) -> Vec<Point> {
     let spikes = points * percent / 200;
     let base = base(points - 2 * spikes);
     let mut contour = Vec::with_capacity(points);
@@ -140,32 +130,20 @@ pub fn kinds() -> Vec<Kind> {
     let random = &mut Random(88172645463325252);
     let mut kinds = Vec::new();
     let mut add = |name: String, contours| kinds.push(Kind { name, contours });
-    add(
-        "1000 boxes".into(),
-        (0..1000).map(|_| a_box(random)).collect(),
-    );
-    add(
-        "100 stars of 100".into(),
-        (0..100).map(|_| star(random, 100)).collect(),
-    );
+    add("1000 boxes".into(), (0..1000).map(|_| a_box(random)).collect());
+    add("100 stars of 100".into(), (0..100).map(|_| star(random, 100)).collect());
     for n in [1_000, 10_000, 65_536] {
         add(format!("circle of {n}"), vec![circle(n)]);
     }
     for n in [10_000, 65_536] {
         for percent in [0, 10, 50] {
-            add(
-                format!("stairs of {n}, {percent} % straight"),
-                vec![with_straight(stairs, n, percent)],
-            );
+            add(format!("stairs of {n}, {percent} % straight"), vec![with_straight(stairs, n, percent)]);
         }
         for percent in [10, 50] {
             let contour = with_straight(|points| star(random, points), n, percent);
             add(format!("star of {n}, {percent} % straight"), vec![contour]);
         }
-        add(
-            format!("stairs of {n}, 10 % spikes"),
-            vec![with_spikes(stairs, n, 10)],
-        );
+        add(format!("stairs of {n}, 10 % spikes"), vec![with_spikes(stairs, n, 10)]);
         add(format!("longest walk of {n}"), vec![longest_walk(n)]);
     }
     kinds

@@ -4,18 +4,18 @@ mod answer;
 pub use answer::Area;
 ghost use mathlib.Core.Path.{_≡_};
 ghost use mathlib.Core.Bool.{true};
-ghost use Prim.Native.Nat.{_+_, _*_, _<_, _^_};
-ghost use lib.ListN.{length};
-ghost use lib.IntN.{pos, _+ℤ_};
+ghost use Prim.Native.Nat.{_*_, _<_, _^_};
+ghost use lib.IntN.{pos, _+ℤ_, _*ℤ_};
 ghost use mir.Syntax.{w64};
 ghost use mir.Val.{toZ};
 ghost use Rattle.integers.specs.Bound.{In};
 ghost use Rattle.integers.specs.Modulo.{mod64};
-ghost use Rattle.grid.specs.Limits.{all-on-grid};
-ghost use Rattle.grid.specs.Points.{at, cross, points as points-of};
+ghost use Rattle.grid.specs.Limits.{limit, on-grid};
+ghost use Rattle.grid.specs.Points.{points as points-of};
 ghost use Rattle.grid.specs.Area.{exact};
 ghost use Rattle.grid.specs.Domain.{Contour};
 ghost use Rattle.area.specs.Answers.{doubled, half};
+ghost use Rattle.area.specs.Shares.{share as share-of, Vertices};
 
 // The sum of total and t modulo 2^64.
 fn added(total: u64, t: i64) -> u64
@@ -40,26 +40,46 @@ pub fn signed(bits: u64) -> i64
     }
 }
 
-// What the edge from position a to position b adds to the doubled area.
-fn edge(points: &[i32], a: usize, b: usize) -> i64
-    requires { ⌜ (all-on-grid (now points) ≡ true) × (2 * a + 1 < length (now points)) × (2 * b + 1 < length (now points)) ⌝ }
-    ensures { λ r. ⌜ r ≡ cross (at (now (points .entry)) a) (at (now (points .entry)) b) ⌝ }
+fn wide(x: i32) -> i64
+    ensures { λ r. ⌜ r ≡ x ⌝ }
 {
-    grid::shoelace(grid::point_at(points, a), grid::point_at(points, b))
+    x as i64
 }
 
-// The exact doubled area modulo 2^64: along the points, and back to the first.
+// A coordinate times how far another goes.
+fn product(x: i32, dy: i64) -> i64
+    requires { ⌜ (on-grid x ≡ true) × In (2 * limit) dy ⌝ }
+    ensures { λ r. ⌜ r ≡ x *ℤ dy ⌝ }
+{
+    wide(x) * dy
+}
+
+// The x of a position, times how far y goes from the position before it to the one after it.
+fn share(points: &[i32], before: usize, here: usize, after: usize) -> i64
+    requires { ⌜ Vertices (now points) before here after ⌝ }
+    ensures { λ r. ⌜ r ≡ share-of (now (points .entry)) before here after ⌝ }
+{
+    let at = grid::point_at(points, here);
+    let across = grid::edge_at(points, before, after);
+    product(at.x, across.dy)
+}
+
+// The exact doubled area modulo 2^64, one product a point: the shares of all positions add up to it.
 fn total(points: &[i32], n: usize) -> u64
     requires { ⌜ Contour (now points) n × (0 < n) ⌝ }
     ensures { λ r. ⌜ r ≡ mod64 (exact (points-of (now (points .entry)))) ⌝ }
 {
-    let mut sum: u64 = 0;
-    let mut i: usize = 1;
-    while i < n {
-        sum = added(sum, edge(points, i - 1, i));
+    if n == 1 {
+        return 0;
+    }
+    let inner = n - 2;
+    let mut sum = added(0, share(points, n - 1, 0, 1));
+    let mut i: usize = 0;
+    while i < inner {
+        sum = added(sum, share(points, i, i + 1, i + 2));
         i += 1;
     }
-    added(sum, edge(points, n - 1, 0))
+    added(sum, share(points, inner, n - 1, 0))
 }
 
 // The doubled area: counter-clockwise is positive.

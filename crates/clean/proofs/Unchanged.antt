@@ -29,8 +29,9 @@ use Rattle.ring.proofs.Survivors.{fresh-count}
 use Rattle.ring.proofs.Listed.{place, to-go-listed}
 use Rattle.ring.proofs.Theorems.{kept-clean, unchanged-after-n}
 use Rattle.clean.specs.Verdicts.{is-simple, no-spike-left, no-spikes}
-use Rattle.clean.specs.Outcome.{refusals, chosen, zeroed, answer, Left, left, outcome}
-use Rattle.clean.proofs.OutcomeLaws.{accepted, outcome-done}
+use Rattle.clean.specs.Outcome.{refusals, walked, chosen, zeroed, answer, Left, left, outcome}
+use Rattle.clean.specs.Inside.{Settled as Whole}
+use Rattle.clean.proofs.OutcomeLaws.{accepted, contour-count, outcome-done}
 use Rattle.clean.proofs.Picked.{would-go-picked, picked-all}
 use Rattle.clean.proofs.Theorems.{kept-in-order}
 
@@ -70,6 +71,14 @@ module _ (row : List ℤ) {n : ℕ} (c : Contour row n) where
 
   pub chosen-all : chosen row (survivors (fresh n)) ≡ row
   chosen-all = all-numbers n 0 (omega arith)
+
+-- what a cleaning comes to where no vertex is to go
+module _ (rule : Rule) (row out : List ℤ) {n : ℕ} (c : Contour row n) (many : 3 ≤ n) where
+  pub settled-untouched : not (some (goes-at rule) (corners (points row))) ≡ true → (exit : List ℤ) → exit ≡ front row out → Whole rule row out (answer 0 n n) exit
+  settled-untouched u exit e =
+      let w : walked rule row ≡ kept (survivors (fresh n)) n =
+      ap (walk (goes rule row)) (contour-count c) ∙ stands-unchanged rule row c many (no-corner (goes-at rule) (points row) (not-true _ u)) in
+      record { answer = rw (w, fresh-count n); output = rw (w, chosen-all row c) e }
 
 -- as many rising positions as there are places are all of them
 rising-few : (low high : ℕ) (s : List ℕ) → low ≤ high → Rising low high s → length s + low ≤ high
@@ -157,3 +166,7 @@ module _ (row : List ℤ) (next prev mark : List ℕ) (out : List ℤ)
 
     pub unchanged-is-spike-free : o .answer .reply ≡ 0 → o .answer .points ≡ count row → (no-spikes (points row) ≡ true) × (distinct-neighbours (points row) ≡ points row)
     unchanged-is-spike-free z a = stands-spike-free (points row) many-points (all-kept-stands Spike row next prev mark out room many o is z a)
+
+-- a contour of which no vertex would be despiked has no spikes
+pub untouched-free : (row : List ℤ) → 3 ≤ count row → not (some (goes-at Spike) (corners (points row))) ≡ true → no-spikes (points row) ≡ true
+untouched-free row many u = stands-spike-free (points row) (omega (arith, points-count row)) (no-corner (goes-at Spike) (points row) (not-true _ u)) .0

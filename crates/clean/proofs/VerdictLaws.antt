@@ -1,5 +1,5 @@
--- The loops over a contour's corners that look for a straight one, or for a spike.
-use mathlib.Core.Path.{_≡_, refl, sym, _∙_, ap}
+-- The loop over a contour's corners that looks for a spike, and the verdicts as a whole.
+use mathlib.Core.Path.{_≡_, sym, ap}
 use mathlib.Core.Bool.{Bool, true, false, not, _&&_, and-false}
 use mathlib.Core.List.{List, _∷_}
 use Prim.Native.Nat.{ℕ, _+_, _-_, _<_, _≤_}
@@ -9,55 +9,17 @@ use lib.ListN.{length, drop}
 use lib.IntN.{ℤ}
 use borrow.Author.Tests.{le-leb, lt-leb}
 use Rattle.grid.specs.declared.Point.{Point}
-use Rattle.grid.specs.Points.{at, on, points}
+use Rattle.grid.specs.Points.{at, points}
 use Rattle.grid.specs.Corners.{differing, corners, some, straight, back}
 use Rattle.grid.specs.Domain.{count, Contour}
 use Rattle.grid.specs.Inside.{Other, First}
-use Rattle.grid.proofs.PointLaws.{at-on}
-use Rattle.grid.proofs.RowLaws.{points-count, points-length, points-more, points-done}
-use Rattle.grid.proofs.AroundLaws.{corner, Tally, tally-more, tally-past, tally-met, tally-all, tally-whole, tally-start, left-over, Around, around-next, around-none, around-count}
+use Rattle.grid.proofs.RowLaws.{points-count}
+use Rattle.grid.proofs.AroundLaws.{corner, Tally, tally-more, tally-past, tally-met, tally-all, tally-start, left-over, Around, around-next, around-none, around-count}
+use Rattle.ring.specs.declared.Rule.the-variants.{Collinear}
+use Rattle.ring.specs.Rule.{goes-at}
 use Rattle.clean.specs.Verdicts.{is-simple, no-spike-left, no-spikes}
 
 module _ (row : List ℤ) where
-  -- no corner up to b is straight
-  pub record Bent (n : ℕ) (o a b : Point) (i : ℕ) : Type 0 where
-    pub low : 1 ≤ i
-    pub within : i ≤ n
-    pub o-is : o ≡ at row 0
-    pub a-on : on a ≡ true
-    pub b-on : on b ≡ true
-    pub none : Tally straight false (points row) o a b (drop i (points row))
-
-  module _ {n : ℕ} (c : Contour row n) (h : 3 ≤ n) where
-    simple-is : (t : Bool) → some straight (corners (points row)) ≡ t → not t ≡ is-simple (points row)
-    unfolding is-simple
-    simple-is t e = sym (rw (le-leb 3 (length (points row)) (omega (arith, points-length c)), e))
-
-    pub bent-start : Bent n (at row 0) (at row (n - 1)) (at row 0) 1
-    bent-start = record {
-      low = omega arith;
-      within = omega arith;
-      o-is = refl;
-      a-on = at-on row (n - 1) (c .on);
-      b-on = at-on row 0 (c .on);
-      none = tally-whole row c straight (omega arith);
-    }
-
-    module _ {o a b : Point} {i : ℕ} (w : Bent n o a b i) where
-      next-is : i < n → Tally straight false (points row) o a b (at row i ∷ drop (i + 1) (points row))
-      next-is l = rw (points-more c i l) at (w .none)
-
-      pub bent-more : i < n → straight (corner a b (at row i)) ≡ false → Bent n o b (at row i) (i + 1)
-      bent-more l e = record { low = omega arith; within = omega arith; o-is = w .o-is; a-on = w .b-on; b-on = at-on row i (c .on); none = tally-past (next-is l) e }
-
-      pub straight-met : i < n → straight (corner a b (at row i)) ≡ true → false ≡ is-simple (points row)
-      straight-met l e = simple-is true (tally-met (tally-more (next-is l)) e)
-
-      pub bent-all : n ≤ i → (t : Bool) → t ≡ straight (corner a b o) → not t ≡ is-simple (points row)
-      bent-all l t e =
-          let f : i ≡ n = omega (arith, w .within) in
-          simple-is t (tally-all (rw (points-done c i f) at (w .none)) ∙ sym e)
-
   -- no corner up to b is a spike
   pub record Onward (n : ℕ) (o a b : Point) (kept i : ℕ) : Type 0 where
     pub around : Around row n a b kept i
@@ -95,6 +57,10 @@ module _ (row : List ℤ) where
             sym (rw (m, tally-all (rw (around-none row c (w .around) e) at (w .none)), ← f))
 
   -- the questions as a whole
+  pub simple-many : 3 ≤ count row → not (some (goes-at Collinear) (corners (points row))) ≡ is-simple (points row)
+  unfolding is-simple goes-at
+  simple-many h = sym (ap (λ (t : Bool). t && not (some straight (corners (points row)))) (le-leb 3 (length (points row)) (omega (arith, points-count row))))
+
   pub simple-few : count row < 3 → false ≡ is-simple (points row)
   unfolding is-simple
   simple-few h = sym (ap (λ (t : Bool). t && not (some straight (corners (points row)))) (lt-leb 3 (length (points row)) (omega (arith, points-count row))))

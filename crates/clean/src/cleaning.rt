@@ -91,7 +91,8 @@ pub fn zero_bytes(row: &mut [u8])
     }
 }
 
-// The walk and what it writes, with scratch of exactly the points' count.
+// The walk and what it writes, with scratch of exactly the points' count. Where no vertex is to go the contour is
+// copied, after as many decisions, and nothing is linked.
 pub fn settle(
     rule: Rule,
     points: &[i32],
@@ -108,6 +109,14 @@ pub fn settle(
             reply: grid::reply::COLLAPSED,
             points: 0,
             decisions: 0,
+        };
+    }
+    if ring::untouched(rule, points, mark.len()) {
+        buffer::copy::numbers(points, out, 0);
+        return Cleaned {
+            reply: grid::reply::DONE,
+            points: mark.len(),
+            decisions: mark.len(),
         };
     }
     let walked = ring::walk(rule, points, next, prev, mark);

@@ -1,36 +1,12 @@
 // Simple contours: no vertex whose two edges have cross 0.
 ghost use mathlib.Core.Path.{_≡_};
-ghost use Prim.Native.Nat.{_≤_};
-ghost use Rattle.grid.specs.Points.{points as points-of};
-ghost use Rattle.grid.specs.Domain.{Contour};
 ghost use Rattle.ring.specs.declared.Rule as R;
-ghost use Rattle.clean.specs.Verdicts.{is-simple, simple as simple-verdict};
+ghost use Rattle.clean.specs.Verdicts.{simple as simple-verdict};
 ghost use Rattle.clean.specs.Outcome.{left, outcome};
 use crate::cleaning;
 use crate::cleaning::Cleaned;
 use grid::Verdict;
 use ring::Rule;
-
-// Whether no vertex of the n points has cross 0.
-fn none_straight(points: &[i32], n: usize) -> bool
-    requires { ⌜ Contour (now points) n × (3 ≤ n) ⌝ }
-    ensures { λ r. ⌜ r ≡ is-simple (points-of (now (points .entry))) ⌝ }
-{
-    let o = grid::point_at(points, 0);
-    let mut a = grid::point_at(points, n - 1);
-    let mut b = o;
-    let mut i: usize = 1;
-    while i < n {
-        let c = grid::point_at(points, i);
-        if grid::straight(a, b, c) {
-            return false;
-        }
-        a = b;
-        b = c;
-        i += 1;
-    }
-    !grid::straight(a, b, o)
-}
 
 // Whether the contour has three or more points, and no vertex whose two edges have cross 0.
 pub fn is_simple(points: &[i32]) -> Verdict
@@ -52,7 +28,7 @@ pub fn is_simple(points: &[i32]) -> Verdict
     }
     Verdict {
         reply: grid::reply::DONE,
-        yes: none_straight(points, n),
+        yes: ring::untouched(Rule::Collinear, points, n),
     }
 }
 

@@ -6,3 +6,4 @@ pub mod AroundLaws
 pub mod LadderLaws
 pub mod DomainLaws
 pub mod VerdictLaws
+pub mod EdgeLaws

@@ -1,5 +1,5 @@
 -- Laws of points: signs, and points on the grid.
-use mathlib.Core.Path.{_≡_, refl, sym, subst}
+use mathlib.Core.Path.{_≡_, refl, sym, _∙_, ap₂, subst}
 use mathlib.Core.Bool.{true, false}
 use mathlib.Core.List.{List}
 use Prim.Native.Nat.{ℕ, zero, suc, _+_, _*_, _<_, _^_}
@@ -7,17 +7,17 @@ use native.Mathlib.Omega.{arith}
 use lib.Dec.{T}
 use lib.IntN.{ℤ, pos, negsuc, _-ℤ_}
 use lib.Signed.{ltZ}
-use mir.Syntax.{w64}
+use mir.Syntax.{w32, w64}
 use mir.Val.{toZ, ofZ}
 use borrow.Author.Tests.{ltb-true, lt-ltb}
 use Rattle.integers.specs.Bound.{In}
-use Rattle.integers.proofs.Bound.{in-sub, in-add, in-mul, in-more, back, back-in}
+use Rattle.integers.proofs.Bound.{in-sub, in-add, in-mul, back, back-in}
 use Rattle.integers.proofs.Logic.{and-left, and-right}
 use Rattle.grid.specs.declared.Point.{Point}
 use Rattle.grid.specs.declared.Steps.{Steps}
 use Rattle.grid.specs.Limits.{limit, on-grid, all-on-grid}
 use Rattle.grid.specs.Points.{at, sign, on, cross, dot, step, edges, Short, AllOn}
-use Rattle.grid.proofs.LimitLaws.{on-grid-in, all-on-grid-at}
+use Rattle.grid.proofs.LimitLaws.{on-grid-in, on-grid-back, all-on-grid-at}
 
 pub sign-below : (z : ℤ) → ltZ z (pos 0) ≡ true → sign z ≡ negsuc 0
 sign-below (pos zero) e = absurd (subst T (sym e) tt)
@@ -46,6 +46,14 @@ at-on row i e = rw (all-on-grid-at row (2 * i) e, all-on-grid-at row (2 * i + 1)
 pub gap-in : (a b : ℤ) → on-grid a ≡ true → on-grid b ≡ true → In (2 * limit) (b -ℤ a)
 unfolding limit
 gap-in a b p q = in-sub (on-grid-in b q) (on-grid-in a p)
+
+-- two coordinates on the grid, as they are passed
+pub passed : (a b : ℤ) → on-grid a ≡ true → on-grid b ≡ true → (on-grid (toZ w32 (ofZ w32 a)) ≡ true) × (on-grid (toZ w32 (ofZ w32 b)) ≡ true)
+passed a b p q = (rw (on-grid-back a p) p, rw (on-grid-back b q) q)
+
+-- and their gap, as it is returned
+pub gone : (a b : ℤ) {r : ℤ} → on-grid a ≡ true → on-grid b ≡ true → r ≡ toZ w32 (ofZ w32 b) -ℤ toZ w32 (ofZ w32 a) → r ≡ b -ℤ a
+gone a b p q e = e ∙ ap₂ _-ℤ_ (on-grid-back b q) (on-grid-back a p)
 
 -- the two steps of a corner
 pub corner-steps : {a b c : Point} → AllOn a b c → Short (b .x -ℤ a .x) (b .y -ℤ a .y) (c .x -ℤ b .x) (c .y -ℤ b .y)
@@ -85,15 +93,6 @@ cross-within k = let s = corner-steps k in in-sub (in-mul (s .ux-in) (s .vy-in))
 pub dot-within : {a b c : Point} → AllOn a b c → In (2 ^ 61) (dot (step a b) (step b c))
 unfolding limit
 dot-within k = let s = corner-steps k in in-add (in-mul (s .ux-in) (s .vx-in)) (in-mul (s .uy-in) (s .vy-in))
-
--- and so do those of grid points themselves
-pub shoelace-within : (a b : Point) → on a ≡ true → on b ≡ true → In (2 ^ 61) (cross a b)
-unfolding limit
-shoelace-within a b p q =
-    in-more tt
-    (in-sub
-    (in-mul (on-grid-in (a .x) (x-on a p)) (on-grid-in (b .y) (y-on b q)))
-    (in-mul (on-grid-in (a .y) (y-on a p)) (on-grid-in (b .x) (x-on b q))))
 
 -- which sign a test shows
 pub sign-left : (z : ℤ) → ltZ (pos 0) (sign z) ≡ true → sign z ≡ pos 1

@@ -10,6 +10,7 @@ use Rattle.integers.specs.Equal.{eqZ}
 use Rattle.integers.specs.Bound.{In}
 use Rattle.grid.specs.declared.Point.{Point}
 use Rattle.grid.specs.declared.Steps.{Steps}
+use Rattle.grid.specs.declared.Edge.{Edge}
 use Rattle.grid.specs.Limits.{limit, on-grid}
 
 -- the point at position i of a row x, y, x, y
@@ -80,3 +81,19 @@ turn a b c = sign (bend a b c)
 -- the two edges at b point against each other
 unfoldable pub reverses : Point → Point → Point → Bool
 reverses a b c = ltZ (dot (step a b) (step b c)) (pos 0)
+
+-- the edge from a to b
+abbrev pub between : Point → Point → Edge
+between a b = record { dx = b .x -ℤ a .x; dy = b .y -ℤ a .y }
+
+-- an edge leads from a point to the same point
+abbrev pub still : Edge → Bool
+still u = eqZ (u .dx) (pos 0) && eqZ (u .dy) (pos 0)
+
+-- two edges have cross 0
+unfoldable pub parallel : Edge → Edge → Bool
+parallel u v = eqZ (u .dx *ℤ v .dy) (u .dy *ℤ v .dx)
+
+-- two edges have cross 0 and point against each other
+abbrev pub opposed : Edge → Edge → Bool
+opposed u v = parallel u v && ltZ (u .dx *ℤ v .dx +ℤ u .dy *ℤ v .dy) (pos 0)

@@ -7,7 +7,7 @@ ghost use Prim.Native.Nat.{_+_, _*_, _<_, _≤_};
 ghost use lib.ListN.{length};
 ghost use lib.IntN.{_+ℤ_, _-ℤ_, _*ℤ_};
 ghost use Rattle.grid.specs.Limits.{on-grid, all-on-grid};
-ghost use Rattle.grid.specs.Points.{at, on, cross as cross-of, same as same-point, sign as sign-of, turn as turn-of, reverses as reverses-at, Short, AllOn, edges as edges-of};
+ghost use Rattle.grid.specs.Points.{at, on, same as same-point, sign as sign-of, turn as turn-of, reverses as reverses-at, Short, AllOn, edges as edges-of, between as between-of, parallel as parallel-of, opposed as opposed-of, still as still-of};
 ghost use Rattle.grid.specs.Ladder.{first-of};
 ghost use Rattle.grid.specs.Corners.{straight as straight-at, back as back-at};
 ghost use Rattle.grid.specs.Domain.{domain as domain-of, Contour};
@@ -171,12 +171,56 @@ pub fn reverses(a: Point, b: Point, c: Point) -> bool
     dot(e.ux, e.uy, e.vx, e.vy) < 0
 }
 
-// x·y' - y·x' of two points: what the edge from a to b adds to the doubled area.
-pub fn shoelace(a: Point, b: Point) -> i64
+// An edge: how far it goes in x and in y.
+pub struct Edge {
+    pub dx: i64,
+    pub dy: i64,
+}
+
+// The edge from a to b.
+fn between(a: Point, b: Point) -> Edge
     requires { ⌜ (on a ≡ true) × (on b ≡ true) ⌝ }
-    ensures { λ r. ⌜ r ≡ cross-of a b ⌝ }
+    ensures { λ r. ⌜ r ≡ between-of a b ⌝ }
 {
-    cross(wide(a.x), wide(a.y), wide(b.x), wide(b.y))
+    Edge {
+        dx: gap(a.x, b.x),
+        dy: gap(a.y, b.y),
+    }
+}
+
+// The edge from position a of a row to position b.
+pub fn edge_at(points: &[i32], a: usize, b: usize) -> Edge
+    requires { ⌜ (all-on-grid (now points) ≡ true) × (2 * a + 1 < length (now points)) × (2 * b + 1 < length (now points)) ⌝ }
+    ensures { λ r. ⌜ r ≡ between-of (at (now (points .entry)) a) (at (now (points .entry)) b) ⌝ }
+{
+    between(point_at(points, a), point_at(points, b))
+}
+
+// Whether an edge leads from a point to the same point.
+pub fn still(u: Edge) -> bool
+    ensures { λ r. ⌜ r ≡ still-of u ⌝ }
+{
+    u.dx == 0 && u.dy == 0
+}
+
+// Whether two edges have cross 0.
+pub fn parallel(u: Edge, v: Edge) -> bool
+    requires { ⌜ Short (u .dx) (u .dy) (v .dx) (v .dy) ⌝ }
+    ensures { λ r. ⌜ r ≡ parallel-of u v ⌝ }
+{
+    u.dx * v.dy == u.dy * v.dx
+}
+
+// Whether two edges have cross 0 and point against each other.
+pub fn opposed(u: Edge, v: Edge) -> bool
+    requires { ⌜ Short (u .dx) (u .dy) (v .dx) (v .dy) ⌝ }
+    ensures { λ r. ⌜ r ≡ opposed-of u v ⌝ }
+{
+    if parallel(u, v) {
+        dot(u.dx, u.dy, v.dx, v.dy) < 0
+    } else {
+        false
+    }
 }
 
 // Whether the two edges at b, on the way from a to c, have cross 0.

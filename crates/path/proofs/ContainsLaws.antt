@@ -114,6 +114,43 @@ module _ (row : List ℤ) (p : Point) where
           let e : i ≡ n = omega (arith, k .within) in
           sym (k .is ∙ ap (λ (l : List Point). xor sofar (odd p a l)) (points-done c i e) ∙ xor-false sofar)
 
+beq-is : (a b : Bool) → Bool·beq a b ≡ true → a ≡ b
+beq-is true true e = refl
+beq-is true false e = sym e
+beq-is false true e = e
+beq-is false false e = refl
+
+module _ (row : List ℤ) (p : Point) where
+  -- the loop, with the side of p's horizontal on which the last point lies
+  pub record Sided (n : ℕ) (sofar up : Bool) (i : ℕ) : Type 0 where
+    pub low : 1 ≤ i
+    pub counted : Counted row p n sofar (at row (i - 1)) i
+    pub side : up ≡ above p (at row (i - 1))
+
+  module _ {n : ℕ} (c : Contour row n) where
+    pub sided-first : 0 < n → (sofar up : Bool) → sofar ≡ crosses p (at row (n - 1)) (at row 0) → up ≡ above p (at row 0) → Sided n sofar up 1
+    sided-first h sofar up e f = record {
+      low = omega arith;
+      counted = rw e (rw (false-xor (crosses p (at row (n - 1)) (at row 0))) at (counted-more row p c (counted-none row p c h) h));
+      side = f;
+    }
+
+    module _ {sofar up : Bool} {i : ℕ} (k : Sided n sofar up i) (h : i < n) (next : Bool) (f : next ≡ above p (at row i)) where
+      more : (t : Bool) → t ≡ crosses p (at row (i - 1)) (at row i) → Counted row p n (xor sofar t) (at row i) (i + 1)
+      more t e = rw e (counted-more row p c (k .counted) h)
+
+      pub sided-same : Bool·beq up next ≡ true → Sided n sofar up (i + 1)
+      sided-same e =
+          let back : i + 1 - 1 ≡ i = omega arith in
+          record {
+            low = omega arith;
+            counted = rw back (rw (xor-false sofar) at (more false (crosses-not p (at row (i - 1)) (at row i) (ap₂ Bool·beq (sym (k .side)) (sym f) ∙ e))));
+            side = rw back (beq-is up next e ∙ f);
+          }
+
+      pub sided-other : (t : Bool) → t ≡ crosses p (at row (i - 1)) (at row i) → Sided n (xor sofar t) next (i + 1)
+      sided-other t e = let back : i + 1 - 1 ≡ i = omega arith in record { low = omega arith; counted = rw back (more t e); side = rw back f }
+
 -- the question as a whole
 module _ (row : List ℤ) (x y : ℤ) where
   abbrev asked : Point

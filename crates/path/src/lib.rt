@@ -9,7 +9,7 @@ ghost use Rattle.grid.specs.Inside.{First};
 ghost use Rattle.path.specs.Convex.{convex-left, convex as convex-verdict};
 ghost use Rattle.path.specs.Inside.{looked};
 ghost use Rattle.path.specs.Clockwise.{clockwise};
-ghost use Rattle.path.specs.Contains.{crosses as crosses-at, contained, contains as contains-verdict};
+ghost use Rattle.path.specs.Contains.{above, crosses as crosses-at, contained, contains as contains-verdict};
 use grid::Point;
 pub use grid::Verdict;
 
@@ -143,19 +143,33 @@ fn crosses(p: Point, a: Point, b: Point) -> bool
     }
 }
 
+// Whether a lies above p's horizontal.
+fn lies_above(p: Point, a: Point) -> bool
+    requires { ⌜ (on p ≡ true) × (on a ≡ true) ⌝ }
+    ensures { λ r. ⌜ r ≡ above p a ⌝ }
+{
+    p.y < a.y
+}
+
 // Whether an odd number of the closed contour's edges crosses p's horizontal to the right of p.
 fn parity(points: &[i32], n: usize, p: Point) -> bool
     requires { ⌜ Contour (now points) n × (0 < n) × (on p ≡ true) ⌝ }
     ensures { λ r. ⌜ r ≡ contained p (points-of (now (points .entry))) ⌝ }
 {
-    let mut odd = false;
-    let mut a = grid::point_at(points, n - 1);
-    let mut i: usize = 0;
+    let first = grid::point_at(points, 0);
+    let mut odd = crosses(p, grid::point_at(points, n - 1), first);
+    let mut up = lies_above(p, first);
+    let mut i: usize = 1;
     while i < n {
         let b = grid::point_at(points, i);
-        odd = odd != crosses(p, a, b);
-        a = b;
-        i += 1;
+        let next = lies_above(p, b);
+        if up == next {
+            i += 1;
+        } else {
+            odd = odd != crosses(p, grid::point_at(points, i - 1), b);
+            up = next;
+            i += 1;
+        }
     }
     odd
 }

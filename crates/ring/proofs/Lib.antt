@@ -13,5 +13,7 @@ pub mod Theorems
 pub mod Filling
 pub mod Links
 pub mod Loop
+pub mod Counting
 pub mod RuleLaws
 pub mod Examples
+pub mod Along

@@ -1,7 +1,6 @@
 -- What a turn of the walk's loop does, for the code that has a rule. The loop stops at the first marked position, where nothing goes any more.
 use Prim.Native.Nat.{ℕ, suc, _+_, _-_, _*_, _<_, _≤_}
 use native.Mathlib.Omega.{arith}
-use native.Mathlib.Numerals.{add-one}
 use mathlib.Core.Path.{_≡_, sym, ap, _∙_}
 use mathlib.Core.List.{List}
 use mathlib.Core.Bool.{Bool, true, false}
@@ -10,35 +9,36 @@ use Rattle.ring.specs.Walk.{unmarked, marked, removed, mark-at, Survivor
 use Rattle.ring.specs.Walk.Stage.{kept, collapsed}
 use Rattle.ring.specs.Rows.{Linked, AllLinked, Removable, Removed}
 use Rattle.grid.proofs.RowLaws.{any-default}
-use Rattle.ring.proofs.Marks.{fresh-marked}
+use Rattle.ring.proofs.Marks.{fresh-unmarked}
 use Rattle.ring.proofs.Survivors.{survivor-count, fresh-count}
 use Rattle.ring.proofs.Changes.{same-set, mark-counts, remove-counts}
-use Rattle.ring.proofs.Looks.{some-unmarked}
 use Rattle.ring.proofs.Moments.{Reached, begun, stayed, went, moment}
 use Rattle.ring.proofs.Ahead.{idle, visits-room}
 use Rattle.ring.proofs.Ends.{walk-many, settled-answer, fallen-after}
 use Rattle.ring.proofs.Links.{Here, here, linked-same}
 
 module _ (goes : ℕ → ℕ → ℕ → Bool) (n : ℕ) where
-  -- At a moment of the walk the rows are linked, seen positions are marked and left ones survive.
-  pub record Turn (next prev mark : List ℕ) (left seen made p : ℕ) : Type 0 where
+  -- At a moment of the walk the rows are linked, left positions survive, and the total is what was decided and what is not marked.
+  pub record Turn (next prev mark : List ℕ) (left total p : ℕ) : Type 0 where
+    pub made : ℕ
     pub visits : ℕ
     pub reached : Reached goes n visits mark p made
     pub linked : Linked mark next prev
     pub left-is : left ≡ length (survivors mark)
-    pub seen-is : seen ≡ count marked mark
+    pub total-is : total ≡ made + count unmarked mark
 
   module _ (big : 3 ≤ n) where
-    pub turn-start : {next prev mark : List ℕ} → AllLinked n mark next prev → Turn next prev mark n 0 0 0
+    pub turn-start : {next prev mark : List ℕ} → AllLinked n mark next prev → Turn next prev mark n n 0
     turn-start {next} {prev} {mark} x = record {
+      made = 0;
       visits = 0;
       reached = rw (x .marks) begun;
       linked = x .linked;
       left-is = sym (ap (λ l. length (survivors l)) (x .marks) ∙ fresh-count n);
-      seen-is = sym (ap (count marked) (x .marks) ∙ fresh-marked n);
+      total-is = omega (arith, ap (count unmarked) (x .marks), fresh-unmarked n);
     }
 
-    module _ {next prev mark : List ℕ} {left seen made p : ℕ} (x : Turn next prev mark left seen made p) where
+    module _ {next prev mark : List ℕ} {left total p : ℕ} (x : Turn next prev mark left total p) where
       -- What a turn can rely on: its places lie inside the rows, its numbers stay small, and it reads the mark that the walk has.
       pub record Known : Type 0 where
         pub at : Here mark next prev p
@@ -48,14 +48,13 @@ module _ (goes : ℕ → ℕ → ℕ → Bool) (n : ℕ) where
         pub prev-long : length prev ≡ n
         pub read : getD mark p 0 ≡ mark-at mark p
         pub three : 3 ≤ left
-        pub seen-few : seen ≤ left
-        pub paid : made + 4 * left ≤ 4 * n + seen
+        pub few : count unmarked mark ≤ total
+        pub paid : total + 3 * left ≤ 4 * n
 
       pub known : Known
       known =
           let y = moment goes n big (x .reached) in
           let h = here (x .linked) p (y .on) in
-          let c = survivor-count 0 mark in
           record {
             at = h;
             survives = y .on;
@@ -64,45 +63,52 @@ module _ (goes : ℕ → ℕ → ℕ → Bool) (n : ℕ) where
             prev-long = x .linked .prev-long ∙ y .long;
             read = any-default mark p 0 removed (h .inside-marks);
             three = omega (arith, y .many, x .left-is);
-            seen-few = omega (arith, x .left-is, x .seen-is);
-            paid = omega (arith, y .paid, x .left-is, x .seen-is);
+            few = omega (arith, x .total-is);
+            paid = omega (arith, y .paid, x .left-is, x .total-is);
           }
 
-      -- At a marked position all that is left is kept, and what isn't seen is decided once.
-      pub turn-idle : mark-at mark p ≡ marked → walk goes n ≡ kept (survivors mark) (made + (left - seen))
-      turn-idle e = settled-answer goes n big (x .reached) (idle goes n big (x .reached) e)
-          ∙ ap (kept (survivors mark)) (omega (arith, x .left-is, x .seen-is, survivor-count 0 mark))
+      -- At a marked position all that is left is kept, and what isn't marked is decided once.
+      pub turn-idle : mark-at mark p ≡ marked → walk goes n ≡ kept (survivors mark) total
+      turn-idle e = settled-answer goes n big (x .reached) (idle goes n big (x .reached) e) ∙ ap (kept (survivors mark)) (sym (x .total-is))
 
       module _ (due : mark-at mark p ≡ unmarked) where
-        -- Before the loop ends something isn't seen.
-        pub turn-more : seen < left
-        turn-more = let z : count unmarked mark ≡ 0 → ⊥ = some-unmarked mark p due in omega (arith, x .left-is, x .seen-is, survivor-count 0 mark)
-
-        pub turn-stay : to-go goes mark p ≡ false → (q : ℕ) → q ≡ successor mark p → Turn next prev (set mark p marked) left (seen + 1) (made + 1) q
+        pub turn-stay : to-go goes mark p ≡ false → (q : ℕ) → q ≡ successor mark p → Turn next prev (set mark p marked) left total q
         turn-stay t q e =
             let c = mark-counts mark p due in
             record {
+              made = suc (x .made);
               visits = suc (x .visits);
-              reached = rw (e, add-one) (stayed (x .reached) due t);
+              reached = rw e (stayed (x .reached) due t);
               linked = linked-same (same-set mark p marked (omega arith) (omega arith)) (x .linked);
               left-is = x .left-is ∙ sym (c .0);
-              seen-is = omega (arith, x .seen-is);
+              total-is = omega (arith, x .total-is);
             }
+
+        -- Each turn leaves less to do.
+        pub stay-less : 3 * left + count unmarked (set mark p marked) < 3 * left + count unmarked mark
+        stay-less = omega (arith, mark-counts mark p due)
 
         pub turn-removable : 3 < left → Removable mark next prev p
         turn-removable h = record { due = due; others = omega (arith, x .left-is); linked = x .linked }
 
-        pub turn-go : to-go goes mark p ≡ true → 3 < left → {next′ prev′ mark′ : List ℕ} {taken : ℕ} → Removed mark p mark′ next′ prev′ taken
-            → (q : ℕ) → q ≡ predecessor mark p → Turn next′ prev′ mark′ (left - 1) (seen - taken) (made + 1) q
-        turn-go t h y q e = record {
-          visits = suc (x .visits);
-          reached = rw (y .marks, e, add-one) (went (x .reached) due t (omega (arith, x .left-is)));
-          linked = y .linked;
-          left-is = omega (arith, x .left-is, remove-counts mark p due, ap (λ l. length (survivors l)) (y .marks));
-          seen-is = omega (arith, x .seen-is, y .fewer);
-        }
+        module _ {next′ prev′ mark′ : List ℕ} {taken : ℕ} (y : Removed mark p mark′ next′ prev′ taken) where
+          one-less : length (survivors mark′) + 1 ≡ length (survivors mark)
+          one-less = omega (arith, remove-counts mark p due, ap (λ l. length (survivors l)) (y .marks))
 
-        pub turn-fall : to-go goes mark p ≡ true → left ≤ 3 → walk goes n ≡ collapsed (made + 1)
-        turn-fall t h =
+          pub turn-go : to-go goes mark p ≡ true → 3 < left → (q : ℕ) → q ≡ predecessor mark p → Turn next′ prev′ mark′ (left - 1) (total + taken) q
+          turn-go t h q e = record {
+            made = suc (x .made);
+            visits = suc (x .visits);
+            reached = rw (y .marks, e) (went (x .reached) due t (omega (arith, x .left-is)));
+            linked = y .linked;
+            left-is = omega (arith, x .left-is, one-less);
+            total-is = omega (arith, x .total-is, y .fewer, one-less, survivor-count 0 mark, survivor-count 0 mark′);
+          }
+
+          pub go-less : 3 < left → 3 * (left - 1) + count unmarked mark′ < 3 * left + count unmarked mark
+          go-less h = omega (arith, remove-counts mark p due, ap (count unmarked) (y .marks))
+
+        pub turn-fall : to-go goes mark p ≡ true → left ≤ 3 → (u : ℕ) → u ≡ count unmarked mark → walk goes n ≡ collapsed (total + 1 - u)
+        turn-fall t h u e =
             let v = visits-room goes n big (x .reached) in
-            rw add-one (walk-many goes n big ∙ fallen-after goes n big (x .reached) due t (omega (arith, x .left-is)) (suc (3 * n)) (omega arith))
+            walk-many goes n big ∙ fallen-after goes n big (x .reached) due t (omega (arith, x .left-is)) (suc (3 * n)) (omega arith) ∙ ap collapsed (omega (arith, x .total-is))

@@ -17,7 +17,7 @@ inside [] p h = omega arith
 inside (y ∷ m) zero h = omega arith
 inside (y ∷ m) (suc p) h = omega (arith, inside m p h)
 
-abbrev one : Bool → ℕ
+abbrev pub one : Bool → ℕ
 one true = 1
 one false = 0
 

@@ -6,7 +6,8 @@ use Prim.Native.Nat.{ℕ, _+_, _*_, _<_}
 use lib.ListN.{length}
 use lib.IntN.{ℤ}
 use Rattle.grid.specs.Limits.{all-on-grid}
-use Rattle.grid.specs.Points.{at, same}
+use Rattle.grid.specs.declared.Edge.{Edge}
+use Rattle.grid.specs.Points.{at, same, still, parallel, opposed}
 use Rattle.grid.specs.Corners.{Corner, straight, back}
 use Rattle.ring.specs.declared.Rule.{Rule}
 use Rattle.ring.specs.declared.Rule.the-variants.{Collinear, Spike}
@@ -15,6 +16,11 @@ use Rattle.ring.specs.declared.Rule.the-variants.{Collinear, Spike}
 unfoldable pub goes-at : Rule → Corner → Bool
 goes-at Collinear k = straight k
 goes-at Spike k = same (k .vertex) (k .before) || (same (k .vertex) (k .after) || back k)
+
+-- The same of the edges to a vertex and from it.
+unfoldable pub goes-along : Rule → Edge → Edge → Bool
+goes-along Collinear u v = parallel u v
+goes-along Spike u v = still u || (still v || opposed u v)
 
 -- The corner at three positions of a row: a predecessor, a vertex and a successor.
 abbrev pub corner-of : List ℤ → ℕ → ℕ → ℕ → Corner

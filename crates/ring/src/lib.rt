@@ -2,10 +2,14 @@
 ghost use mathlib.Core.Path.{_≡_};
 ghost use Prim.Native.Nat.{_<_, _≤_, _^_};
 ghost use lib.ListN.{length};
+ghost use mathlib.Core.Bool.{not};
+ghost use Rattle.grid.specs.Points.{Short, points as points-of};
+ghost use Rattle.grid.specs.Corners.{corners, some};
 ghost use Rattle.grid.specs.Domain.{Contour};
-ghost use Rattle.ring.specs.Walk.{Survivor, walk as walk-of};
-ghost use Rattle.ring.specs.Rule.{Vertices, goes as goes-by};
+ghost use Rattle.ring.specs.Walk.{unmarked as due-mark, Survivor, count, walk as walk-of};
+ghost use Rattle.ring.specs.Rule.{Vertices, goes-at, goes-along as goes-along-by, goes as goes-by};
 ghost use Rattle.ring.specs.Rows.{AllLinked, Level, Linked, Removable, Removed, Unlinked, Unmarked, UnmarkedAbout, ended};
+use grid::Edge;
 
 // A position of a row as an index.
 pub fn wide(x: u32) -> usize
@@ -118,47 +122,100 @@ pub fn goes(rule: Rule, points: &[i32], before: usize, at: usize, after: usize) 
     }
 }
 
+// The same by the edges to a vertex and from it, for a way along the contour that reads each edge once.
+fn goes_along(rule: Rule, to: Edge, from: Edge) -> bool
+    requires { ⌜ Short (to .dx) (to .dy) (from .dx) (from .dy) ⌝ }
+    ensures { λ r. ⌜ r ≡ goes-along-by rule to from ⌝ }
+{
+    match rule {
+        Rule::Collinear => grid::parallel(to, from),
+        Rule::Spike => {
+            if grid::still(to) {
+                return true;
+            }
+            if grid::still(from) {
+                return true;
+            }
+            grid::opposed(to, from)
+        }
+    }
+}
+
+// Whether no vertex of a contour is to go, with its neighbours there.
+pub fn untouched(rule: Rule, points: &[i32], n: usize) -> bool
+    requires { ⌜ Contour (now points) n × (0 < n) ⌝ }
+    ensures { λ r. ⌜ r ≡ not (some (goes-at rule) (corners (points-of (now (points .entry))))) ⌝ }
+{
+    let closing = grid::edge_at(points, n - 1, 0);
+    let mut to = closing;
+    let mut i: usize = 1;
+    while i < n {
+        let from = grid::edge_at(points, i - 1, i);
+        if goes_along(rule, to, from) {
+            return false;
+        }
+        to = from;
+        i += 1;
+    }
+    !goes_along(rule, to, closing)
+}
+
 // How a walk ended, and after how many decisions.
 pub struct Walked {
     pub kept: bool,
     pub decisions: usize,
 }
 
+// How many positions are not marked.
+fn unmarked(mark: &[u8]) -> usize
+    ensures { λ r. ⌜ r ≡ count due-mark (now (mark .entry)) ⌝ }
+{
+    let mut found: usize = 0;
+    let mut i: usize = 0;
+    while i < mark.len() {
+        if mark[i] == 0 {
+            found += 1;
+            i += 1;
+        } else {
+            i += 1;
+        }
+    }
+    found
+}
+
 // The walk of a ring that is linked, nothing marked. It stops at the first marked position: from there on nothing
-// goes any more, and each position that is not marked yet takes one decision.
+// goes any more, and each position that is not marked yet takes one decision. These are counted beforehand, so that
+// only a removal changes the count.
 fn round(rule: Rule, points: &[i32], next: &mut [u32], prev: &mut [u32], mark: &mut [u8]) -> Walked
     requires { ⌜ Contour (now points) (length (now mark)) × (3 ≤ length (now mark)) ⌝ }
     requires { ⌜ AllLinked (length (now mark)) (now mark) (now next) (now prev) ⌝ }
     ensures { λ r. ⌜ walk-of (goes-by rule (now (points .entry))) (length (now (mark .entry))) ≡ ended r (now (mark .exit)) ⌝ }
 {
     let mut left = mark.len();
-    let mut seen: usize = 0;
-    let mut made: usize = 0;
+    let mut decisions = mark.len();
     let mut at: usize = 0;
     while mark[at] == 0 {
-        made += 1;
         let before = wide(prev[at]);
         let after = wide(next[at]);
         if goes(rule, points, before, at, after) {
             if left <= 3 {
                 return Walked {
                     kept: false,
-                    decisions: made,
+                    decisions: decisions + 1 - unmarked(mark),
                 };
             }
             let taken = remove(next, prev, mark, at);
+            decisions += taken;
             left -= 1;
-            seen -= taken;
             at = before;
         } else {
             mark[at] = 1;
-            seen += 1;
             at = after;
         }
     }
     Walked {
         kept: true,
-        decisions: made + (left - seen),
+        decisions,
     }
 }
 

@@ -1,24 +1,9 @@
 -- `grid::edges` meets its contract: each gap is between coordinates of the grid.
-use mathlib.Core.Path.{_≡_, _∙_, ap₂}
-use mathlib.Core.Bool.{true}
-use lib.IntN.{ℤ, _-ℤ_}
-use mir.Syntax.{w32}
-use mir.Val.{toZ, ofZ}
 use mir.Facts.{toZ-ofZ}
 use borrow.Author.Needs.{sfits-of}
-use Rattle.grid.specs.Limits.{on-grid}
-use Rattle.grid.proofs.LimitLaws.{on-grid-back}
-use Rattle.grid.proofs.PointLaws.{x-on, y-on}
+use Rattle.grid.proofs.PointLaws.{x-on, y-on, passed, gone}
 use Rattle.grid.proofs.edges.Statement.{statement}
 use Rattle.grid.proofs.edges.Tie as tie
-
--- two coordinates on the grid, as they are passed
-passed : (a b : ℤ) → on-grid a ≡ true → on-grid b ≡ true → (on-grid (toZ w32 (ofZ w32 a)) ≡ true) × (on-grid (toZ w32 (ofZ w32 b)) ≡ true)
-passed a b p q = (rw (on-grid-back a p) p, rw (on-grid-back b q) q)
-
--- and their gap, as it is returned
-gone : (a b : ℤ) {r : ℤ} → on-grid a ≡ true → on-grid b ≡ true → r ≡ toZ w32 (ofZ w32 b) -ℤ toZ w32 (ofZ w32 a) → r ≡ b -ℤ a
-gone a b p q e = e ∙ ap₂ _-ℤ_ (on-grid-back b q) (on-grid-back a p)
 
 gap-requires : tie.Need-gap-requires
 gap-requires c κs = let k = c .before .before .pre in passed _ _ (x-on _ (k .a-on)) (x-on _ (k .b-on))

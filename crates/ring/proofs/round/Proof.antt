@@ -1,20 +1,20 @@
 -- `ring::round` meets its contract: each turn of the loop is a decision of the walk.
 use borrow.Author.Needs.{needs}
 use mathlib.Core.Path.{_≡_, sym, _∙_}
-use Prim.Native.Nat.{_*_, _-_, _<_, _≤_, _^_}
+use Prim.Native.Nat.{_+_, _*_, _<_, _≤_, _^_}
 use native.Mathlib.Omega.{arith}
 use lib.ListN.{length}
-use Rattle.ring.specs.Walk.{unmarked, mark-at, to-go}
+use Rattle.ring.specs.Walk.{unmarked, mark-at, count, to-go}
 use Rattle.ring.specs.Rule.{goes}
-use Rattle.ring.proofs.Loop.{Turn, Known, known, turn-start, turn-idle, turn-more, turn-stay, turn-removable, turn-go, turn-fall}
+use Rattle.ring.proofs.Loop.{Turn, Known, known, turn-start, turn-idle, turn-stay, stay-less, turn-removable, turn-go, go-less, turn-fall}
 use Rattle.ring.proofs.round.Statement.{statement}
 use Rattle.ring.proofs.round.Tie as tie
 
 abbrev Inv-loop : tie.InvT-loop
-Inv-loop rule row next₀ prev₀ mark₀ left₀ seen₀ made₀ at₀ next prev mark left seen made at = Turn (goes rule row) (length mark₀) next prev mark left seen made at
+Inv-loop rule row next₀ prev₀ mark₀ left₀ decisions₀ at₀ next prev mark left decisions at = Turn (goes rule row) (length mark₀) next prev mark left decisions at
 
 abbrev μ-loop : tie.MeasureT-loop
-μ-loop rule row next₀ prev₀ mark₀ left₀ seen₀ made₀ at₀ next prev mark left seen made at = 4 * left - seen
+μ-loop rule row next₀ prev₀ mark₀ left₀ decisions₀ at₀ next prev mark left decisions at = 3 * left + count unmarked mark
 
 -- the ring has three positions or more
 many : (c : tie.At-loop Inv-loop μ-loop) → 3 ≤ length (c .before .before .before .before .args .mark .now)
@@ -44,9 +44,6 @@ loop-holds c = let p = c .before .before .before .pre in turn-start _ _ (p .0 .1
 
 slice-read-if1 : tie.Need-slice-read-if1 Inv-loop μ-loop
 slice-read-if1 c = head (c .before) .0 .at .inside-marks
-
-add-made : tie.Need-add-made Inv-loop μ-loop
-add-made c = let h = head (c .before .before) in omega arith
 
 mul-wide : tie.Need-mul-wide Inv-loop μ-loop
 mul-wide c = let h = head (c .before .before) in omega arith
@@ -78,26 +75,35 @@ goes-requires c κs =
       on = p .on;
     }
 
+add-t21 : tie.Need-add-t21 Inv-loop μ-loop
+add-t21 c = let h = head (c .before .before .before .before .before .before .before .before .before) in omega arith
+
+unmarked-requires : tie.Need-unmarked-requires Inv-loop μ-loop
+unmarked-requires c κs = search needs
+
+sub-t25 : tie.Need-sub-t25 Inv-loop μ-loop
+sub-t25 c = let h = head (c .before .before .before .before .before .before .before .before .before .before .before) .0 in omega (arith, c .unmarked .ensures, h .few)
+
 same-length : tie.Need-same-length Inv-loop μ-loop
 same-length c =
-    let l = c .before .before .before .before .before .before .before .before .before in
+    let l = c .before .before .before .before .before .before .before .before .before .before .before in
     let h = head l .0 in
     omega (arith, l .before .before .before .before .pre .1 .linked .next-long)
 
 same-length-2 : tie.Need-same-length-2 Inv-loop μ-loop
 same-length-2 c =
-    let l = c .before .before .before .before .before .before .before .before .before in
+    let l = c .before .before .before .before .before .before .before .before .before .before .before in
     let h = head l .0 in
     omega (arith, l .before .before .before .before .pre .1 .linked .prev-long)
 
 same-length-3 : tie.Need-same-length-3 Inv-loop μ-loop
-same-length-3 c = head (c .before .before .before .before .before .before .before .before .before) .0 .mark-long
+same-length-3 c = head (c .before .before .before .before .before .before .before .before .before .before .before) .0 .mark-long
 
 returns : tie.Need-returns Inv-loop μ-loop
 returns c =
-    let t = c .before .before .before .before .before .before .before in
+    let t = c .before .before .before .before .before .before .before .before .before in
     let l = t .before .before in
-    turn-fall _ _ (many l) (l .loop .inv) (due t) (sym (said (c .before .before)) ∙ c .before .if2 .taken) (c .if3 .taken)
+    turn-fall _ _ (many l) (l .loop .inv) (due t) (sym (said (c .before .before .before .before)) ∙ c .before .before .before .if2 .taken) (c .before .before .if3 .taken) _ (c .unmarked .ensures)
 
 remove-requires : tie.Need-remove-requires Inv-loop μ-loop
 remove-requires c κs =
@@ -106,26 +112,25 @@ remove-requires c κs =
     let l = t .before .before in
     turn-removable _ _ (many l) (l .loop .inv) (due t) (i .if3 .left)
 
+add-decisions : tie.Need-add-decisions Inv-loop μ-loop
+add-decisions c =
+    let r = c .before .before .before .before .before .before in
+    let h = head (r .before .before .before .before .before .before .before .before .before .before .before .before .before) in
+    omega (arith, r .remove .ensures .small)
+
 sub-left : tie.Need-sub-left Inv-loop μ-loop
 sub-left c =
     let i = c .before .before .before .before .before .before .before .before .before .before in
     let h = head (i .before .before .before .before .before .before .before .before .before) in
     omega arith
 
-sub-seen : tie.Need-sub-seen Inv-loop μ-loop
-sub-seen c =
-    let r = c .before .before .before .before .before .before in
-    let i = r .before .before .before .before in
-    let l = i .before .before .before .before .before .before .before .before .before in
-    omega (arith, r .remove .ensures .fewer, l .loop .inv .seen-is)
-
 loop-less : tie.Need-loop-less Inv-loop μ-loop
 loop-less c =
     let r = c .before .before .before .before .before .before in
     let i = r .before .before .before .before in
-    let l = i .before .before .before .before .before .before .before .before .before in
-    let h = head l .0 in
-    omega (arith, r .remove .ensures .fewer, r .remove .ensures .small, l .loop .inv .seen-is)
+    let t = i .before .before .before .before .before .before .before in
+    let l = t .before .before in
+    go-less _ _ (many l) (l .loop .inv) (due t) (r .remove .ensures) (i .if3 .left)
 
 loop-again : tie.Need-loop-again Inv-loop μ-loop
 loop-again c =
@@ -134,21 +139,17 @@ loop-again c =
     let g = i .before .before in
     let t = g .before .before .before .before .before in
     let l = t .before .before in
-    turn-go _ _ (many l) (l .loop .inv) (due t) (sym (said g) ∙ i .before .if2 .taken) (i .if3 .left) (r .remove .ensures) _
+    turn-go _ _ (many l) (l .loop .inv) (due t) (r .remove .ensures) (sym (said g) ∙ i .before .if2 .taken) (i .if3 .left) _
     (g .before .before .before .wide .ensures ∙ head l .0 .at .prev-is)
 
 slice-write-mark : tie.Need-slice-write-mark Inv-loop μ-loop
 slice-write-mark c = head (c .before .before .before .before .before .before .before .before) .0 .at .inside-marks
 
-add-seen : tie.Need-add-seen Inv-loop μ-loop
-add-seen c = let h = head (c .before .before .before .before .before .before .before .before) in omega arith
-
 loop-less-2 : tie.Need-loop-less-2 Inv-loop μ-loop
 loop-less-2 c =
     let t = c .before .before .before .before .before .before in
     let l = t .before .before in
-    let m = turn-more _ _ (many l) (l .loop .inv) (due t) in
-    omega arith
+    stay-less _ _ (many l) (l .loop .inv) (due t)
 
 loop-again-2 : tie.Need-loop-again-2 Inv-loop μ-loop
 loop-again-2 c =
@@ -156,12 +157,6 @@ loop-again-2 c =
     let t = g .before .before .before .before .before in
     let l = t .before .before in
     turn-stay _ _ (many l) (l .loop .inv) (due t) (sym (said g) ∙ c .if2 .left) _ (g .before .wide2 .ensures ∙ head l .0 .at .next-is)
-
-sub-t29 : tie.Need-sub-t29 Inv-loop μ-loop
-sub-t29 c = let h = head (c .before .before) in omega arith
-
-add-t30 : tie.Need-add-t30 Inv-loop μ-loop
-add-t30 c = let h = head (c .before .before) in omega arith
 
 same-length-4 : tie.Need-same-length-4 Inv-loop μ-loop
 same-length-4 c = let l = c .before .before in let h = head l .0 in omega (arith, l .before .before .before .before .pre .1 .linked .next-long)
@@ -186,7 +181,6 @@ round-spec =
     μ-loop
     loop-holds
     slice-read-if1
-    add-made
     mul-wide
     slice-read-wide
     wide-requires
@@ -194,21 +188,21 @@ round-spec =
     slice-read-wide-2
     wide-requires-2
     goes-requires
+    add-t21
+    unmarked-requires
+    sub-t25
     same-length
     same-length-2
     same-length-3
     returns
     remove-requires
+    add-decisions
     sub-left
-    sub-seen
     loop-less
     loop-again
     slice-write-mark
-    add-seen
     loop-less-2
     loop-again-2
-    sub-t29
-    add-t30
     same-length-4
     same-length-5
     same-length-6

@@ -1,0 +1,68 @@
+-- Edges tell the same of a corner as its three points.
+use mathlib.Core.Path.{_≡_, refl, sym, _∙_, ap, ap₂}
+use mathlib.Core.Bool.{Bool, true, false, _&&_, true≢false}
+use Prim.Native.Nat.{zero, suc}
+use native.Mathlib.Omega.{arith}
+use lib.IntN.{ℤ, pos, negsuc, _-ℤ_, _*ℤ_, +ℤ-invr}
+use lib.Signed.{ltZ}
+use borrow.Author.Tests.{ne-eqb}
+use Rattle.integers.specs.Equal.{eqZ}
+use Rattle.integers.specs.Linear.{at, num, _:-_, above, below}
+use Rattle.integers.proofs.Ring.{⊖-eq}
+use Rattle.integers.proofs.Linear.{difference, same-parts}
+use Rattle.integers.proofs.Equal.{eqZ-true, eqZ-same}
+use Rattle.grid.specs.declared.Point.{Point}
+use Rattle.grid.specs.Points.{same, sign, dot, step, bend, reverses, between, still, parallel, opposed}
+use Rattle.grid.specs.Corners.{straight, back}
+use Rattle.grid.proofs.AroundLaws.{corner}
+
+equal-none : (x y : ℤ) → x -ℤ y ≡ pos 0 → x ≡ y
+equal-none x y e = difference x ∙ ⊖-eq (above x) (below x) (above y) (below y) (omega (arith, same-parts (at x :- at y) (num 0) e)) ∙ sym (difference y)
+
+-- equal numbers, whichever of them comes first
+eqZ-swap : (x y : ℤ) → eqZ x y ≡ eqZ y x
+eqZ-swap x y = go (eqZ x y) (eqZ y x) refl refl
+  where
+    go : (s t : Bool) → eqZ x y ≡ s → eqZ y x ≡ t → eqZ x y ≡ eqZ y x
+    go true true e f = e ∙ sym f
+    go false false e f = e ∙ sym f
+    go true false e f = absurd (true≢false (sym (eqZ-same y) ∙ ap (eqZ y) (sym (eqZ-true x y e)) ∙ f))
+    go false true e f = absurd (true≢false (sym (eqZ-same x) ∙ ap (eqZ x) (sym (eqZ-true y x f)) ∙ e))
+
+-- equal numbers have no difference
+eqZ-difference : (x y : ℤ) → eqZ x y ≡ eqZ (x -ℤ y) (pos 0)
+eqZ-difference x y = go (eqZ x y) (eqZ (x -ℤ y) (pos 0)) refl refl
+  where
+    none : x ≡ y → eqZ (x -ℤ y) (pos 0) ≡ true
+    none e = ap (λ (z : ℤ). eqZ z (pos 0)) (ap (λ (z : ℤ). z -ℤ y) e ∙ +ℤ-invr y) ∙ eqZ-same (pos 0)
+
+    go : (s t : Bool) → eqZ x y ≡ s → eqZ (x -ℤ y) (pos 0) ≡ t → eqZ x y ≡ eqZ (x -ℤ y) (pos 0)
+    go true true e f = e ∙ sym f
+    go false false e f = e ∙ sym f
+    go true false e f = absurd (true≢false (sym (none (eqZ-true x y e)) ∙ f))
+    go false true e f = absurd (true≢false (sym (eqZ-same x) ∙ ap (eqZ x) (equal-none x y (eqZ-true (x -ℤ y) (pos 0) f)) ∙ e))
+
+-- only 0 has the sign 0
+sign-none-test : (z : ℤ) → eqZ (sign z) (pos 0) ≡ eqZ z (pos 0)
+sign-none-test (pos zero) = refl
+sign-none-test (pos (suc n)) = sym (ne-eqb (suc n) 0 (λ h. omega arith))
+sign-none-test (negsuc n) = refl
+
+module _ (a b c : Point) where
+  pub straight-edges : straight (corner a b c) ≡ parallel (between a b) (between b c)
+  unfolding bend parallel
+  straight-edges =
+      let u = between a b in
+      let v = between b c in
+      sign-none-test (u .dx *ℤ v .dy -ℤ u .dy *ℤ v .dx) ∙ sym (eqZ-difference (u .dx *ℤ v .dy) (u .dy *ℤ v .dx))
+
+  pub back-edges : back (corner a b c) ≡ opposed (between a b) (between b c)
+  unfolding reverses
+  back-edges = ap (λ (t : Bool). t && ltZ (dot (step a b) (step b c)) (pos 0)) straight-edges
+
+module _ (a b : Point) where
+  pub same-before : same b a ≡ still (between a b)
+  same-before = ap₂ _&&_ (eqZ-difference (b .x) (a .x)) (eqZ-difference (b .y) (a .y))
+
+  pub same-after : same a b ≡ still (between a b)
+  same-after = ap₂ _&&_ (eqZ-swap (a .x) (b .x)) (eqZ-swap (a .y) (b .y)) ∙ same-before
