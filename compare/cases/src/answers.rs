@@ -26,26 +26,43 @@ pub fn answer(case: &Case) -> String {
 /// What is answered of a contour.
 #[derive(Debug, PartialEq, Eq)]
 struct Answers {
-    area_two: Reply<i64>,
-    area: Reply<i64>,
-    clockwise: Reply<bool>,
-    convex: Reply<bool>,
-    contains: Reply<bool>,
-    simple: Reply<bool>,
-    no_spikes: Reply<bool>,
+    verdicts: Verdicts,
     simplified: Reply<Walked>,
     despiked: Reply<Walked>,
 }
 
+/// What is answered of a contour that is left as it is.
+#[derive(Debug, PartialEq, Eq)]
+pub struct Verdicts {
+    pub area_two: Reply<i64>,
+    pub area: Reply<i64>,
+    pub clockwise: Reply<bool>,
+    pub convex: Reply<bool>,
+    pub contains: Reply<bool>,
+    pub simple: Reply<bool>,
+    pub no_spikes: Reply<bool>,
+}
+
 impl Answers {
-    fn new([x, y]: Point, row: &[i32]) -> Answers {
+    fn new(asked: Point, row: &[i32]) -> Answers {
+        let walk = |cleaner: Cleaner| domain(row).map(|()| cleaner.walk(&contour(row)));
+        Answers {
+            verdicts: Verdicts::new(asked, row),
+            simplified: walk(Cleaner::Simplified),
+            despiked: walk(Cleaner::Despiked),
+        }
+    }
+}
+
+impl Verdicts {
+    pub fn new([x, y]: Point, row: &[i32]) -> Verdicts {
         let points = contour(row);
         let contour = &points[..];
         let domain = domain(row);
         let with_area = domain.and_then(|()| not_empty(row));
         // The asked point off the grid is 3, in 3's place, whatever the contour.
         let with_asked = domain.and_then(|()| on_grid(&[x, y]));
-        Answers {
+        Verdicts {
             area_two: with_area.map(|()| contour.area_two()),
             area: with_area.map(|()| contour.area()),
             clockwise: with_area.map(|()| contour.is_clockwise_ordered()),
@@ -53,22 +70,21 @@ impl Answers {
             contains: with_asked.map(|()| contour.contains_point(IntPoint::new(x, y))),
             simple: domain.map(|()| Cleaner::Simplified.passes(&points)),
             no_spikes: domain.map(|()| Cleaner::Despiked.passes(&points)),
-            simplified: domain.map(|()| Cleaner::Simplified.walk(&points)),
-            despiked: domain.map(|()| Cleaner::Despiked.walk(&points)),
         }
     }
 }
 
 impl fmt::Display for Answers {
     fn fmt(&self, out: &mut fmt::Formatter) -> fmt::Result {
+        let verdicts = &self.verdicts;
         let columns = [
-            column(&self.area_two, i64::to_string),
-            column(&self.area, i64::to_string),
-            column(&self.clockwise, yes_or_no),
-            column(&self.convex, yes_or_no),
-            column(&self.contains, yes_or_no),
-            column(&self.simple, yes_or_no),
-            column(&self.no_spikes, yes_or_no),
+            column(&verdicts.area_two, i64::to_string),
+            column(&verdicts.area, i64::to_string),
+            column(&verdicts.clockwise, yes_or_no),
+            column(&verdicts.convex, yes_or_no),
+            column(&verdicts.contains, yes_or_no),
+            column(&verdicts.simple, yes_or_no),
+            column(&verdicts.no_spikes, yes_or_no),
             column(&self.simplified, walked),
             column(&self.despiked, walked),
         ];

@@ -1,7 +1,7 @@
 //! The two cleaners and their verdicts, by the Rust original.
 
+use crate::counted::crosses_of;
 use crate::line::{next_number, Words};
-use i_float::count::crosses_of;
 use i_float::int::point::IntPoint;
 use i_shape::int::despike::DeSpikeContour;
 use i_shape::int::simple::SimpleContour;

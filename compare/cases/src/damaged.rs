@@ -25,7 +25,7 @@ pub fn cases() -> Vec<Case> {
 }
 
 /// A short contour with one to three damages; two may undo each other.
-fn damaged(rng: &mut Rng) -> Case {
+pub fn damaged(rng: &mut Rng) -> Case {
     let contour = scattered(rng.below(12), rng.pick(&[3, LIMIT]), rng);
     let mut asked = asked::about(&contour, rng);
     let mut numbers = contour.concat();

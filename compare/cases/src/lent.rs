@@ -3,7 +3,7 @@
 use crate::case::{Case, Kind};
 use crate::cleaner::Cleaner;
 use crate::known::lines;
-use crate::point::{LIMIT, MOST_POINTS};
+use crate::point::{Point, LIMIT, MOST_POINTS};
 use crate::rng::Rng;
 use crate::rows::{Lengths, MOST_OUT, MOST_SCRATCH};
 use crate::scratch;
@@ -49,7 +49,7 @@ fn with_each(numbers: &[i32], times: usize, choices: &[Lengths]) -> Vec<Case> {
 }
 
 /// What a contour of so many points needs.
-fn need(points: usize) -> Lengths {
+pub fn need(points: usize) -> Lengths {
     Lengths {
         scratch: scratch::Lengths::all(points),
         out: 2 * points,
@@ -64,7 +64,7 @@ fn longest() -> Lengths {
 }
 
 /// Rows longer or shorter by the offsets, if none would be shorter than nothing.
-fn beside(need: Lengths, [next, prev, mark, out]: Offsets) -> Option<Lengths> {
+pub fn beside(need: Lengths, [next, prev, mark, out]: Offsets) -> Option<Lengths> {
     Some(Lengths {
         scratch: need.scratch.beside([next, prev, mark])?,
         out: need.out.checked_add_signed(out)?,
@@ -144,11 +144,20 @@ pub fn random() -> Vec<Case> {
     let mut cases = vec![];
     for _ in 0..100 {
         let contour = spoilt(rng);
-        let offsets = [(); 4].map(|()| rng.pick(&[-1, 0, 0, 0, 0, 1, 2, 5]));
-        let lent = beside(need(contour.len()), offsets).expect("a contour has points");
-        cases.extend(with_each(&contour.concat(), 1, &[lent]));
+        cases.extend(around_a_need(&contour, rng));
     }
     cases
+}
+
+/// The contour by each cleaner, with rows a little shorter or longer than needed.
+pub fn around_a_need(contour: &[Point], rng: &mut Rng) -> Vec<Case> {
+    let mut offsets = || [(); 4].map(|()| rng.pick(&[-1, 0, 0, 0, 0, 1, 2, 5]));
+    let lent = loop {
+        if let Some(lent) = beside(need(contour.len()), offsets()) {
+            break lent;
+        }
+    };
+    with_each(&contour.concat(), 1, &[lent])
 }
 
 /// Contours of the most points, of one less and of one more; and the long family with

@@ -2,31 +2,7 @@
 //! writes the answers of the Rust original to it; `cases listings` writes set files and
 //! their listings.
 
-mod answers;
-mod asked;
-mod case;
-mod checksum;
-mod cleaner;
-mod cleaning;
-mod damaged;
-mod files;
-mod known;
-mod lent;
-mod line;
-mod long;
-mod point;
-mod random;
-mod reply;
-mod rng;
-mod rows;
-mod scratch;
-mod sets;
-mod shapes;
-mod tiny;
-mod unclean;
-
-use case::Case;
-use std::collections::HashSet;
+use cases::{answers, cleaning, files, list, once, sets};
 use std::fmt::Display;
 use std::io::{self, BufRead, BufWriter, Write};
 use std::process::ExitCode;
@@ -68,13 +44,6 @@ fn write_list<C: Display>(cases: &[C]) -> Outcome {
     Ok(out.flush()?)
 }
 
-/// The cases in their order, each of them once.
-fn once<C: Display>(mut cases: Vec<C>) -> Vec<C> {
-    let mut seen = HashSet::new();
-    cases.retain(|case| seen.insert(case.to_string()));
-    cases
-}
-
 /// Reads a list on standard input, and writes the header and a line for each case.
 fn write_answers<C: FromStr<Err = String>>(header: &str, answer: fn(&C) -> String) -> Outcome {
     let mut out = BufWriter::new(io::stdout().lock());
@@ -86,43 +55,4 @@ fn write_answers<C: FromStr<Err = String>>(header: &str, answer: fn(&C) -> Strin
         writeln!(out, "{number} {}", answer(&case))?;
     }
     Ok(out.flush()?)
-}
-
-/// Every case of a contour, in the order of the list: contours of every form, then those for the
-/// cleaners, then the cleanings with rows of given lengths.
-fn list() -> Vec<Case> {
-    [
-        known::worked(),
-        known::limits(),
-        known::readings(),
-        tiny::cases(),
-        asked::scans(),
-        random::cases(),
-        damaged::cases(),
-        long::wound(),
-        long::written_out(),
-        known::successors(),
-        unclean::from_every_start(),
-        unclean::collapsing(),
-        unclean::random(),
-        unclean::long(),
-        lent::around_the_need(),
-        lent::chosen(),
-        lent::random(),
-        lent::large(),
-    ]
-    .concat()
-}
-
-#[cfg(test)]
-mod tests {
-    use super::{cleaning, list, sets};
-    use crate::line::tests::read_as_written;
-
-    #[test]
-    fn every_case_of_the_lists_is_read_as_it_was_written() {
-        read_as_written(list());
-        read_as_written(sets::list());
-        read_as_written(cleaning::list());
-    }
 }

@@ -42,6 +42,11 @@ pub fn cases() -> Vec<Case> {
     cases
 }
 
+/// A contour of any kind.
+pub fn any(rng: &mut Rng) -> Vec<Point> {
+    rng.pick(&KINDS).1(rng)
+}
+
 /// A count of points from `low` to 12.
 fn up_to_twelve(low: i32, rng: &mut Rng) -> usize {
     rng.between(low, 12) as usize

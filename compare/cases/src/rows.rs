@@ -25,18 +25,18 @@ impl fmt::Display for Lengths {
 }
 
 #[derive(Debug, PartialEq, Eq)]
-struct Rows {
-    scratch: Scratch,
-    out: Vec<i32>,
+pub struct Rows {
+    pub scratch: Scratch,
+    pub out: Vec<i32>,
 }
 
 /// What a cleaning answers, and the rows after it.
 #[derive(Debug, PartialEq, Eq)]
 pub struct Cleaning {
-    reply: u8,
-    points: usize,
-    decisions: usize,
-    rows: Rows,
+    pub reply: u8,
+    pub points: usize,
+    pub decisions: usize,
+    pub rows: Rows,
 }
 
 pub fn answer(cleaner: Cleaner, lent: Lengths, points: &[i32]) -> Cleaning {

@@ -33,7 +33,7 @@ fn five_points() -> Vec<Case> {
 }
 
 /// The points whose coordinates run from `low` to `high` in steps.
-fn square(low: i32, high: i32, step: usize) -> Vec<Point> {
+pub fn square(low: i32, high: i32, step: usize) -> Vec<Point> {
     let line = || (low..=high).step_by(step);
     line().flat_map(|y| line().map(move |x| [x, y])).collect()
 }

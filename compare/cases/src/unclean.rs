@@ -127,6 +127,11 @@ pub fn random() -> Vec<Case> {
     cases(contours, 310)
 }
 
+/// A contour of any kind of up to a few dozen points.
+pub fn any(rng: &mut Rng) -> Vec<Point> {
+    rng.pick(&KINDS[..5]).1(rng)
+}
+
 /// A polygon spoilt in one to four ways, one upon the other.
 pub fn spoilt(rng: &mut Rng) -> Vec<Point> {
     let n = rng.between(3, 6) as usize;
@@ -150,7 +155,7 @@ fn spikes_on_spikes(rng: &mut Rng) -> Vec<Point> {
 }
 
 /// A way of steps of length one.
-fn stroll(n: usize, rng: &mut Rng) -> Vec<Point> {
+pub fn stroll(n: usize, rng: &mut Rng) -> Vec<Point> {
     const STEPS: [Point; 4] = [[1, 0], [0, 1], [-1, 0], [0, -1]];
     let mut place = [0, 0];
     let mut step = || {

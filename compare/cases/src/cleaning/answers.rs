@@ -6,11 +6,12 @@ use super::original::Shape;
 use crate::answers::{column, yes_or_no};
 use crate::cleaner::Cleaner;
 use crate::point::Point;
-use crate::reply::{on_grid, refused_if, EMPTY};
+use crate::reply::{on_grid, refused_if, Reply, EMPTY};
 use crate::sets::flat::{refusal, Set};
 use i_float::int::point::IntPoint;
 use i_shape::int::area::Area;
 use i_shape::int::path::ContourExtension;
+use std::fmt;
 
 /// The columns of a set's line.
 pub const HEADER: &str = "case simple no_spikes area_two area in_shape";
@@ -18,30 +19,55 @@ pub const HEADER: &str = "case simple no_spikes area_two area in_shape";
 /// One line of answers, without its number.
 pub fn answer(case: &Case) -> String {
     match case.kind {
-        Kind::Asked { asked } => of_contours(asked, &case.of).join(" "),
+        Kind::Asked { asked } => Verdicts::new(asked, &case.of).to_string(),
         Kind::Cleaning { form, lent } => cleaned::answer(form, lent, &case.of).to_string(),
     }
 }
 
-fn of_contours(asked: Point, set: &Set) -> [String; 5] {
-    let sound = refusal(&[&set.points.all()], set.sound_contours());
-    let contours = sound.map(|()| set.to_contours());
-    let with_area = contours.clone().and_then(|contours| {
-        refused_if(contours.iter().any(|contour| contour.is_empty()), EMPTY)?;
-        Ok(contours)
-    });
-    let with_asked = contours.clone().and_then(|contours| {
-        on_grid(&asked)?;
-        Ok(contours)
-    });
-    let passes = |cleaner: Cleaner| contours.as_ref().map(|all| cleaner.passes_all(all));
-    [
-        column(&passes(Cleaner::Simplified).map_err(|&no| no), yes_or_no),
-        column(&passes(Cleaner::Despiked).map_err(|&no| no), yes_or_no),
-        column(&with_area.clone().map(|all| all.area_two()), i64::to_string),
-        column(&with_area.map(|all| all.area()), i64::to_string),
-        column(&with_asked.map(|all| in_shape(&all, asked)), yes_or_no),
-    ]
+/// What is answered of the contours of a set.
+#[derive(Debug, PartialEq, Eq)]
+pub struct Verdicts {
+    pub simple: Reply<bool>,
+    pub no_spikes: Reply<bool>,
+    pub area_two: Reply<i64>,
+    pub area: Reply<i64>,
+    pub in_shape: Reply<bool>,
+}
+
+impl Verdicts {
+    pub fn new(asked: Point, set: &Set) -> Verdicts {
+        let sound = refusal(&[&set.points.all()], set.sound_contours());
+        let contours = sound.map(|()| set.to_contours());
+        let contours = contours.as_ref().map_err(|&refusal| refusal);
+        let with_area = contours.and_then(|contours| {
+            refused_if(contours.iter().any(|contour| contour.is_empty()), EMPTY)?;
+            Ok(contours)
+        });
+        let with_asked = contours.and_then(|contours| {
+            on_grid(&asked)?;
+            Ok(contours)
+        });
+        Verdicts {
+            simple: contours.map(|all| Cleaner::Simplified.passes_all(all)),
+            no_spikes: contours.map(|all| Cleaner::Despiked.passes_all(all)),
+            area_two: with_area.map(|all| all.area_two()),
+            area: with_area.map(|all| all.area()),
+            in_shape: with_asked.map(|all| in_shape(all, asked)),
+        }
+    }
+}
+
+impl fmt::Display for Verdicts {
+    fn fmt(&self, out: &mut fmt::Formatter) -> fmt::Result {
+        let columns = [
+            column(&self.simple, yes_or_no),
+            column(&self.no_spikes, yes_or_no),
+            column(&self.area_two, i64::to_string),
+            column(&self.area, i64::to_string),
+            column(&self.in_shape, yes_or_no),
+        ];
+        out.write_str(&columns.join(" "))
+    }
 }
 
 /// The original has no such question of a shape, but of its contours.

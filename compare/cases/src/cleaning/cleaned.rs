@@ -13,13 +13,13 @@ use std::fmt;
 /// What a cleaning answers, and the rows after it.
 #[derive(Debug, PartialEq, Eq)]
 pub struct Cleaning {
-    reply: u8,
-    points: usize,
-    contours: usize,
-    shapes: usize,
-    decisions: usize,
-    scratch: Scratch,
-    rows: Rows,
+    pub reply: u8,
+    pub points: usize,
+    pub contours: usize,
+    pub shapes: usize,
+    pub decisions: usize,
+    pub scratch: Scratch,
+    pub rows: Rows,
 }
 
 pub fn answer(form: Form, lent: Lengths, set: &Set) -> Cleaning {

@@ -94,7 +94,8 @@ pub fn asked_and_cleaned_once(sets: &[Set], forms: &[Form], seed: u64) -> Vec<Ca
     cases
 }
 
-fn in_turn(form: Form, set: &Set, rng: &mut Rng) -> Case {
+/// A cleaning of the set in one form.
+pub fn in_turn(form: Form, set: &Set, rng: &mut Rng) -> Case {
     let offsets = match rng.below(4) {
         0 => rng.pick(&SHORT),
         _ => rng.pick(&ENOUGH),
@@ -116,7 +117,7 @@ pub fn around_the_need(sets: &[Set]) -> Vec<Case> {
 }
 
 /// A point with something to tell about the set.
-fn point_for(set: &Set, rng: &mut Rng) -> Point {
+pub fn point_for(set: &Set, rng: &mut Rng) -> Point {
     let off_grid = |number: &i32| OFF_GRID.contains(number);
     let points = set.points.numbers.chunks_exact(2).map(|p| [p[0], p[1]]);
     let on_grid = points.filter(|point: &Point| !point.iter().any(off_grid));

@@ -2,15 +2,15 @@
 //! answers.
 
 mod answers;
-mod case;
+pub mod case;
 mod chosen;
-mod cleaned;
+pub mod cleaned;
 mod damaged;
-mod lent;
+pub mod lent;
 mod original;
-mod random;
+pub mod random;
 
-pub use answers::{answer, HEADER};
+pub use answers::{answer, Verdicts, HEADER};
 pub use case::Case;
 
 /// Every case, in the order of the list.

@@ -1,7 +1,7 @@
 //! The original's verdicts and copying forms over shapes.
 
 use crate::cleaner::{Cleaner, Contour};
-use i_float::count::crosses_of;
+use crate::counted::crosses_of;
 use i_shape::int::despike::{DeSpikeShape, DeSpikeShapes};
 use i_shape::int::simple::{SimpleShape, SimpleShapes};
 

@@ -18,7 +18,7 @@ pub fn small_grids() -> Vec<Case> {
     lent::asked_and_cleaned(&sets, 613)
 }
 
-fn on_grid(reach: i32, rng: &mut Rng) -> Set {
+pub fn on_grid(reach: i32, rng: &mut Rng) -> Set {
     let shapes: Vec<_> = (0..rng.below(5)).map(|_| shape(reach, rng)).collect();
     Set::of(&shapes)
 }

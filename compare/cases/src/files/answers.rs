@@ -4,53 +4,114 @@ use super::case::Case;
 use super::edition::{read, written, Shape};
 use super::listing::listing;
 use crate::checksum::checksum;
-use crate::reply::Reply;
+use crate::reply::{Reply, DONE};
 use crate::sets::flat::Set;
 use crate::sets::rows::{Lengths, Rows};
+use std::fmt;
 
-/// The columns of a reading, and behind them those of writing what was read.
+/// The columns of a reading, the file's listing, and behind them those of writing what was read.
 pub const HEADER: &str =
     "case reply points contours shapes numbers contour_records shape_records listing reply bytes file";
 
 /// One line of answers, without its number.
 pub fn answer(case: &Case) -> String {
     match case {
-        Case::Reading { lent, file } => of_reading(*lent, file),
-        Case::Writing { room, set } => of_writing(set, *room),
-    }
-}
-
-/// What was read is written again, into a row as long as the file.
-fn of_reading(lent: Lengths, file: &[u8]) -> String {
-    let rows = Rows::with_canaries(lent);
-    let stored = |shapes: Vec<Shape>| {
-        let set = Set::of(&shapes);
-        let rows = rows.holding(&set.points.all(), &set.contours, &set.shapes)?;
-        Ok((set, rows))
-    };
-    let stored: Reply<(Set, Rows)> = read(file).and_then(stored);
-    let listing = listing(file);
-    let listed = format!("{}:{}", listing.len(), checksum(listing.as_bytes()));
-    match stored {
-        Err(reply) => format!("{reply} 0 0 0 {rows} {listed}"),
-        Ok((set, rows)) => format!(
-            "0 {} {} {} {rows} {listed} {}",
-            set.points.all().len() / 2,
-            set.contours.len(),
-            set.shapes.len(),
-            of_writing(&set, file.len())
-        ),
-    }
-}
-
-fn of_writing(set: &Set, room: usize) -> String {
-    let mut row = vec![7u8; room];
-    match written(&set.points.all(), &set.contours, &set.shapes, room) {
-        Err(reply) => format!("{reply} 0 {}", checksum(&row)),
-        Ok(file) => {
-            row[..file.len()].copy_from_slice(&file);
-            format!("0 {} {}", file.len(), checksum(&row))
+        Case::Reading { lent, file } => {
+            let reading = Reading::new(*lent, file);
+            let again = reading.again.as_ref().map(|writing| format!(" {writing}"));
+            format!("{reading} {}{}", listed(file), again.unwrap_or_default())
         }
+        Case::Writing { room, set } => Writing::new(set, *room).to_string(),
+    }
+}
+
+/// How long the file's listing is, and its checksum.
+fn listed(file: &[u8]) -> String {
+    let listing = listing(file);
+    format!("{}:{}", listing.len(), checksum(listing.as_bytes()))
+}
+
+/// What a reading answers, and the rows after it. What was read is written again, into a
+/// row as long as the file.
+#[derive(Debug, PartialEq, Eq)]
+pub struct Reading {
+    pub reply: u8,
+    pub points: usize,
+    pub contours: usize,
+    pub shapes: usize,
+    pub rows: Rows,
+    pub again: Option<Writing>,
+}
+
+/// What a writing answers, and the row after it.
+#[derive(Debug, PartialEq, Eq)]
+pub struct Writing {
+    pub reply: u8,
+    pub bytes: usize,
+    pub row: Vec<u8>,
+}
+
+impl Reading {
+    pub fn new(lent: Lengths, file: &[u8]) -> Reading {
+        let rows = Rows::with_canaries(lent);
+        let stored = |shapes: Vec<Shape>| {
+            let set = Set::of(&shapes);
+            let rows = rows.holding(&set.points.all(), &set.contours, &set.shapes)?;
+            Ok((set, rows))
+        };
+        let stored: Reply<(Set, Rows)> = read(file).and_then(stored);
+        match stored {
+            Err(reply) => Reading {
+                reply,
+                points: 0,
+                contours: 0,
+                shapes: 0,
+                rows,
+                again: None,
+            },
+            Ok((set, rows)) => Reading {
+                reply: DONE,
+                points: set.points.all().len() / 2,
+                contours: set.contours.len(),
+                shapes: set.shapes.len(),
+                rows,
+                again: Some(Writing::new(&set, file.len())),
+            },
+        }
+    }
+}
+
+impl Writing {
+    pub fn new(set: &Set, room: usize) -> Writing {
+        let mut row = vec![7u8; room];
+        match written(&set.points.all(), &set.contours, &set.shapes, room) {
+            Err(reply) => Writing {
+                reply,
+                bytes: 0,
+                row,
+            },
+            Ok(file) => {
+                row[..file.len()].copy_from_slice(&file);
+                Writing {
+                    reply: DONE,
+                    bytes: file.len(),
+                    row,
+                }
+            }
+        }
+    }
+}
+
+impl fmt::Display for Reading {
+    fn fmt(&self, out: &mut fmt::Formatter) -> fmt::Result {
+        let counts = [self.points, self.contours, self.shapes].map(|count| count.to_string());
+        write!(out, "{} {} {}", self.reply, counts.join(" "), self.rows)
+    }
+}
+
+impl fmt::Display for Writing {
+    fn fmt(&self, out: &mut fmt::Formatter) -> fmt::Result {
+        write!(out, "{} {} {}", self.reply, self.bytes, checksum(&self.row))
     }
 }
 
@@ -84,10 +145,7 @@ mod tests {
         let rows = format!("{} 224 224", checksum(&[-7]));
         assert_eq!(
             answered("r 1 1 1 10018001 0000000500000006"),
-            format!(
-                "5 0 0 0 {rows} {}",
-                listed("contour before after decisions area2\n1 1 - 0 0\n")
-            )
+            format!("5 0 0 0 {rows} {}", listed("contour before after decisions area2\n1 1 - 0 0\n"))
         );
         assert_eq!(
             answered("r 1 1 1 20"),

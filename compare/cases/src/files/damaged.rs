@@ -12,7 +12,7 @@ fn in_turn(files: Vec<Vec<u8>>) -> Vec<Case> {
     files.into_iter().enumerate().map(case).collect()
 }
 
-fn rows(turn: usize, bytes: usize) -> Lengths {
+pub fn rows(turn: usize, bytes: usize) -> Lengths {
     match turn % 3 {
         2 => Lengths {
             out: 0,
@@ -183,14 +183,15 @@ pub fn off_in_one_place() -> Vec<Case> {
 /// Files with one to three damages; two may undo each other.
 pub fn random() -> Vec<Case> {
     let rng = &mut Rng::new(602);
-    let files = (0..300).map(|_| {
-        let mut file = random_file(rng);
-        for _ in 0..rng.pick(&[1, 1, 2, 3]) {
-            damage(&mut file, rng);
-        }
-        file
-    });
-    in_turn(files.collect())
+    in_turn((0..300).map(|_| damaged_file(rng)).collect())
+}
+
+pub fn damaged_file(rng: &mut Rng) -> Vec<u8> {
+    let mut file = random_file(rng);
+    for _ in 0..rng.pick(&[1, 1, 2, 3]) {
+        damage(&mut file, rng);
+    }
+    file
 }
 
 fn damage(file: &mut Vec<u8>, rng: &mut Rng) {

@@ -4,15 +4,15 @@
 mod answers;
 mod bits;
 mod case;
-mod damaged;
+pub mod damaged;
 mod edition;
 mod large;
 mod listing;
-mod sound;
+pub mod sound;
 mod text;
-mod writings;
+pub mod writings;
 
-pub use answers::{answer, HEADER};
+pub use answers::{answer, Reading, Writing, HEADER};
 pub use case::Case;
 pub use listing::write_listings;
 

@@ -60,7 +60,7 @@ const ADDITIONS: [(&[i32], &[Record]); 7] = [
 ];
 
 /// A packing of the set with the addition of that number, where the form adds.
-fn packed(form: Form, offsets: Offsets, set: &Set, addition: usize) -> Case {
+pub fn packed(form: Form, offsets: Offsets, set: &Set, addition: usize) -> Case {
     let (more, ranges) = match form.packed {
         Packed::OneMore => ADDITIONS[addition % ADDITIONS.len()],
         _ => (&[][..], &[][..]),
@@ -70,7 +70,7 @@ fn packed(form: Form, offsets: Offsets, set: &Set, addition: usize) -> Case {
 }
 
 /// Exactly as long as what is to be written.
-fn need(form: Form, set: &Set, more: &[i32], ranges: &[Record]) -> Lengths {
+pub fn need(form: Form, set: &Set, more: &[i32], ranges: &[Record]) -> Lengths {
     let (records, groups) = match (form.packed, form.with_shapes) {
         (Packed::Contour, _) => (1, 1),
         (Packed::Shape, _) => (set.contours.len(), 1),

@@ -1,10 +1,10 @@
 //! Shape sets, flat: their cases, the list of them, and the answers.
 
 mod answers;
-mod case;
+pub mod case;
 pub mod chosen;
 pub mod flat;
-mod packing;
+pub mod packing;
 pub mod random;
 pub mod ranges;
 pub mod rows;

@@ -61,11 +61,11 @@ impl Form {
 /// What a packing answers, and the rows after it.
 #[derive(Debug, PartialEq, Eq)]
 pub struct Packing {
-    reply: u8,
-    points: usize,
-    contours: usize,
-    shapes: usize,
-    rows: Rows,
+    pub reply: u8,
+    pub points: usize,
+    pub contours: usize,
+    pub shapes: usize,
+    pub rows: Rows,
 }
 
 pub fn answer(form: Form, lent: Lengths, more: usize, ranges: &[Record], set: &Set) -> Packing {

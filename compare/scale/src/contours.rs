@@ -1,0 +1,94 @@
+//! One contour: every question, and cleanings with rows of given lengths.
+
+use crate::input::{Found, Input};
+use crate::library::answer::Cleaned;
+use crate::library::{self, Lent, Scratch};
+use cases::answers::Verdicts;
+use cases::case::{Case, Kind};
+use cases::cleaner::Cleaner;
+use cases::counted::COUNTED;
+use cases::lent::{beside, need};
+use cases::point::Point;
+use cases::rows::{self, Lengths};
+
+impl Input for Case {
+    fn compare(&self) -> Found {
+        let mut found = Found::default();
+        let row = self.of.all();
+        match self.kind {
+            Kind::Contour { asked } => {
+                verdicts(&mut found, asked, &row);
+                for cleaner in Cleaner::BOTH {
+                    cleaning(&mut found, cleaner, longer(row.len()), &row);
+                }
+            }
+            Kind::Cleaning { cleaner, lent } => cleaning(&mut found, cleaner, lent, &row),
+        }
+        found.hold_unchanged(&self.of.all(), &row);
+        found
+    }
+
+    fn size(&self) -> usize {
+        self.of.numbers.len() * self.of.times
+    }
+}
+
+/// Rows longer than a contour of so many numbers needs.
+fn longer(numbers: usize) -> Lengths {
+    beside(need(numbers.div_ceil(2)), [3, 5, 2, 7]).expect("longer rows")
+}
+
+fn verdicts(found: &mut Found, asked: Point, row: &[i32]) {
+    let original = Verdicts::new(asked, row);
+    found.hold("area_two", original.area_two.into(), library::area_two(row));
+    found.hold("area", original.area.into(), library::area(row));
+    found.hold(
+        "is_clockwise",
+        original.clockwise.into(),
+        library::is_clockwise(row),
+    );
+    found.hold("is_convex", original.convex.into(), library::is_convex(row));
+    found.hold(
+        "contains",
+        original.contains.into(),
+        library::contains(row, asked),
+    );
+    found.hold("is_simple", original.simple.into(), library::is_simple(row));
+    found.hold(
+        "has_no_spikes",
+        original.no_spikes.into(),
+        library::has_no_spikes(row),
+    );
+}
+
+fn cleaning(found: &mut Found, cleaner: Cleaner, lent: Lengths, row: &[i32]) {
+    let original = rows::answer(cleaner, lent, row);
+    let mut scratch = Scratch::with_canaries(lent.scratch);
+    let mut out = Lent::new(-7, lent.out);
+    let answer = library::cleaned(cleaner, row, &mut scratch, &mut out);
+    let expected = Cleaned {
+        reply: original.reply.into(),
+        points: original.points,
+        decisions: if COUNTED {
+            original.decisions
+        } else {
+            answer.decisions
+        },
+    };
+    found.hold(name(cleaner), expected, answer);
+    hold_scratch(found, &original.rows.scratch, &scratch);
+    found.hold_row("out", &original.rows.out, &out);
+}
+
+fn name(cleaner: Cleaner) -> &'static str {
+    match cleaner {
+        Cleaner::Simplified => "simplified",
+        Cleaner::Despiked => "despiked",
+    }
+}
+
+pub fn hold_scratch(found: &mut Found, original: &cases::scratch::Scratch, library: &Scratch) {
+    found.hold_row("next", &original.next, &library.next);
+    found.hold_row("prev", &original.prev, &library.prev);
+    found.hold_row("mark", &original.mark, &library.mark);
+}

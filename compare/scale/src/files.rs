@@ -1,0 +1,66 @@
+//! Files read and sets written, against the reader and the writer in `cases`.
+
+use crate::input::{Found, Input};
+use crate::library::answer::{Packed, Written};
+use crate::library::{read_set, Flat, Lent, Rows};
+use crate::sets::{flat, hold_rows, size_of};
+use cases::files::{Case, Reading, Writing};
+use cases::sets::rows::Lengths;
+
+impl Input for Case {
+    fn compare(&self) -> Found {
+        let mut found = Found::default();
+        let before = self.clone();
+        match self {
+            Case::Reading { lent, file } => reading(&mut found, *lent, file),
+            Case::Writing { room, set } => {
+                let points = set.points.all();
+                writing(&mut found, &Writing::new(set, *room), flat(set, &points));
+                found.hold_unchanged(&set.points.all(), &points);
+            }
+        }
+        found.hold_unchanged(&before, self);
+        found
+    }
+
+    fn size(&self) -> usize {
+        match self {
+            Case::Reading { file, .. } => file.len(),
+            Case::Writing { set, .. } => size_of(set),
+        }
+    }
+}
+
+/// What the library read is written again.
+fn reading(found: &mut Found, lent: Lengths, file: &[u8]) {
+    let original = Reading::new(lent, file);
+    let mut rows = Rows::with_canaries(lent);
+    let answer = read_set(file, &mut rows);
+    let expected = Packed {
+        reply: original.reply.into(),
+        points: original.points,
+        contours: original.contours,
+        shapes: original.shapes,
+    };
+    found.hold("read_set", expected, answer);
+    hold_rows(found, &original.rows, &rows);
+    if let Some(again) = &original.again {
+        let set = Flat {
+            points: &rows.out.row()[..2 * original.points],
+            contours: &rows.records.row()[..original.contours],
+            shapes: &rows.groups.row()[..original.shapes],
+        };
+        writing(found, again, set);
+    }
+}
+
+fn writing(found: &mut Found, original: &Writing, set: Flat) {
+    let mut out = Lent::new(7, original.row.len());
+    let answer = set.write(&mut out);
+    let expected = Written {
+        reply: original.reply.into(),
+        bytes: original.bytes,
+    };
+    found.hold("write_set", expected, answer);
+    found.hold_row("file", &original.row, &out);
+}

@@ -1,0 +1,109 @@
+//! Random inputs of up to 65,537 points.
+
+use super::short::{any_contour, PACKINGS};
+use crate::tally::Tally;
+use cases::case::{Case, Kind};
+use cases::cleaning::case::{self, Form};
+use cases::cleaning::lent::{asked, point_for};
+use cases::damaged::OFF_GRID;
+use cases::files::writings::beside;
+use cases::point::{Point, LIMIT, MOST_POINTS};
+use cases::rng::Rng;
+use cases::sets::flat::Set;
+use cases::sets::packing::Form as Packing;
+use cases::sets::{chosen, rows};
+use cases::shapes::{
+    at_ends, convex, flat, scattered, star, there_and_back, turned, with_repeats, with_spike,
+};
+use cases::unclean::{returning, stroll};
+use cases::{asked, cleaning, scratch};
+
+/// A count of points: around a power of two, around the most, or any.
+fn length(rng: &mut Rng) -> usize {
+    let power = 1 << rng.between(1, 16);
+    match rng.below(3) {
+        0 => power - 1 + rng.below(3),
+        1 => MOST_POINTS - 2 + rng.below(4),
+        _ => rng.below(power),
+    }
+}
+
+/// A contour of any form, of so many points.
+fn of_length(count: usize, rng: &mut Rng) -> Vec<Point> {
+    if count < 6 {
+        return scattered(count, 1, rng);
+    }
+    let stride = LIMIT / 2 / count as i32;
+    let contour = match rng.below(11) {
+        0 => scattered(count, 1, rng),
+        1 => scattered(count, LIMIT, rng),
+        2 => at_ends(count, rng),
+        3 => flat(count, rng),
+        4 => turned(star(count, LIMIT, rng), rng),
+        5 => turned(convex(count, stride, rng), rng),
+        6 => with_spike(&convex(count - 1, stride, rng), rng),
+        7 => with_repeats(&stroll(count, rng), rng),
+        8 => there_and_back(&stroll(count / 2 + 1, rng)),
+        9 => returning(count),
+        _ => [any_contour(rng), vec![[0, 0]]].concat(),
+    };
+    contour.into_iter().cycle().take(count).collect()
+}
+
+/// One in four is of an odd count or has a number off the grid.
+pub fn contour(tally: &mut Tally, rng: &mut Rng) {
+    let count = length(rng);
+    let contour = of_length(count, rng);
+    let asked = asked::about(&contour, rng);
+    let mut numbers = contour.concat();
+    match rng.below(16) {
+        0 => numbers.push(0),
+        1..=3 if count > 0 => {
+            let place = rng.below(2 * count);
+            numbers[place] = rng.pick(&OFF_GRID);
+        }
+        _ => {}
+    }
+    tally.compare(&Case::new(Kind::Contour { asked }, &numbers));
+}
+
+/// Up to four shapes of up to four contours, and so many points in all.
+fn set_of(count: usize, rng: &mut Rng) -> Set {
+    let mut shapes = vec![];
+    let mut left = count;
+    for _ in 0..rng.between(1, 4) {
+        let mut shape = vec![];
+        for _ in 0..rng.below(5) {
+            let part = rng.below(left + 1);
+            shape.push(of_length(part, rng));
+            left -= part;
+        }
+        shapes.push(shape);
+    }
+    shapes.push(vec![of_length(left, rng)]);
+    Set::of(&shapes)
+}
+
+/// Every question, cleaning and packing, and the writing, with rows long enough.
+pub fn set(tally: &mut Tally, rng: &mut Rng) {
+    let count = length(rng);
+    let set = set_of(count, rng);
+    tally.compare(&asked(point_for(&set, rng), &set));
+    let lent = case::Lengths {
+        scratch: scratch::Lengths::all(count + 3),
+        rows: rows::Lengths {
+            out: 2 * count + 5,
+            records: set.contours.len() + 2,
+            groups: set.shapes.len() + 2,
+        },
+    };
+    for form in Form::ALL {
+        let kind = case::Kind::Cleaning { form, lent };
+        let of = set.clone();
+        tally.compare(&cleaning::Case { kind, of });
+    }
+    for form in PACKINGS.into_iter().filter_map(Packing::numbered) {
+        tally.compare(&chosen::added(form, lent.rows, &set, &[], &[]));
+    }
+    tally.compare(&beside(&set, 1));
+}

@@ -1,0 +1,107 @@
+//! The kinds of input.
+
+mod every;
+mod long;
+mod short;
+
+use crate::input::Input;
+use crate::tally::Tally;
+use cases::once;
+use cases::rng::Rng;
+
+pub struct Kind {
+    pub name: &'static str,
+    pub inputs: Inputs,
+}
+
+pub enum Inputs {
+    /// The same in every run.
+    All(fn(&mut Tally)),
+    /// One random input, or some that belong together, for so many random contours of the run.
+    OneFor(usize, fn(&mut Tally, &mut Rng)),
+}
+
+use Inputs::{All, OneFor};
+
+impl Kind {
+    const fn new(name: &'static str, inputs: Inputs) -> Kind {
+        Kind { name, inputs }
+    }
+
+    /// Compares the inputs of a run of so many random contours.
+    pub fn compare(&self, contours: usize, seed: u64) -> Tally {
+        let mut tally = Tally::default();
+        match self.inputs {
+            All(compare) => compare(&mut tally),
+            OneFor(share, compare) => {
+                let rng = &mut Rng::new(seed);
+                for _ in 0..contours / share {
+                    compare(&mut tally, rng);
+                }
+            }
+        }
+        tally
+    }
+}
+
+pub const KINDS: [Kind; 17] = [
+    Kind::new(
+        "the list of contours",
+        All(|tally| each(tally, cases::list())),
+    ),
+    Kind::new("the list of sets", All(short::list_of_sets)),
+    Kind::new(
+        "the list of sets judged and cleaned",
+        All(|tally| each(tally, once(cases::cleaning::list()))),
+    ),
+    Kind::new(
+        "the list of files",
+        All(|tally| each(tally, once(cases::files::list()))),
+    ),
+    Kind::new(
+        "all contours of up to 6 points on 3 by 3",
+        All(every::on_three_by_three),
+    ),
+    Kind::new(
+        "all contours of up to 5 points at the ends of the grid",
+        All(every::at_the_ends),
+    ),
+    Kind::new(
+        "all contours of up to 3 points at the ends and one past",
+        All(every::one_past),
+    ),
+    Kind::new("random contours", OneFor(1, short::contour)),
+    Kind::new(
+        "random contours of up to 65,537 points",
+        OneFor(5000, long::contour),
+    ),
+    Kind::new("damaged contours", OneFor(10, short::damaged)),
+    Kind::new(
+        "cleanings of contours, rows around the need",
+        OneFor(20, short::cleaned),
+    ),
+    Kind::new("sets asked", OneFor(20, short::set_asked)),
+    Kind::new(
+        "sets cleaned, rows around the need",
+        OneFor(50, short::set_cleaned),
+    ),
+    Kind::new(
+        "packings and additions, rows around the need",
+        OneFor(50, short::packed),
+    ),
+    Kind::new(
+        "sets of up to 65,537 points, every call",
+        OneFor(50_000, long::set),
+    ),
+    Kind::new(
+        "files read, sound and damaged",
+        OneFor(20, short::file_read),
+    ),
+    Kind::new("files written", OneFor(20, short::file_written)),
+];
+
+fn each<I: Input>(tally: &mut Tally, inputs: Vec<I>) {
+    for input in &inputs {
+        tally.compare(input);
+    }
+}

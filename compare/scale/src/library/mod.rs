@@ -1,0 +1,291 @@
+//! The functions of libukmerelt.a, called with slices. An empty row that is read is passed as null.
+
+pub mod answer;
+mod lent;
+#[path = "../../../../bindings/rust/src/library/raw.rs"]
+mod raw;
+
+use answer::{Area, Cleaned, CleanedSet, Packed, Verdict, Written};
+use cases::cleaner::Cleaner;
+use cases::point::Point;
+use cases::sets::flat::Record;
+use cases::{scratch, sets};
+pub use lent::Lent;
+
+/// A start and an end.
+type Range = Record;
+
+/// The scratch of a cleaning.
+#[derive(Debug)]
+pub struct Scratch {
+    pub next: Lent<u32>,
+    pub prev: Lent<u32>,
+    pub mark: Lent<u8>,
+}
+
+impl Scratch {
+    pub fn with_canaries(lent: scratch::Lengths) -> Scratch {
+        Scratch {
+            next: Lent::new(7, lent.next),
+            prev: Lent::new(7, lent.prev),
+            mark: Lent::new(7, lent.mark),
+        }
+    }
+}
+
+/// The rows that a set is written to.
+#[derive(Debug)]
+pub struct Rows {
+    pub out: Lent<i32>,
+    pub records: Lent<Record>,
+    pub groups: Lent<Record>,
+}
+
+impl Rows {
+    pub fn with_canaries(lent: sets::rows::Lengths) -> Rows {
+        Rows {
+            out: Lent::new(-7, lent.out),
+            records: Lent::new([7, 7], lent.records),
+            groups: Lent::new([7, 7], lent.groups),
+        }
+    }
+}
+
+fn row<T>(slice: &[T]) -> (*const T, usize) {
+    match slice {
+        [] => (std::ptr::null(), 0),
+        _ => (slice.as_ptr(), slice.len()),
+    }
+}
+
+fn row_mut<T: Copy + PartialEq>(lent: &mut Lent<T>) -> (*mut T, usize) {
+    let row = lent.row_mut();
+    (row.as_mut_ptr(), row.len())
+}
+
+/// Calls a function with the slices that it reads, the rows that it is lent, and plain numbers.
+macro_rules! call {
+    ($name:ident($($read:ident),*; $($lent:ident),*; $($number:expr),*)) => {{
+        $(let $read = row($read);)*
+        $(let $lent = row_mut($lent);)*
+        // SAFETY: each row is a slice, or null and empty, and no lent row overlaps another.
+        unsafe { raw::$name($($read.0, $read.1,)* $($lent.0, $lent.1,)* $($number),*) }
+    }};
+}
+
+pub fn area_two(points: &[i32]) -> Area {
+    call!(ukm_area_two(points; ;))
+}
+
+pub fn area(points: &[i32]) -> Area {
+    call!(ukm_area(points; ;))
+}
+
+pub fn is_convex(points: &[i32]) -> Verdict {
+    call!(ukm_is_convex(points; ;))
+}
+
+pub fn is_clockwise(points: &[i32]) -> Verdict {
+    call!(ukm_is_clockwise(points; ;))
+}
+
+pub fn is_simple(points: &[i32]) -> Verdict {
+    call!(ukm_is_simple(points; ;))
+}
+
+pub fn has_no_spikes(points: &[i32]) -> Verdict {
+    call!(ukm_has_no_spikes(points; ;))
+}
+
+pub fn contains(points: &[i32], [x, y]: Point) -> Verdict {
+    call!(ukm_contains(points; ; x, y))
+}
+
+pub fn cleaned(
+    cleaner: Cleaner,
+    points: &[i32],
+    scratch: &mut Scratch,
+    out: &mut Lent<i32>,
+) -> Cleaned {
+    let Scratch { next, prev, mark } = scratch;
+    match cleaner {
+        Cleaner::Simplified => call!(ukm_simplified(points; next, prev, mark, out;)),
+        Cleaner::Despiked => call!(ukm_despiked(points; next, prev, mark, out;)),
+    }
+}
+
+pub fn ranges_sound(ranges: &[Record], count: usize) -> bool {
+    call!(ukm_ranges_sound(ranges; ; count))
+}
+
+/// A set, flat, as it is handed to the library.
+#[derive(Clone, Copy)]
+pub struct Flat<'a> {
+    pub points: &'a [i32],
+    pub contours: &'a [Record],
+    pub shapes: &'a [Record],
+}
+
+impl Flat<'_> {
+    pub fn is_simple(self) -> Verdict {
+        let Flat {
+            points, contours, ..
+        } = self;
+        call!(ukm_set_is_simple(points, contours; ;))
+    }
+
+    pub fn has_no_spikes(self) -> Verdict {
+        let Flat {
+            points, contours, ..
+        } = self;
+        call!(ukm_set_has_no_spikes(points, contours; ;))
+    }
+
+    pub fn area_two(self) -> Area {
+        let Flat {
+            points, contours, ..
+        } = self;
+        call!(ukm_set_area_two(points, contours; ;))
+    }
+
+    pub fn area(self) -> Area {
+        let Flat {
+            points, contours, ..
+        } = self;
+        call!(ukm_set_area(points, contours; ;))
+    }
+
+    pub fn in_shape(self, [x, y]: Point) -> Verdict {
+        let Flat {
+            points, contours, ..
+        } = self;
+        call!(ukm_in_shape(points, contours; ; x, y))
+    }
+
+    /// The contours as one shape, cleaned.
+    pub fn cleaned_shape(
+        self,
+        cleaner: Cleaner,
+        scratch: &mut Scratch,
+        rows: &mut Rows,
+    ) -> CleanedSet {
+        let Flat {
+            points, contours, ..
+        } = self;
+        let Scratch { next, prev, mark } = scratch;
+        let Rows { out, records, .. } = rows;
+        match cleaner {
+            Cleaner::Simplified => {
+                call!(ukm_simplified_shape(points, contours; next, prev, mark, out, records;))
+            }
+            Cleaner::Despiked => {
+                call!(ukm_despiked_shape(points, contours; next, prev, mark, out, records;))
+            }
+        }
+    }
+
+    pub fn cleaned_shapes(
+        self,
+        cleaner: Cleaner,
+        scratch: &mut Scratch,
+        rows: &mut Rows,
+    ) -> CleanedSet {
+        let Flat {
+            points,
+            contours,
+            shapes,
+        } = self;
+        let Scratch { next, prev, mark } = scratch;
+        let Rows {
+            out,
+            records,
+            groups,
+        } = rows;
+        match cleaner {
+            Cleaner::Simplified => {
+                call!(ukm_simplified_shapes(points, contours, shapes; next, prev, mark, out, records, groups;))
+            }
+            Cleaner::Despiked => {
+                call!(ukm_despiked_shapes(points, contours, shapes; next, prev, mark, out, records, groups;))
+            }
+        }
+    }
+
+    /// All the points as one contour.
+    pub fn pack_contour(self, rows: &mut Rows) -> Packed {
+        let Flat { points, .. } = self;
+        let Rows {
+            out,
+            records,
+            groups,
+        } = rows;
+        call!(ukm_pack_contour(points; out, records, groups;))
+    }
+
+    /// The contours as one shape.
+    pub fn pack_shape(self, rows: &mut Rows) -> Packed {
+        let Flat {
+            points, contours, ..
+        } = self;
+        let Rows {
+            out,
+            records,
+            groups,
+        } = rows;
+        call!(ukm_pack_shape(points, contours; out, records, groups;))
+    }
+
+    pub fn pack_shapes(self, rows: &mut Rows) -> Packed {
+        let Flat {
+            points,
+            contours,
+            shapes,
+        } = self;
+        let Rows {
+            out,
+            records,
+            groups,
+        } = rows;
+        call!(ukm_pack_shapes(points, contours, shapes; out, records, groups;))
+    }
+
+    pub fn add_contour(self, contour: &[i32], rows: &mut Rows) -> Packed {
+        let Flat {
+            points, contours, ..
+        } = self;
+        let Rows { out, records, .. } = rows;
+        call!(ukm_add_contour(points, contours, contour; out, records;))
+    }
+
+    pub fn add_shape(self, more: &[i32], ranges: &[Record], rows: &mut Rows) -> Packed {
+        let Flat {
+            points,
+            contours,
+            shapes,
+        } = self;
+        let Rows {
+            out,
+            records,
+            groups,
+        } = rows;
+        call!(ukm_add_shape(points, contours, shapes, more, ranges; out, records, groups;))
+    }
+
+    pub fn write(self, out: &mut Lent<u8>) -> Written {
+        let Flat {
+            points,
+            contours,
+            shapes,
+        } = self;
+        call!(ukm_write_set(points, contours, shapes; out;))
+    }
+}
+
+pub fn read_set(file: &[u8], rows: &mut Rows) -> Packed {
+    let Rows {
+        out,
+        records,
+        groups,
+    } = rows;
+    call!(ukm_read_set(file; out, records, groups;))
+}

@@ -1,0 +1,168 @@
+//! Sets: every question, cleanings, packings and additions.
+
+use crate::contours::hold_scratch;
+use crate::input::{Found, Input};
+use crate::library::answer::{CleanedSet, Packed};
+use crate::library::{ranges_sound, Flat, Rows, Scratch};
+use cases::cleaner::Cleaner;
+use cases::cleaning::case::{Form, Lengths};
+use cases::cleaning::{self, cleaned, Verdicts};
+use cases::counted::COUNTED;
+use cases::point::Point;
+use cases::sets::flat::{sound, Record, Set};
+use cases::sets::packing::{self, Packed as What};
+use cases::sets::{self, case::Kind};
+
+/// The set over a row that holds its points.
+pub fn flat<'a>(set: &'a Set, points: &'a [i32]) -> Flat<'a> {
+    Flat {
+        points,
+        contours: &set.contours,
+        shapes: &set.shapes,
+    }
+}
+
+pub fn size_of(set: &Set) -> usize {
+    set.points.numbers.len() * set.points.times + 2 * (set.contours.len() + set.shapes.len())
+}
+
+pub fn hold_rows(found: &mut Found, original: &sets::rows::Rows, library: &Rows) {
+    found.hold_row("out", &original.out, &library.out);
+    found.hold_row("records", &original.records, &library.records);
+    found.hold_row("groups", &original.groups, &library.groups);
+}
+
+impl Input for cleaning::Case {
+    fn compare(&self) -> Found {
+        let mut found = Found::default();
+        let (before, points) = (self.clone(), self.of.points.all());
+        match self.kind {
+            cleaning::case::Kind::Asked { asked } => verdicts(&mut found, asked, &self.of, &points),
+            cleaning::case::Kind::Cleaning { form, lent } => {
+                cleaning(&mut found, form, lent, &self.of, &points)
+            }
+        }
+        found.hold_unchanged(&before, self);
+        found.hold_unchanged(&before.of.points.all(), &points);
+        found
+    }
+
+    fn size(&self) -> usize {
+        size_of(&self.of)
+    }
+}
+
+fn verdicts(found: &mut Found, asked: Point, set: &Set, points: &[i32]) {
+    let original = Verdicts::new(asked, set);
+    let library = flat(set, points);
+    found.hold("set_is_simple", original.simple.into(), library.is_simple());
+    found.hold(
+        "set_has_no_spikes",
+        original.no_spikes.into(),
+        library.has_no_spikes(),
+    );
+    found.hold("set_area_two", original.area_two.into(), library.area_two());
+    found.hold("set_area", original.area.into(), library.area());
+    found.hold(
+        "in_shape",
+        original.in_shape.into(),
+        library.in_shape(asked),
+    );
+}
+
+fn cleaning(found: &mut Found, form: Form, lent: Lengths, set: &Set, points: &[i32]) {
+    let original = cleaned::answer(form, lent, set);
+    let mut scratch = Scratch::with_canaries(lent.scratch);
+    let mut rows = Rows::with_canaries(lent.rows);
+    let library = flat(set, points);
+    let answer = match form.shapes {
+        false => library.cleaned_shape(form.cleaner, &mut scratch, &mut rows),
+        true => library.cleaned_shapes(form.cleaner, &mut scratch, &mut rows),
+    };
+    let expected = CleanedSet {
+        reply: original.reply.into(),
+        points: original.points,
+        contours: original.contours,
+        shapes: original.shapes,
+        decisions: if COUNTED {
+            original.decisions
+        } else {
+            answer.decisions
+        },
+    };
+    let name = match (form.cleaner, form.shapes) {
+        (Cleaner::Simplified, false) => "simplified_shape",
+        (Cleaner::Despiked, false) => "despiked_shape",
+        (Cleaner::Simplified, true) => "simplified_shapes",
+        (Cleaner::Despiked, true) => "despiked_shapes",
+    };
+    found.hold(name, expected, answer);
+    hold_scratch(found, &original.scratch, &scratch);
+    hold_rows(found, &original.rows, &rows);
+}
+
+impl Input for sets::Case {
+    fn compare(&self) -> Found {
+        let mut found = Found::default();
+        let (before, all) = (self.clone(), self.of.points.all());
+        match &self.kind {
+            Kind::Asked => ranges(&mut found, &self.of, all.len() / 2),
+            Kind::Packing {
+                form,
+                lent,
+                more,
+                ranges,
+            } => {
+                let original = packing::answer(*form, *lent, *more, ranges, &self.of);
+                let (points, more) = all.split_at(all.len().saturating_sub(*more));
+                let mut rows = Rows::with_canaries(*lent);
+                let (name, answer) = packed(*form, flat(&self.of, points), more, ranges, &mut rows);
+                let expected = Packed {
+                    reply: original.reply.into(),
+                    points: original.points,
+                    contours: original.contours,
+                    shapes: original.shapes,
+                };
+                found.hold(name, expected, answer);
+                hold_rows(&mut found, &original.rows, &rows);
+            }
+        }
+        found.hold_unchanged(&before, self);
+        found.hold_unchanged(&before.of.points.all(), &all);
+        found
+    }
+
+    fn size(&self) -> usize {
+        size_of(&self.of)
+    }
+}
+
+fn ranges(found: &mut Found, set: &Set, points: usize) {
+    let mut hold = |ranges: &[Record], count| {
+        found.hold(
+            "ranges_sound",
+            sound(ranges, count),
+            ranges_sound(ranges, count),
+        );
+    };
+    hold(&set.contours, points);
+    hold(&set.shapes, set.contours.len());
+}
+
+/// The call that packs in this form, and its answer.
+fn packed(
+    form: packing::Form,
+    set: Flat,
+    more: &[i32],
+    ranges: &[Record],
+    rows: &mut Rows,
+) -> (&'static str, Packed) {
+    match (form.packed, form.with_shapes) {
+        (What::Contour, true) => ("pack_contour", set.pack_contour(rows)),
+        (What::Shape, true) => ("pack_shape", set.pack_shape(rows)),
+        (What::Shapes, true) => ("pack_shapes", set.pack_shapes(rows)),
+        (What::OneMore, true) => ("add_shape", set.add_shape(more, ranges, rows)),
+        (What::OneMore, false) => ("add_contour", set.add_contour(more, rows)),
+        (_, false) => unreachable!("the library packs into shape sets"),
+    }
+}
