@@ -145,7 +145,10 @@ mod tests {
         let rows = format!("{} 224 224", checksum(&[-7]));
         assert_eq!(
             answered("r 1 1 1 10018001 0000000500000006"),
-            format!("5 0 0 0 {rows} {}", listed("contour before after decisions area2\n1 1 - 0 0\n"))
+            format!(
+                "5 0 0 0 {rows} {}",
+                listed("contour before after decisions area2\n1 1 - 0 0\n")
+            )
         );
         assert_eq!(
             answered("r 1 1 1 20"),
