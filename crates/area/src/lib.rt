@@ -6,8 +6,6 @@ ghost use mathlib.Core.Path.{_≡_};
 ghost use mathlib.Core.Bool.{true};
 ghost use Prim.Native.Nat.{_*_, _<_, _^_};
 ghost use lib.IntN.{pos, _+ℤ_, _*ℤ_};
-ghost use mir.Syntax.{w64};
-ghost use mir.Val.{toZ};
 ghost use Rattle.integers.specs.Bound.{In};
 ghost use Rattle.integers.specs.Modulo.{mod64};
 ghost use Rattle.grid.specs.Limits.{limit, on-grid};
@@ -29,29 +27,12 @@ fn added(total: u64, t: i64) -> u64
     }
 }
 
-// The bits of an i64, read as one.
-pub fn signed(bits: u64) -> i64
-    ensures { λ r. ⌜ r ≡ toZ w64 bits ⌝ }
-{
-    if bits < 9_223_372_036_854_775_808 {
-        bits as i64
-    } else {
-        -1 - (18_446_744_073_709_551_615 - bits) as i64
-    }
-}
-
-fn wide(x: i32) -> i64
-    ensures { λ r. ⌜ r ≡ x ⌝ }
-{
-    x as i64
-}
-
 // A coordinate times how far another goes.
 fn product(x: i32, dy: i64) -> i64
     requires { ⌜ (on-grid x ≡ true) × In (2 * limit) dy ⌝ }
     ensures { λ r. ⌜ r ≡ x *ℤ dy ⌝ }
 {
-    wide(x) * dy
+    integers::wide(x) * dy
 }
 
 // The x of a position, times how far y goes from the position before it to the one after it.
@@ -102,7 +83,7 @@ pub fn area_two(points: &[i32]) -> Area
     }
     Area {
         reply: grid::reply::DONE,
-        value: signed(total(points, n)),
+        value: integers::signed_64(total(points, n)),
     }
 }
 

@@ -1,16 +1,11 @@
 // The checksum of a row: from 0 on, each number is added to 31 times what was there, modulo 2^32.
 ghost use Prim.Native.Nat.{_<_};
-use crate::number;
 
-// A number below zero counts as its two's complement.
+// A number as its bits, so that one below zero counts as its two's complement.
 fn residue(x: i32) -> u64
     ensures { λ r. ⌜ r < 4294967296 ⌝ }
 {
-    let size = number::magnitude(x as i64);
-    if x < 0 {
-        return std::num::wrapping_sub_u64(0, size) % 4294967296;
-    }
-    size % 4294967296
+    integers::bits_32(x) as u64
 }
 
 // The checksum with one number more.

@@ -1,7 +1,7 @@
 // Decimal numbers, read from the case list and put into a text.
 ghost use Prim.Native.Nat.{_+_, _≤_, _<_};
 ghost use mathlib.Core.Path.{_≡_};
-ghost use lib.IntN.{pos, negℤ, natAbs};
+ghost use lib.IntN.{pos, negℤ};
 ghost use Rattle.cases.specs.Buffer.{Held};
 use crate::source::BUFFER;
 use crate::source::Source;
@@ -114,23 +114,12 @@ pub fn put_unsigned(text: &mut [u8; TEXT], at: usize, value: u64) -> usize
     text::put(text, at, &digits[..count])
 }
 
-// How far `value` is from zero.
-pub fn magnitude(value: i64) -> u64
-    ensures { λ r. ⌜ r ≡ natAbs value ⌝ }
-{
-    if value < 0 {
-        (-1 - value) as u64 + 1
-    } else {
-        value as u64
-    }
-}
-
 // Puts `value` into `text` from `at` on, and answers where it ends.
 pub fn put_signed(text: &mut [u8; TEXT], at: usize, value: i64) -> usize
     requires { ⌜ at + 21 ≤ 512 ⌝ }
     ensures { λ r. ⌜ r ≤ at + 21 ⌝ }
 {
-    let size = magnitude(value);
+    let size = integers::magnitude(value);
     if value < 0 {
         let behind = text::put(text, at, b"-");
         return put_unsigned(text, behind, size);

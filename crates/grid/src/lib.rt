@@ -97,18 +97,12 @@ struct Steps {
     vy: i64,
 }
 
-fn wide(x: i32) -> i64
-    ensures { λ r. ⌜ r ≡ x ⌝ }
-{
-    x as i64
-}
-
 // From one coordinate to another.
 fn gap(from: i32, to: i32) -> i64
     requires { ⌜ (on-grid from ≡ true) × (on-grid to ≡ true) ⌝ }
     ensures { λ r. ⌜ r ≡ to -ℤ from ⌝ }
 {
-    wide(to) - wide(from)
+    integers::wide(to) - integers::wide(from)
 }
 
 // The cross of two steps.

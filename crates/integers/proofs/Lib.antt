@@ -5,3 +5,4 @@ pub mod Polynomial
 pub mod Bound
 pub mod Equal
 pub mod Modulo
+pub mod Signed

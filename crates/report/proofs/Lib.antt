@@ -2,7 +2,6 @@ pub mod TextLaws
 pub mod PutLaws
 pub mod LineLaws
 pub mod LinesLaws
-pub mod FileLaws
 pub mod LengthLaws
 pub mod ReportLaws
 pub mod Theorems

@@ -2,7 +2,7 @@
 use mathlib.Core.Path.{_≡_, refl, sym, _∙_, ap}
 use mathlib.Core.Bool.{Bool, true, false, not}
 use mathlib.Core.List.{List, [], _∷_, _++_, map}
-use Prim.Native.Nat.{ℕ, zero, suc, _+_, _*_, _≤_}
+use Prim.Native.Nat.{ℕ, zero, suc, _*_, _≤_}
 use native.Mathlib.Omega.{arith}
 use lib.Dec.{eqb·suc-zero, ltb}
 use lib.ListN.{length, take, drop, length-append, length-map}
@@ -32,7 +32,7 @@ use Rattle.report.specs.Text.{decimal, line-end, heading, refused}
 use Rattle.report.specs.Listing.{lines, listing}
 use Rattle.report.specs.Inside.{Small}
 use Rattle.report.proofs.TextLaws.{decimal-short}
-use Rattle.report.proofs.FileLaws.{Carried, carried}
+use Rattle.setfile.proofs.SizeLaws.{Carried, carried}
 use Rattle.report.proofs.LengthLaws.{Contours, lines-length}
 
 -- rungs that do not hold, or that stand below one that does, change nothing

@@ -32,7 +32,7 @@ pub fn put_signed(text: &mut [u8], at: usize, z: i64) -> usize
     requires { ⌜ at + length (signed z) ≤ length (now text) ⌝ }
     ensures { λ r. ⌜ Put at (signed z) (now (text .entry)) r (now (text .exit)) ⌝ }
 {
-    let size = cases::number::magnitude(z);
+    let size = integers::magnitude(z);
     if z < 0 {
         let behind = put(text, at, b"-");
         return put_number(text, behind, size);

@@ -3,6 +3,7 @@ pub mod ByteLaws
 pub mod RoundTrip
 pub mod GatherLaws
 pub mod CarryLaws
+pub mod SizeLaws
 pub mod FieldLaws
 pub mod ReadLaws
 pub mod FaultLaws
@@ -12,7 +13,6 @@ pub mod RestLaws
 pub mod FillLaws
 pub mod ShapeFillLaws
 pub mod ReadingLaws
-pub mod CoordinateLaws
 pub mod WriteLaws
 pub mod CodedLaws
 pub mod RefusedLaws

@@ -22,23 +22,12 @@ fn quad(bytes: &[u8], at: usize) -> u32
     pair(bytes, at) * 65536 + pair(bytes, at + 2)
 }
 
-// The bits of an i32, read as one.
-fn signed(bits: u32) -> i32
-    ensures { λ r. ⌜ r ≡ toZ w32 bits ⌝ }
-{
-    if bits < 2_147_483_648 {
-        bits as i32
-    } else {
-        -1 - (4_294_967_295 - bits) as i32
-    }
-}
-
 // The coordinate in the four bytes from `at` on.
 pub fn place(bytes: &[u8], at: usize) -> i32
     requires { ⌜ at + 3 < length (now bytes) ⌝ }
     ensures { λ r. ⌜ r ≡ toZ w32 (quad-of (drop at (now (bytes .entry)))) ⌝ }
 {
-    signed(quad(bytes, at))
+    integers::signed_32(quad(bytes, at))
 }
 
 // Whether the contour at `at` begins a shape.

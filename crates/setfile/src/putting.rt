@@ -1,8 +1,5 @@
 // Numbers, contours and shapes, written into the row of bytes; each function answers the place behind what it wrote.
-ghost use mathlib.Core.Path.{_≡_};
 ghost use lib.ListN.{length};
-ghost use mir.Syntax.{w32};
-ghost use mir.Val.{ofZ};
 ghost use Rattle.setfile.specs.Format.{entry};
 ghost use Rattle.setfile.specs.Inside.{two, four, coded-places, coded-contour};
 ghost use Rattle.setfile.specs.InsideWriting.{Put, Room, Named, Grouped, coded-shape, coded-shapes};
@@ -18,7 +15,7 @@ pub fn put_pair(n: usize, bytes: &mut [u8], at: usize) -> usize
 }
 
 // A number in four bytes.
-fn put_quad(n: u64, bytes: &mut [u8], at: usize) -> usize
+fn put_quad(n: u32, bytes: &mut [u8], at: usize) -> usize
     requires { ⌜ Room at (four n) (now bytes) ⌝ }
     ensures { λ r. ⌜ Put at (four n) (now (bytes .entry)) r (now (bytes .exit)) ⌝ }
 {
@@ -29,16 +26,6 @@ fn put_quad(n: u64, bytes: &mut [u8], at: usize) -> usize
     at + 4
 }
 
-// The bits of a coordinate, two's complement.
-fn bits(z: i32) -> u64
-    ensures { λ r. ⌜ r ≡ ofZ w32 z ⌝ }
-{
-    if z < 0 {
-        return (z as i64 + 4_294_967_296) as u64;
-    }
-    z as u64
-}
-
 // The coordinates of a contour.
 fn put_places(contour: &[i32], bytes: &mut [u8], at: usize) -> usize
     requires { ⌜ Room at (coded-places (now contour)) (now bytes) ⌝ }
@@ -47,7 +34,7 @@ fn put_places(contour: &[i32], bytes: &mut [u8], at: usize) -> usize
     let mut place = at;
     let mut i: usize = 0;
     while i < contour.len() {
-        place = put_quad(bits(contour[i]), bytes, place);
+        place = put_quad(integers::bits_32(contour[i]), bytes, place);
         i += 1;
     }
     place

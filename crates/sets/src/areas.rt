@@ -38,7 +38,7 @@ fn total(points: &[i32], ranges: &[[usize; 2]]) -> Area
     }
     Area {
         reply: grid::reply::DONE,
-        value: area::signed(sum),
+        value: integers::signed_64(sum),
     }
 }
 

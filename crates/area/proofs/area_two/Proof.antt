@@ -23,17 +23,17 @@ returns-2 c = doubled-empty _ (sym (c .before .before .domain .ensures) ∙ c .b
 total-requires : tie.Need-total-requires
 total-requires c κs = (in-domain _ (sym (c .before .before .domain .ensures) ∙ c .before .if1 .left), omega (arith, c .if2 .left))
 
-signed-requires : tie.Need-signed-requires
-signed-requires c κs = search needs
+signed-64-requires : tie.Need-signed-64-requires
+signed-64-requires c κs = search needs
 
 returns-3 : tie.Need-returns-3
 unfolding wrapped
 returns-3 c =
     let d = c .before .before .before in
     doubled-done _ (sym (d .before .domain .ensures) ∙ d .if1 .left) _ (c .before .before .if2 .left)
-    (toZ-ofZ (sfits-of (c .signed .ok)) ∙ c .signed .ensures ∙ ap (toZ w64) (c .before .total .ensures))
+    (toZ-ofZ (sfits-of (c .signed-64 .ok)) ∙ c .signed-64 .ensures ∙ ap (toZ w64) (c .before .total .ensures))
 
 pub area-two-spec : {M : Type 1} → statement M
 area-two-spec =
     tie.close
-    (tie.spec domain-requires returns returns-2 total-requires signed-requires returns-3)
+    (tie.spec domain-requires returns returns-2 total-requires signed-64-requires returns-3)

@@ -10,11 +10,11 @@ use Rattle.setfile.proofs.fields.place.Tie as tie
 quad-requires : tie.Need-quad-requires
 quad-requires c κs = search needs
 
-signed-requires : tie.Need-signed-requires
-signed-requires c κs = search needs
+signed-32-requires : tie.Need-signed-32-requires
+signed-32-requires c κs = search needs
 
 returns : tie.Need-returns
-returns c = toZ-ofZ (sfits-of (c .signed .ok)) ∙ c .signed .ensures ∙ ap (toZ w32) (c .before .quad .ensures)
+returns c = toZ-ofZ (sfits-of (c .signed-32 .ok)) ∙ c .signed-32 .ensures ∙ ap (toZ w32) (c .before .quad .ensures)
 
 pub place-spec : {M : Type 1} → statement M
-place-spec = tie.close (tie.spec quad-requires signed-requires returns)
+place-spec = tie.close (tie.spec quad-requires signed-32-requires returns)

@@ -19,18 +19,18 @@ abbrev μ-loop : tie.MeasureT-loop
 loop-holds : tie.Need-loop-holds Inv-loop μ-loop
 loop-holds c = none-written _ _ _ (c .before .pre)
 
-mul-bits : tie.Need-mul-bits Inv-loop μ-loop
-mul-bits c = search needs
+mul-bits-32 : tie.Need-mul-bits-32 Inv-loop μ-loop
+mul-bits-32 c = search needs
 
-shared-slice-copy-out-bits : tie.Need-shared-slice-copy-out-bits Inv-loop μ-loop
-shared-slice-copy-out-bits c = search needs
+shared-slice-copy-out-bits-32 : tie.Need-shared-slice-copy-out-bits-32 Inv-loop μ-loop
+shared-slice-copy-out-bits-32 c = search needs
 
-bits-requires : tie.Need-bits-requires Inv-loop μ-loop
-bits-requires c κs = search needs
+bits-32-requires : tie.Need-bits-32-requires Inv-loop μ-loop
+bits-32-requires c κs = search needs
 
 put-quad-requires : tie.Need-put-quad-requires Inv-loop μ-loop
 put-quad-requires c κs =
-    part-room (c .before .before .before .before .loop .inv) (next-place (c .before .before .before .before .before .before .args .contour .now) (c .before .before .before .before .loop .i) (c .before .bits .ensures) (c .before .before .bits-arg .given) (c .before .before .before .loop-test .taken))
+    part-room (c .before .before .before .before .loop .inv) (next-place (c .before .before .before .before .before .before .args .contour .now) (c .before .before .before .before .loop .i) (c .before .bits-32 .ensures) (c .before .before .bits-32-arg .given) (c .before .before .before .loop-test .taken))
 
 add-i : tie.Need-add-i Inv-loop μ-loop
 add-i c = search needs
@@ -41,7 +41,7 @@ loop-less c = search needs
 loop-again : tie.Need-loop-again Inv-loop μ-loop
 loop-again c =
     part-written (c .before .before .before .before .before .before .before .loop .inv)
-    (next-place (c .before .before .before .before .before .before .before .before .before .args .contour .now) (c .before .before .before .before .before .before .before .loop .i) (c .before .before .before .before .bits .ensures) (c .before .before .before .before .before .bits-arg .given) (c .before .before .before .before .before .before .loop-test .taken))
+    (next-place (c .before .before .before .before .before .before .before .before .before .args .contour .now) (c .before .before .before .before .before .before .before .loop .i) (c .before .before .before .before .bits-32 .ensures) (c .before .before .before .before .before .bits-32-arg .given) (c .before .before .before .before .before .before .loop-test .taken))
     (c .before .before .put-quad .ensures)
 
 same-length : tie.Need-same-length Inv-loop μ-loop
@@ -57,9 +57,9 @@ put-places-spec =
     Inv-loop
     μ-loop
     loop-holds
-    mul-bits
-    shared-slice-copy-out-bits
-    bits-requires
+    mul-bits-32
+    shared-slice-copy-out-bits-32
+    bits-32-requires
     put-quad-requires
     add-i
     loop-less

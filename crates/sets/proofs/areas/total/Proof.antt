@@ -79,8 +79,8 @@ loop-again c =
     (c .before .bits .ensures ∙ ap mod64 (toZ-ofZ {z = a .area-two .result .value} (sfits-of (t .struct-told .given .1 .0 .1)) ∙ part-value (part a) (a .area-two .result) (answered a) (in-domain a) z))
     (c .wrapping-add-u64 .ensures)
 
-signed-requires : tie.Need-signed-requires Inv-loop μ-loop
-signed-requires c κs = search needs
+signed-64-requires : tie.Need-signed-64-requires Inv-loop μ-loop
+signed-64-requires c κs = search needs
 
 returns-2 : tie.Need-returns-2 Inv-loop μ-loop
 returns-2 c =
@@ -88,7 +88,7 @@ returns-2 c =
     let p = l .before .args .points .now in
     let cs = l .before .args .ranges .now in
     set-filled p cs (l .before .pre) _ (all-pass filled p cs 0 (l .loop .i) (l .loop .inv .left) (c .before .loop-test .left))
-    (toZ-ofZ (sfits-of (c .signed .ok)) ∙ c .signed .ensures ∙ gathered-all p cs (l .loop .inv) (c .before .loop-test .left))
+    (toZ-ofZ (sfits-of (c .signed-64 .ok)) ∙ c .signed-64 .ensures ∙ gathered-all p cs (l .loop .inv) (c .before .loop-test .left))
 
 pub total-spec : {M : Type 1} → statement M
 total-spec =
@@ -105,5 +105,5 @@ total-spec =
     add-i
     loop-less
     loop-again
-    signed-requires
+    signed-64-requires
     returns-2)

@@ -1,7 +1,7 @@
--- `area::wide` meets its contract: an i32 is an i64.
+-- `integers::wide` meets its contract: an i32 is an i64.
 use mir.Facts.{toZ-ofZ, sfits-widen}
-use Rattle.area.proofs.wide.Statement.{statement}
-use Rattle.area.proofs.wide.Tie as tie
+use Rattle.integers.proofs.wide.Statement.{statement}
+use Rattle.integers.proofs.wide.Tie as tie
 
 cast-result : tie.Need-cast-result
 cast-result c = rw (toZ-ofZ (c .fits .x)) (sfits-widen tt (c .fits .x))
