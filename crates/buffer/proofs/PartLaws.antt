@@ -11,7 +11,8 @@ use lib.Dec.{ltb}
 use borrow.Author.Tests.{ltb-true, ltb-false}
 use Rattle.integers.proofs.Logic.{and-left, and-right}
 use Rattle.grid.specs.Ladder.{first-of}
-use Rattle.grid.specs.Domain.{count, domain}
+use Rattle.grid.specs.Domain.{count, domain, Contour}
+use Rattle.grid.proofs.LimitLaws.{on-dropped, on-taken}
 use Rattle.buffer.specs.declared.answer.Counted.{Counted}
 use Rattle.buffer.specs.Spans.{span, spans, sound}
 use Rattle.buffer.specs.Sets.{cut, contour, contours, shapes, Names}
@@ -23,10 +24,24 @@ use Rattle.buffer.proofs.SpanLaws.{Within, range-within}
 use Rattle.buffer.proofs.RefusalLaws.{accepted}
 
 -- a range of an accepted set names a part of its points
-names-of : (p : List ℤ) (cs : List (List ℕ)) (k : ℕ) → length p ≡ 2 * count p → sound (spans cs) (count p) ≡ true → k < length cs → Names p cs k
+pub names-of : (p : List ℤ) (cs : List (List ℕ)) (k : ℕ) → length p ≡ 2 * count p → sound (spans cs) (count p) ≡ true → k < length cs → Names p cs k
 names-of p cs k even sound h =
     let w = range-within cs (count p) k sound h in
     record { there = h; forward = w .forward; fits = omega (arith, w .ends) }
+
+-- and the part that a range names of points in the domain is a contour in the domain
+module _ (p : List ℤ) (cs : List (List ℕ)) (k : ℕ) (d : Contour p (count p)) (n : Names p cs k) where
+  pub part-long : length (contour p (span (getD cs k []))) ≡ 2 * span (getD cs k []) .end - 2 * span (getD cs k []) .start
+  part-long = length-take-le _ _ (omega (arith, n .forward, n .fits, length-drop (2 * span (getD cs k []) .start) p))
+
+  pub part-contour : Contour (contour p (span (getD cs k []))) (count (contour p (span (getD cs k []))))
+  part-contour =
+      let r = span (getD cs k []) in
+      record {
+        even = omega (arith, part-long, n .forward);
+        few = omega (arith, part-long, n .fits, d .even, d .few);
+        on = on-taken (2 * r .end - 2 * r .start) (drop (2 * r .start) p) (on-dropped (2 * r .start) p (d .on));
+      }
 
 part-refused : {A : Type 0} (r : ℕ) (l : List A) → (r ≡ 0 → ⊥) → [] ≡ part r l
 part-refused zero l n = absurd (n refl)

@@ -10,6 +10,7 @@ use crate::answer;
 use crate::answer::Counted;
 use crate::answer::Packed;
 use crate::copy;
+use crate::joining;
 use crate::parts;
 use crate::ranges;
 use crate::refusal;
@@ -98,7 +99,7 @@ fn pack(
         return answer::refused(first);
     }
     copy::numbers(points, out, 0);
-    copy::records(ranges, records, 0, 0);
+    joining::records(ranges, records, 0, 0);
     Packed {
         reply: grid::reply::DONE,
         points: points.len() / 2,
@@ -175,8 +176,8 @@ pub fn add_contour(
         return answer::refused(first);
     }
     let one = [[0, contour.len() / 2]];
-    copy::both_numbers(points, contour, out);
-    copy::both_records(ranges, &one, n, records);
+    joining::both_numbers(points, contour, out);
+    joining::both_records(ranges, &one, n, records);
     Packed {
         reply: grid::reply::DONE,
         points: n + contour.len() / 2,

@@ -2,6 +2,7 @@
 pub mod answer;
 pub mod contours;
 pub mod copy;
+mod joining;
 pub mod parts;
 pub mod ranges;
 pub mod refusal;

@@ -10,6 +10,7 @@ use crate::answer::Counted;
 use crate::answer::Packed;
 use crate::contours;
 use crate::copy;
+use crate::joining;
 use crate::parts;
 use crate::ranges;
 use crate::refusal;
@@ -113,8 +114,8 @@ fn pack(
         return answer::refused(first);
     }
     copy::numbers(points, out, 0);
-    copy::records(contours, records, 0, 0);
-    copy::records(shapes, groups, 0, 0);
+    joining::records(contours, records, 0, 0);
+    joining::records(shapes, groups, 0, 0);
     Packed {
         reply: grid::reply::DONE,
         points: points.len() / 2,
@@ -223,9 +224,9 @@ pub fn add_shape(
         return answer::refused(first);
     }
     let only = [[0, ranges.len()]];
-    copy::both_numbers(points, more, out);
-    copy::both_records(contours, ranges, points.len() / 2, records);
-    copy::both_records(shapes, &only, contours.len(), groups);
+    joining::both_numbers(points, more, out);
+    joining::both_records(contours, ranges, points.len() / 2, records);
+    joining::both_records(shapes, &only, contours.len(), groups);
     Packed {
         reply: grid::reply::DONE,
         points: points.len() / 2 + more.len() / 2,

@@ -1,41 +1,32 @@
 -- The lines of contours that ranges name, one behind the other.
 use mathlib.Core.Path.{_≡_, sym, _∙_, ap}
 use mathlib.Core.List.{List, [], _∷_, append-nil, append-assoc}
-use Prim.Native.Nat.{ℕ, suc, _+_, _-_, _*_, _≤_, _<_}
+use Prim.Native.Nat.{ℕ, suc, _+_, _≤_, _<_}
 use native.Mathlib.Omega.{arith}
 use native.Mathlib.Numerals.{add-one}
-use lib.ListN.{length, getD, drop, length-drop}
-use lib.Seq.{drop-cons, drop-length, length-take-le}
+use lib.ListN.{length, getD, drop}
+use lib.Seq.{drop-cons, drop-length}
 use lib.IntN.{ℤ}
-use Rattle.grid.proofs.LimitLaws.{on-dropped, on-taken}
 use Rattle.buffer.specs.Spans.{span, spans}
 use Rattle.buffer.specs.Sets.{joined, contour, contours}
+use Rattle.buffer.proofs.PartLaws.{part-long, part-contour}
 use Rattle.report.specs.Listing.{line, lines}
 use Rattle.report.specs.Inside.{Put, Cleanable, Listable}
 use Rattle.report.proofs.PutLaws.{Going, going-none, going-room, going-more, going-all, going-same}
 
 -- a part that a range names can be cleaned
 module _ (p : List ℤ) (ranges : List (List ℕ)) (next prev mark : List ℕ) (out : List ℤ) (x : Listable p ranges next prev mark out) (k : ℕ) (h : k < length ranges) where
-  part-long : length (contour p (span (getD ranges k []))) ≡ 2 * span (getD ranges k []) .end - 2 * span (getD ranges k []) .start
-  part-long =
-      let n = x .names k h in
-      length-take-le _ _ (omega (arith, n .forward, n .fits, length-drop (2 * span (getD ranges k []) .start) p))
-
   pub part-cleanable : (next′ prev′ mark′ : List ℕ) (out′ : List ℤ) → length next′ ≡ length next → length prev′ ≡ length prev → length mark′ ≡ length mark → length out′ ≡ length out
       → Cleanable (contour p (span (getD ranges k []))) next′ prev′ mark′ out′
   part-cleanable next′ prev′ mark′ out′ a b c d =
       let n = x .names k h in
-      let r = span (getD ranges k []) in
+      let long = part-long p ranges k (x .domain) n in
       record {
-        contour = record {
-          even = omega (arith, part-long, n .forward);
-          few = omega (arith, part-long, n .fits, x .domain .even, x .domain .few);
-          on = on-taken (2 * r .end - 2 * r .start) (drop (2 * r .start) p) (on-dropped (2 * r .start) p (x .domain .on));
-        };
-        in-next = omega (arith, part-long, n .fits, x .domain .even, x .in-next);
-        in-prev = omega (arith, part-long, n .fits, x .domain .even, x .in-prev);
-        in-mark = omega (arith, part-long, n .fits, x .domain .even, x .in-mark);
-        in-out = omega (arith, part-long, n .fits, x .in-out);
+        contour = part-contour p ranges k (x .domain) n;
+        in-next = omega (arith, n .fits, x .domain .even, x .in-next);
+        in-prev = omega (arith, n .fits, x .domain .even, x .in-prev);
+        in-mark = omega (arith, n .fits, x .domain .even, x .in-mark);
+        in-out = omega (arith, n .fits, x .in-out);
       }
 
 -- the lines of the contours from number i on are left

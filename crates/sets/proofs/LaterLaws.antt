@@ -15,7 +15,7 @@ use Rattle.sets.specs.declared.cleaning.Place.{Place}
 use Rattle.sets.specs.declared.cleaning.Tried.{Tried}
 use Rattle.sets.specs.Fates.{fate}
 use Rattle.sets.specs.Inside.{reached, placing, run, Scratch, Room, Placeable, Behind, Named}
-use Rattle.sets.proofs.PlaceLaws.{room-rest, part-contour, part-placeable}
+use Rattle.sets.proofs.PlaceLaws.{room-rest, named-contour, part-placeable}
 
 -- the contours of the ranges from i on are left
 pub record Laying (rule : Rule) (p : List ℤ) (ranges : List (List ℕ)) (at₀ : Place) (out₀ : List ℤ) (records₀ : List (List ℕ)) (at : Place) (out : List ℤ) (records : List (List ℕ)) (i : ℕ) : Type 0 where
@@ -47,7 +47,7 @@ module _ {rule : Rule} {p : List ℤ} {ranges : List (List ℕ)} {at₀ : Place}
           high = omega arith;
           out-long = u ∙ x .out-long;
           records-long = v ∙ x .records-long;
-          room = rw (add-one i) (room-rest rule _ _ at out records (rw next-is at (x .room)) (part-contour p ranges n i h) (t .place) out′ records′ e u v);
+          room = rw (add-one i) (room-rest rule _ _ at out records (rw next-is at (x .room)) (named-contour p ranges n i h) (t .place) out′ records′ e u v);
           is = rw (add-one i) (ap (run rule (contours p (spans (drop (suc i) ranges)))) e ∙ ap (λ (l : List (List ℤ)). run rule l (reached at out records)) (sym next-is) ∙ x .is);
         }
 

@@ -1,24 +1,20 @@
 -- The contours of a set that no call refuses: each is itself in the domain, and a loop meets them one by one.
 use mathlib.Core.Path.{_≡_, refl, sym, _∙_, ap}
-use mathlib.Core.Bool.{Bool, true, false, not}
+use mathlib.Core.Bool.{Bool, true, false}
 use mathlib.Core.List.{List, [], _∷_}
-use Prim.Native.Nat.{ℕ, _+_, _-_, _*_, _%_, _<_, _≤_}
+use Prim.Native.Nat.{ℕ, _+_, _<_, _≤_}
 use native.Mathlib.Omega.{arith}
 use native.Mathlib.Numerals.{add-one}
-use lib.ListN.{length, getD, take, drop, length-drop, length-map, drop-of-length-le}
-use lib.Seq.{drop-cons, length-take-le}
+use lib.ListN.{length, getD, drop, length-map, drop-of-length-le}
+use lib.Seq.{drop-cons}
 use lib.IntN.{ℤ}
-use borrow.Author.Tests.{ne-eqb, le-ltb}
-use Rattle.grid.specs.Limits.{most}
 use Rattle.grid.specs.Ladder.{first-of}
 use Rattle.grid.specs.Domain.{count, domain}
-use Rattle.grid.proofs.LimitLaws.{on-dropped, on-taken}
-use Rattle.grid.proofs.LadderLaws.{first-is}
-use Rattle.grid.proofs.LadderLaws.First.{past, foot}
 use Rattle.buffer.specs.Spans.{span, spans, sound}
 use Rattle.buffer.specs.Sets.{contour, contours, Names}
 use Rattle.buffer.specs.Contours.{refusals}
-use Rattle.buffer.proofs.PartLaws.{contours-at, contour-named}
+use Rattle.buffer.proofs.PartLaws.{contours-at, contour-named, part-contour}
+use Rattle.grid.proofs.DomainLaws.{contour-clear}
 use Rattle.buffer.proofs.RefusalLaws.{accepted}
 use Rattle.sets.specs.Verdicts.{every}
 
@@ -40,14 +36,7 @@ module _ (p : List ℤ) (cs : List (List ℕ)) (k : ℕ) where
     pub part-in-domain : first-of (domain (contour p (span (getD cs k [])))) ≡ 0
     part-in-domain =
         let a = accepted p (sound (spans cs) (count p)) z in
-        let n = part-named in
-        let from : ℕ = 2 * getD (getD cs k []) 0 0 in
-        let long : ℕ = 2 * getD (getD cs k []) 1 0 - from in
-        let part : List ℤ = take long (drop from p) in
-        let l : length part ≡ long = length-take-le long (drop from p) (omega (arith, length-drop from p, n .fits)) in
-        let even : length part % 2 ≡ 1 → ⊥ = λ e. omega (arith, l) in
-        let few : count part ≤ most = omega (arith, l, a .few, n .fits) in
-        sym (first-is (domain part) 0 (past (ne-eqb (length part % 2) 1 even) (past (le-ltb most (count part) few) (past (ap not (on-taken long (drop from p) (on-dropped from p (a .on)))) foot))))
+        contour-clear _ (part-contour p cs k (record { even = a .even; few = a .few; on = a .on }) part-named)
 
 -- a loop that asks contour after contour from number n on: those from number i on decide
 module _ (test : List ℤ → Bool) (p : List ℤ) (cs : List (List ℕ)) (n i : ℕ) where

@@ -9,7 +9,6 @@ use lib.ListN.{length, getD, take, drop, set, length-append, length-drop, drop-o
 use lib.Seq.{take-all, drop-drop, length-take-le}
 use borrow.Rule.Slice.PartMut.{midOf, putMid, put-same}
 use Rattle.grid.specs.Domain.{count, Contour}
-use Rattle.grid.proofs.LimitLaws.{on-dropped, on-taken}
 use Rattle.ring.specs.declared.Rule.{Rule}
 use Rattle.clean.specs.declared.cleaning.Cleaned.{Cleaned}
 use Rattle.clean.specs.Inside.{Ready}
@@ -17,7 +16,7 @@ use Rattle.buffer.specs.declared.ranges.Span.{Span}
 use Rattle.buffer.specs.Spans.{span, spans, size, sound}
 use Rattle.buffer.specs.Sets.{cut, joined, contour, contours}
 use Rattle.buffer.specs.Rows.{placed}
-use Rattle.buffer.proofs.SpanLaws.{range-within}
+use Rattle.buffer.proofs.PartLaws.{names-of, part-long, part-contour}
 use Rattle.buffer.proofs.RefusalLaws.{Accepted}
 use Rattle.sets.specs.declared.cleaning.Place.{Place}
 use Rattle.sets.specs.Fates.{Fate, fate}
@@ -123,28 +122,16 @@ room-rest rule c l at out records x k pl out′ records′ e a b = go (fate rule
 pub accepted-named : (p : List ℤ) (cs : List (List ℕ)) (ok : Bool) → Accepted p ok → sound (spans cs) (count p) ≡ true → Named p cs
 accepted-named p cs ok a s = record {
   domain = record { even = a .even; few = a .few; on = a .on };
-  names = λ k h. let w = range-within cs (count p) k s h in record { there = h; forward = w .forward; fits = omega (arith, w .ends, a .even) };
+  names = λ k h. names-of p cs k (a .even) s h;
 }
 
--- a contour that a range names is of the domain
+-- a contour that a range names is of the domain, and there is room for it
 module _ (p : List ℤ) (ranges : List (List ℕ)) (x : Named p ranges) (k : ℕ) (h : k < length ranges) where
-  part-long : length (contour p (span (getD ranges k []))) ≡ 2 * span (getD ranges k []) .end - 2 * span (getD ranges k []) .start
-  part-long =
-      let n = x .names k h in
-      length-take-le _ _ (omega (arith, n .forward, n .fits, length-drop (2 * span (getD ranges k []) .start) p))
-
-  pub part-contour : Contour (contour p (span (getD ranges k []))) (count (contour p (span (getD ranges k []))))
-  part-contour =
-      let n = x .names k h in
-      let r = span (getD ranges k []) in
-      record {
-        even = omega (arith, part-long, n .forward);
-        few = omega (arith, part-long, n .fits, x .domain .even, x .domain .few);
-        on = on-taken (2 * r .end - 2 * r .start) (drop (2 * r .start) p) (on-dropped (2 * r .start) p (x .domain .on));
-      }
+  pub named-contour : Contour (contour p (span (getD ranges k []))) (count (contour p (span (getD ranges k []))))
+  named-contour = part-contour p ranges k (x .domain) (x .names k h)
 
   part-few : count (contour p (span (getD ranges k []))) ≤ count p
-  part-few = let n = x .names k h in omega (arith, part-long, n .fits, x .domain .even)
+  part-few = let n = x .names k h in omega (arith, part-long p ranges k (x .domain) n, n .fits, x .domain .even)
 
   pub part-placeable : (at : Place) (next prev mark : List ℕ) (out : List ℤ) (records : List (List ℕ)) (l : List (List ℤ))
       → Scratch (count p) next prev mark → Room (contour p (span (getD ranges k [])) ∷ l) at out records
@@ -152,7 +139,7 @@ module _ (p : List ℤ) (ranges : List (List ℕ)) (x : Named p ranges) (k : ℕ
   part-placeable at next prev mark out records l s r =
       let j = joined-more (contour p (span (getD ranges k []))) l in
       record {
-        contour = part-contour;
+        contour = named-contour;
         scratch = record { in-next = omega (arith, part-few, s .in-next); in-prev = omega (arith, part-few, s .in-prev); in-mark = omega (arith, part-few, s .in-mark) };
         room = omega (arith, r .room);
         space = omega (arith, r .space);
@@ -166,7 +153,7 @@ named-all p [] f = tt
 named-all p (r ∷ l) f = (f 0 (omega arith), named-all p l (λ k h. f (suc k) (omega arith)))
 
 pub all-named : (p : List ℤ) (cs : List (List ℕ)) → Named p cs → Contours (contours p (spans cs))
-all-named p cs n = named-all p cs (λ k h. part-contour p cs n k h)
+all-named p cs n = named-all p cs (λ k h. named-contour p cs n k h)
 
 -- and all shapes of such contours
 contours-taken : (n : ℕ) (l : List (List ℤ)) → Contours l → Contours (take n l)

@@ -18,7 +18,7 @@ use Rattle.sets.specs.declared.cleaning.Tried.{Tried}
 use Rattle.sets.specs.Fates.{Fate, fate}
 use Rattle.sets.specs.Fates.Fate.{stays, gone}
 use Rattle.sets.specs.Inside.{Reached, reached, placing, stayed, run, Tested, tested, outline, run-shape, Grouped, grouped, adding, added, Placeable, Behind, Named, Going}
-use Rattle.sets.proofs.PlaceLaws.{tail-is, room-rest, part-contour, part-placeable}
+use Rattle.sets.proofs.PlaceLaws.{tail-is, room-rest, named-contour, part-placeable}
 
 pub shape-empty : (rule : Rule) (p : List ℤ) (ranges : List (List ℕ)) (s : Reached) → length ranges ≡ 0 → tested true s ≡ run-shape rule (contours p (spans ranges)) s
 unfolding run-shape
@@ -68,7 +68,7 @@ module _ (rule : Rule) (p : List ℤ) (ranges : List (List ℕ)) (at : Place) (n
       rest-going next′ prev′ mark′ x y z = rw (tail-is 1 ranges) (record {
         named = rest-named;
         scratch = record { in-next = omega (arith, g .scratch .in-next); in-prev = omega (arith, g .scratch .in-prev); in-mark = omega (arith, g .scratch .in-mark) };
-        room = room-rest rule _ _ at out records (rw first-is at (g .room)) (part-contour p ranges (g .named) 0 (omega arith)) (t .place) out′ records′ (first-fate .0) u v;
+        room = room-rest rule _ _ at out records (rw first-is at (g .room)) (named-contour p ranges (g .named) 0 (omega arith)) (t .place) out′ records′ (first-fate .0) u v;
       })
 
       pub shape-stands : (s : Reached) → s ≡ run rule (contours p (spans (midOf 1 (length ranges - 1) ranges))) (reached (t .place) out′ records′)

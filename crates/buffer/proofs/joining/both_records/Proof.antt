@@ -1,8 +1,8 @@
--- `buffer::copy::both_records` meets its contract.
+-- `buffer::joining::both_records` meets its contract.
 use Rattle.buffer.proofs.RowLaws.{both-placed}
 use borrow.Author.Needs.{needs}
-use Rattle.buffer.proofs.copy.both_records.Statement.{statement}
-use Rattle.buffer.proofs.copy.both_records.Tie as tie
+use Rattle.buffer.proofs.joining.both_records.Statement.{statement}
+use Rattle.buffer.proofs.joining.both_records.Tie as tie
 
 records-requires : tie.Need-records-requires
 records-requires c κs = search needs

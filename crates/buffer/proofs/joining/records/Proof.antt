@@ -1,4 +1,4 @@
--- `buffer::copy::records` meets its contract: what is copied so far grows by one.
+-- `buffer::joining::records` meets its contract: what is copied so far grows by one.
 use mathlib.Core.Path.{_≡_}
 use mathlib.Core.List.{[], map}
 use Prim.Native.Nat.{_-_}
@@ -7,8 +7,8 @@ use lib.ListN.{length}
 use Rattle.buffer.specs.Spans.{spans, rows, moved}
 use Rattle.buffer.proofs.RowLaws.{Copied, copied-none, copied-more, copied-all, shifted-length, shifted-at}
 use borrow.Author.Needs.{needs}
-use Rattle.buffer.proofs.copy.records.Statement.{statement}
-use Rattle.buffer.proofs.copy.records.Tie as tie
+use Rattle.buffer.proofs.joining.records.Statement.{statement}
+use Rattle.buffer.proofs.joining.records.Tie as tie
 
 abbrev Inv-loop : tie.InvT-loop
 Inv-loop from out₀ at shift i₀ out i = Copied out₀ at (rows (map (moved shift) (spans from))) out i

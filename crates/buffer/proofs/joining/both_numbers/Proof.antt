@@ -1,11 +1,11 @@
--- `buffer::copy::both_numbers` meets its contract.
+-- `buffer::joining::both_numbers` meets its contract.
 use mathlib.Core.Path.{refl, _∙_, ap}
 use lib.ListN.{length}
 use Rattle.buffer.specs.Rows.{placed}
 use Rattle.buffer.proofs.RowLaws.{placed-front, placed-next}
 use borrow.Author.Needs.{needs}
-use Rattle.buffer.proofs.copy.both_numbers.Statement.{statement}
-use Rattle.buffer.proofs.copy.both_numbers.Tie as tie
+use Rattle.buffer.proofs.joining.both_numbers.Statement.{statement}
+use Rattle.buffer.proofs.joining.both_numbers.Tie as tie
 
 numbers-requires : tie.Need-numbers-requires
 numbers-requires c κs = search needs
