@@ -1,19 +1,22 @@
 -- What follows from being on the grid. Callers use these laws, never the limit's digits.
+use borrow.Author.Tests.{le-leb}
 use mathlib.Core.Path.{_≡_, refl, sym}
 use mathlib.Core.Bool.{Bool, true, false, _&&_, and-assoc}
 use mathlib.Core.List.{List, [], _∷_}
-use Prim.Native.Nat.{ℕ, zero, suc, _+_, _<_}
+use Prim.Native.Nat.{ℕ, zero, suc, _+_, _-_, _*_, _<_}
+use native.Mathlib.Omega.{arith}
 use native.Mathlib.Numerals.{add-one}
 use lib.ListN.{length, getD, take, drop}
 use lib.Seq.{drop-cons, drop-length}
-use lib.IntN.{ℤ, pos, negℤ}
+use lib.IntN.{ℤ, pos, negsuc, negℤ}
 use lib.Signed.{leZ}
 use mir.Syntax.{w32}
-use mir.Val.{toZ, ofZ}
+use mir.Val.{SFits, toZ, ofZ}
 use Rattle.integers.specs.Bound.{In}
 use Rattle.integers.proofs.Bound.{tests-in, back}
 use Rattle.integers.proofs.Logic.{and-left, and-right}
 use Rattle.grid.specs.Limits.{limit, on-grid, all-on-grid}
+use Rattle.grid.specs.Inside.{raised}
 
 pub on-grid-in : (z : ℤ) → on-grid z ≡ true → In limit z
 unfolding on-grid
@@ -25,6 +28,12 @@ on-grid-in z e =
 pub on-grid-back : (z : ℤ) → on-grid z ≡ true → toZ w32 (ofZ w32 z) ≡ z
 unfolding limit
 on-grid-back z e = back w32 (on-grid-in z e) tt
+
+-- raised to below twice the limit, an i32 is on the grid
+pub raised-on-grid : (z : ℤ) → SFits w32 z → raised z < 2 * limit → on-grid z ≡ true
+unfolding raised on-grid limit
+raised-on-grid (pos n) f h = le-leb n limit (omega (arith, f .sfits))
+raised-on-grid (negsuc n) f h = rw (le-leb n (limit - 1) (omega (arith, f .sfits)))
 
 -- also past the row's end, where the 0 that is read is on the grid
 pub all-on-grid-at : (row : List ℤ) (i : ℕ) → all-on-grid row ≡ true → on-grid (getD row i (pos 0)) ≡ true

@@ -6,12 +6,14 @@ ghost use mathlib.Core.Bool.{true};
 ghost use Prim.Native.Nat.{_+_, _*_, _<_, _≤_};
 ghost use lib.ListN.{length};
 ghost use lib.IntN.{_+ℤ_, _-ℤ_, _*ℤ_};
-ghost use Rattle.grid.specs.Limits.{on-grid, all-on-grid};
+ghost use mir.Syntax.{w32};
+ghost use mir.Val.{ofZ};
+ghost use Rattle.grid.specs.Limits.{limit, on-grid, all-on-grid};
 ghost use Rattle.grid.specs.Points.{at, on, same as same-point, sign as sign-of, turn as turn-of, reverses as reverses-at, Short, AllOn, edges as edges-of, between as between-of, parallel as parallel-of, opposed as opposed-of, still as still-of};
 ghost use Rattle.grid.specs.Ladder.{first-of};
 ghost use Rattle.grid.specs.Corners.{straight as straight-at, back as back-at};
 ghost use Rattle.grid.specs.Domain.{domain as domain-of, Contour};
-ghost use Rattle.grid.specs.Inside.{Other};
+ghost use Rattle.grid.specs.Inside.{raised as raised-of, Other};
 
 // The largest coordinate, either side of 0.
 pub const LIMIT: i32 = 536_870_912;
@@ -43,8 +45,39 @@ pub fn point_on_grid(p: Point) -> bool
     on_grid(p.x) && on_grid(p.y)
 }
 
-// Reads the whole row before it answers: a row is normally sound, and such a loop is the quicker one.
-fn all_on_grid(row: &[i32]) -> bool
+// The bits of an i32, read as a u32.
+fn bits(x: i32) -> u32
+    ensures { λ r. ⌜ r ≡ ofZ w32 x ⌝ }
+{
+    if x < 0 {
+        4_294_967_295 - (-1 - x) as u32
+    } else {
+        x as u32
+    }
+}
+
+// x + LIMIT modulo 2^32.
+fn raised(x: i32) -> u32
+    ensures { λ r. ⌜ r ≡ raised-of x ⌝ }
+{
+    std::num::wrapping_add_u32(bits(x), LIMIT as u32)
+}
+
+// All bits that the raised coordinates have: an addition and an or a coordinate are less work than two comparisons.
+fn raised_bits(row: &[i32]) -> u32
+    ensures { λ r. ⌜ (r < 2 * limit → all-on-grid (now (row .entry)) ≡ true) ⌝ }
+{
+    let mut any: u32 = 0;
+    let mut i: usize = 0;
+    while i < row.len() {
+        any = any | raised(row[i]);
+        i += 1;
+    }
+    any
+}
+
+// Reads the whole row before it answers: such a loop is the quicker one.
+fn each_on_grid(row: &[i32]) -> bool
     ensures { λ r. ⌜ r ≡ all-on-grid (now (row .entry)) ⌝ }
 {
     let mut all = true;
@@ -54,6 +87,16 @@ fn all_on_grid(row: &[i32]) -> bool
         i += 1;
     }
     all
+}
+
+// Only a row with a coordinate of LIMIT or off the grid is read a second time.
+fn all_on_grid(row: &[i32]) -> bool
+    ensures { λ r. ⌜ r ≡ all-on-grid (now (row .entry)) ⌝ }
+{
+    if raised_bits(row) < 2 * LIMIT as u32 {
+        return true;
+    }
+    each_on_grid(row)
 }
 
 // What every call asks of a row of coordinates: 0, or the number of its first refusal.
