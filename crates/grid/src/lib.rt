@@ -6,8 +6,6 @@ ghost use mathlib.Core.Bool.{true};
 ghost use Prim.Native.Nat.{_+_, _*_, _<_, _≤_};
 ghost use lib.ListN.{length};
 ghost use lib.IntN.{_+ℤ_, _-ℤ_, _*ℤ_};
-ghost use mir.Syntax.{w32};
-ghost use mir.Val.{ofZ};
 ghost use Rattle.grid.specs.Limits.{limit, on-grid, all-on-grid};
 ghost use Rattle.grid.specs.Points.{at, on, same as same-point, sign as sign-of, turn as turn-of, reverses as reverses-at, Short, AllOn, edges as edges-of, between as between-of, parallel as parallel-of, opposed as opposed-of, still as still-of};
 ghost use Rattle.grid.specs.Ladder.{first-of};
@@ -45,22 +43,11 @@ pub fn point_on_grid(p: Point) -> bool
     on_grid(p.x) && on_grid(p.y)
 }
 
-// The bits of an i32, read as a u32.
-fn bits(x: i32) -> u32
-    ensures { λ r. ⌜ r ≡ ofZ w32 x ⌝ }
-{
-    if x < 0 {
-        4_294_967_295 - (-1 - x) as u32
-    } else {
-        x as u32
-    }
-}
-
 // x + LIMIT modulo 2^32.
 fn raised(x: i32) -> u32
     ensures { λ r. ⌜ r ≡ raised-of x ⌝ }
 {
-    std::num::wrapping_add_u32(bits(x), LIMIT as u32)
+    std::num::wrapping_add_u32(integers::bits_32(x), LIMIT as u32)
 }
 
 // All bits that the raised coordinates have: an addition and an or a coordinate are less work than two comparisons.

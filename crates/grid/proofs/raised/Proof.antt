@@ -8,8 +8,8 @@ use Rattle.grid.specs.Inside.{raised}
 use Rattle.grid.proofs.raised.Statement.{statement}
 use Rattle.grid.proofs.raised.Tie as tie
 
-bits-requires : tie.Need-bits-requires
-bits-requires c κs = search needs
+bits-32-requires : tie.Need-bits-32-requires
+bits-32-requires c κs = search needs
 
 cast-wrapping-add-u32 : tie.Need-cast-wrapping-add-u32
 cast-wrapping-add-u32 c = search needs
@@ -21,8 +21,8 @@ returns : tie.Need-returns
 unfolding raised limit
 returns c =
     let f = toZ-ofZ (c .before .before .fits .x) in
-    c .wrapping-add-u32 .ensures ∙ ap (λ (n : ℕ). (n + limit) % 2 ^ 32) (rw f at (c .before .bits .ensures))
+    c .wrapping-add-u32 .ensures ∙ ap (λ (n : ℕ). (n + limit) % 2 ^ 32) (rw f at (c .before .bits-32 .ensures))
 
 pub raised-spec : {M : Type 1} → statement M
 raised-spec =
-    tie.close (tie.spec bits-requires cast-wrapping-add-u32 wrapping-add-u32-requires returns)
+    tie.close (tie.spec bits-32-requires cast-wrapping-add-u32 wrapping-add-u32-requires returns)
