@@ -1,7 +1,7 @@
 -- What follows from being on the grid. Callers use these laws, never the limit's digits.
 use borrow.Author.Tests.{le-leb}
-use mathlib.Core.Path.{_≡_, refl, sym}
-use mathlib.Core.Bool.{Bool, true, false, _&&_, and-assoc}
+use mathlib.Core.Path.{_≡_, refl}
+use mathlib.Core.Bool.{Bool, true, _&&_}
 use mathlib.Core.List.{List, [], _∷_}
 use Prim.Native.Nat.{ℕ, zero, suc, _+_, _-_, _*_, _<_}
 use native.Mathlib.Omega.{arith}
@@ -42,16 +42,15 @@ all-on-grid-at [] i e = refl
 all-on-grid-at (z ∷ row) zero e = and-left (on-grid z) (all-on-grid row) e
 all-on-grid-at (z ∷ row) (suc i) e = all-on-grid-at row i (and-right (on-grid z) (all-on-grid row) e)
 
--- a row read from its front: so far, and what is left
-pub all-on-grid-more : (row : List ℤ) (i : ℕ) (sofar : Bool) → i < length row
-    → (sofar && all-on-grid (drop i row)) ≡ ((sofar && on-grid (getD row i (pos 0))) && all-on-grid (drop (i + 1) row))
+-- a row read from its front: what is left, with its first number and with none
+pub all-on-grid-more : (row : List ℤ) (i : ℕ) → i < length row
+    → all-on-grid (drop i row) ≡ (on-grid (getD row i (pos 0)) && all-on-grid (drop (i + 1) row))
 unfolding all-on-grid
-all-on-grid-more row i sofar h = rw (drop-cons row i (pos 0) h, add-one i) (sym (and-assoc sofar _ _))
+all-on-grid-more row i h = rw (drop-cons row i (pos 0) h, add-one i)
 
-pub all-on-grid-none : (row : List ℤ) (i : ℕ) (sofar : Bool) → i ≡ length row → (sofar && all-on-grid (drop i row)) ≡ sofar
+pub all-on-grid-none : (row : List ℤ) (i : ℕ) → i ≡ length row → all-on-grid (drop i row) ≡ true
 unfolding all-on-grid
-all-on-grid-none row i true e = rw (e, drop-length row)
-all-on-grid-none row i false e = refl
+all-on-grid-none row i e = rw (e, drop-length row)
 
 -- a part of a row on the grid is on the grid
 pub on-dropped : (n : ℕ) (row : List ℤ) → all-on-grid row ≡ true → all-on-grid (drop n row) ≡ true

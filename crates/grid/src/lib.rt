@@ -63,17 +63,18 @@ fn raised_bits(row: &[i32]) -> u32
     any
 }
 
-// Reads the whole row before it answers: such a loop is the quicker one.
+// Ends at the first coordinate off the grid, which makes it short enough for LLVM to inline the callers.
 fn each_on_grid(row: &[i32]) -> bool
     ensures { λ r. ⌜ r ≡ all-on-grid (now (row .entry)) ⌝ }
 {
-    let mut all = true;
     let mut i: usize = 0;
     while i < row.len() {
-        all = all & on_grid(row[i]);
+        if !on_grid(row[i]) {
+            return false;
+        }
         i += 1;
     }
-    all
+    true
 }
 
 // Only a row with a coordinate of LIMIT or off the grid is read a second time.

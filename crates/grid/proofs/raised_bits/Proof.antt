@@ -1,7 +1,7 @@
 -- `grid::raised_bits` meets its contract: bits below twice the limit show that what was read is on the grid, and the rest decides.
 use borrow.Author.Needs.{needs, sfits-of}
 use mathlib.Core.Path.{_≡_, refl, _∙_, ap}
-use mathlib.Core.Bool.{Bool, true, _&&_}
+use mathlib.Core.Bool.{Bool, _&&_}
 use Prim.Native.Nat.{_+_, _*_, _-_, _≤_, _<_}
 use native.Mathlib.Omega.{arith}
 use lib.Bits.{or-add-and, and-le-l, and-le-r}
@@ -51,7 +51,7 @@ loop-again c =
       λ h.
           let small : any < 2 * limit = omega (arith, or-add-and any more, and-le-r any more) in
           let low : raised (getD row i (pos 0)) < 2 * limit = omega (arith, or-add-and any more, and-le-l any more) in
-          l .loop .inv .1 small ∙ all-on-grid-more row i true (c .before .before .loop-test .taken)
+          l .loop .inv .1 small ∙ all-on-grid-more row i (c .before .before .loop-test .taken)
           ∙ ap (λ (b : Bool). b && all-on-grid (drop (i + 1) row)) (raised-on-grid (getD row i (pos 0)) fits low),
     )
 
@@ -60,7 +60,7 @@ returns c =
     let l = c .before in
     let row = l .before .args .row .now in
     let done : l .loop .i ≡ length row = omega arith in
-    λ h. l .loop .inv .1 h ∙ all-on-grid-none row (l .loop .i) true done
+    λ h. l .loop .inv .1 h ∙ all-on-grid-none row (l .loop .i) done
 
 pub raised-bits-spec : {M : Type 1} → statement M
 raised-bits-spec =
