@@ -1,166 +1,204 @@
--- Each public function's contract leaves one outcome: any two that it allows on the same inputs are identical, the answer and every lent row.
-use mathlib.Core.Path.{_≡_, sym, _∙_}
-use mathlib.Core.List.{List}
+-- Each public function's contract leaves one outcome: any two that it allows on the same inputs are identical, the answer and every lent row. `Learnt` is the contract in `src/`, as the checker reads it.
+use mathlib.Core.Path.{_≡_}
+use mathlib.Core.List.{List, []}
+use mathlib.Core.Bool.{Bool}
 use Prim.Native.Nat.{ℕ}
-use lib.IntN.{ℤ}
-use Rattle.grid.specs.Ladder.{first-of}
-use Rattle.area.specs.Answers as Area
-use Rattle.path.specs.Convex.{convex}
-use Rattle.path.specs.Clockwise.{clockwise}
-use Rattle.path.specs.Contains.{contains}
-use Rattle.ring.specs.declared.Rule.the-variants.{Collinear, Spike}
-use Rattle.clean.specs.Verdicts.{simple, spike-free}
-use Rattle.clean.specs.Outcome.{outcome}
-use Rattle.clean.specs.Part.{kept-part}
+use denote.Ref.{now}
+use Rattle.clean.specs.Outcome as Cleaned
 use Rattle.buffer.specs.declared.ranges.Span.{Span}
-use Rattle.buffer.specs.Spans.{spans, sound}
-use Rattle.buffer.specs.Contours as Contours
-use Rattle.buffer.specs.Shapes as Shapes
-use Rattle.sets.specs.Verdicts as Sets
-use Rattle.sets.specs.Area as SetArea
-use Rattle.sets.specs.Contains.{in-shape}
-use Rattle.sets.specs.Outcome.{Lent, shape-outcome, shapes-outcome}
-use Rattle.setfile.specs.Reading as Reading
-use Rattle.setfile.specs.Writing as Writing
+use Rattle.buffer.specs.Spans.{sound}
+use Rattle.buffer.specs.Answers as Packed
+use Rattle.sets.specs.Outcome as Sets
+use Rattle.setfile.specs.Writing as Written
+use Rattle.ukmerelt.proofs.OneOutcome.{Determined, by-its-definition}
+use Rattle.area.proofs.area_two.Reads as area·area-two
+use Rattle.area.proofs.area.Reads as area·area
+use Rattle.path.proofs.is_convex.Reads as path·is-convex
+use Rattle.path.proofs.is_clockwise_ordered.Reads as path·is-clockwise-ordered
+use Rattle.path.proofs.contains_point.Reads as path·contains-point
+use Rattle.clean.proofs.simple.is_simple.Reads as clean·simple·is-simple
+use Rattle.clean.proofs.despike.has_no_spikes.Reads as clean·despike·has-no-spikes
+use Rattle.clean.proofs.simple.simplified.Reads as clean·simple·simplified
+use Rattle.clean.proofs.despike.despiked.Reads as clean·despike·despiked
+use Rattle.clean.proofs.kept_part.Reads as clean·kept-part
+use Rattle.buffer.proofs.ranges.sound.Reads as buffer·ranges·sound
+use Rattle.buffer.proofs.ranges.sound_pair.Reads as buffer·ranges·sound-pair
+use Rattle.buffer.proofs.contours.refused.Reads as buffer·contours·refused
+use Rattle.buffer.proofs.contours.is_empty.Reads as buffer·contours·is-empty
+use Rattle.buffer.proofs.contours.is_single_contour.Reads as buffer·contours·is-single-contour
+use Rattle.buffer.proofs.contours.points_count.Reads as buffer·contours·points-count
+use Rattle.buffer.proofs.contours.contours_count.Reads as buffer·contours·contours-count
+use Rattle.buffer.proofs.contours.contour.Reads as buffer·contours·contour
+use Rattle.buffer.proofs.contours.first_contour.Reads as buffer·contours·first-contour
+use Rattle.buffer.proofs.contours.set_with_contour.Reads as buffer·contours·set-with-contour
+use Rattle.buffer.proofs.contours.set_with_shape.Reads as buffer·contours·set-with-shape
+use Rattle.buffer.proofs.contours.set_with_shapes.Reads as buffer·contours·set-with-shapes
+use Rattle.buffer.proofs.contours.add_contour.Reads as buffer·contours·add-contour
+use Rattle.buffer.proofs.shapes.refused.Reads as buffer·shapes·refused
+use Rattle.buffer.proofs.shapes.is_empty.Reads as buffer·shapes·is-empty
+use Rattle.buffer.proofs.shapes.points_count.Reads as buffer·shapes·points-count
+use Rattle.buffer.proofs.shapes.contours_count.Reads as buffer·shapes·contours-count
+use Rattle.buffer.proofs.shapes.shapes_count.Reads as buffer·shapes·shapes-count
+use Rattle.buffer.proofs.shapes.contours_in.Reads as buffer·shapes·contours-in
+use Rattle.buffer.proofs.shapes.contour_of.Reads as buffer·shapes·contour-of
+use Rattle.buffer.proofs.shapes.set_with_contour.Reads as buffer·shapes·set-with-contour
+use Rattle.buffer.proofs.shapes.set_with_shape.Reads as buffer·shapes·set-with-shape
+use Rattle.buffer.proofs.shapes.set_with_shapes.Reads as buffer·shapes·set-with-shapes
+use Rattle.buffer.proofs.shapes.add_shape.Reads as buffer·shapes·add-shape
+use Rattle.sets.proofs.simple.is_simple.Reads as sets·simple·is-simple
+use Rattle.sets.proofs.despike.has_no_spikes.Reads as sets·despike·has-no-spikes
+use Rattle.sets.proofs.areas.area_two.Reads as sets·areas·area-two
+use Rattle.sets.proofs.areas.area.Reads as sets·areas·area
+use Rattle.sets.proofs.in_shape.Reads as sets·in-shape
+use Rattle.sets.proofs.simple.simplified_shape.Reads as sets·simple·simplified-shape
+use Rattle.sets.proofs.despike.despiked_shape.Reads as sets·despike·despiked-shape
+use Rattle.sets.proofs.simple.simplified_shapes.Reads as sets·simple·simplified-shapes
+use Rattle.sets.proofs.despike.despiked_shapes.Reads as sets·despike·despiked-shapes
+use Rattle.setfile.proofs.read.Reads as setfile·read
+use Rattle.setfile.proofs.write.Reads as setfile·write
 
--- any two outcomes that a contract allows, `outcome ≡ f input`, are identical
-abbrev pub Determined : {I O : Type 0} → (I → O) → Type 0
-Determined {I} {O} f = (i : I) (a b : O) → a ≡ f i → b ≡ f i → a ≡ b
+-- A contour: its area, its winding, whether it is convex, whether it contains a point.
+pub area-two : Determined area·area-two.Learnt (λ κs x e. x)
+area-two = by-its-definition _ (λ κs a x e h. h)
 
-pub by-its-definition : {I O : Type 0} (f : I → O) → Determined f
-by-its-definition f i a b x y = x ∙ sym y
+pub area : Determined area·area.Learnt (λ κs x e. x)
+area = by-its-definition _ (λ κs a x e h. h)
 
-pub area-two : Determined Area.doubled
-area-two = by-its-definition _
+pub is-convex : Determined path·is-convex.Learnt (λ κs x e. x)
+is-convex = by-its-definition _ (λ κs a x e h. h)
 
-pub area : Determined Area.half
-area = by-its-definition _
+pub is-clockwise-ordered : Determined path·is-clockwise-ordered.Learnt (λ κs x e. x)
+is-clockwise-ordered = by-its-definition _ (λ κs a x e h. h)
 
-pub is-convex : Determined convex
-is-convex = by-its-definition _
+pub contains-point : Determined path·contains-point.Learnt (λ κs x e. x)
+contains-point = by-its-definition _ (λ κs a x e h. h)
 
-pub is-clockwise-ordered : Determined clockwise
-is-clockwise-ordered = by-its-definition _
+-- A contour judged and cleaned.
+pub is-simple : Determined clean·simple·is-simple.Learnt (λ κs x e. x)
+is-simple = by-its-definition _ (λ κs a x e h. h)
 
-pub contains-point : (p : List ℤ) (x : ℤ) → Determined (contains p x)
-contains-point p x = by-its-definition _
+pub has-no-spikes : Determined clean·despike·has-no-spikes.Learnt (λ κs x e. x)
+has-no-spikes = by-its-definition _ (λ κs a x e h. h)
 
-pub is-simple : Determined simple
-is-simple = by-its-definition _
+pub simplified : Determined clean·simple·simplified.Learnt (λ κs x e. Cleaned.left x (now (e .1 .0)) (now (e .1 .1 .0)) (now (e .1 .1 .1 .0)) (now (e .1 .1 .1 .1 .0)))
+simplified = by-its-definition _ (λ κs a x e h. h)
 
-pub has-no-spikes : Determined spike-free
-has-no-spikes = by-its-definition _
+pub despiked : Determined clean·despike·despiked.Learnt (λ κs x e. Cleaned.left x (now (e .1 .0)) (now (e .1 .1 .0)) (now (e .1 .1 .1 .0)) (now (e .1 .1 .1 .1 .0)))
+despiked = by-its-definition _ (λ κs a x e h. h)
 
-pub simplified : (p : List ℤ) (next prev mark : List ℕ) → Determined (outcome Collinear p next prev mark)
-simplified p next prev mark = by-its-definition _
+pub kept-part : Determined clean·kept-part.Learnt (λ κs x e. now x)
+kept-part = by-its-definition _ (λ κs a x e h. h)
 
-pub despiked : (p : List ℤ) (next prev mark : List ℕ) → Determined (outcome Spike p next prev mark)
-despiked p next prev mark = by-its-definition _
+-- Ranges.
+pub ranges-sound : Determined buffer·ranges·sound.Learnt (λ κs x e. x)
+ranges-sound = by-its-definition _ (λ κs a x e h. h)
 
-pub the-kept-part : (p out : List ℤ) → Determined (kept-part p out)
-the-kept-part p out = by-its-definition _
+pub pair-sound : Determined buffer·ranges·sound-pair.Learnt (λ κs x e. x)
+pair-sound = by-its-definition _ (λ κs a x e h. h)
 
-pub ranges-sound : (cs : List (List ℕ)) → Determined (λ (n : ℕ). sound (spans cs) n)
-ranges-sound cs = by-its-definition _
+-- of `sound_spans`, the equation of its contract written out: the checker has no plain reading of a contract over a slice of structs
+pub spans-sound : Determined (λ (κs : Unit {0}) (a : List Span × ℕ) (x : Bool) (e : Unit {0}). x ≡ sound (a .0) (a .1)) (λ κs x e. x)
+spans-sound = by-its-definition _ (λ κs a x e h. h)
 
-pub spans-sound : (l : List Span) → Determined (sound l)
-spans-sound l = by-its-definition _
+-- Sets of contours.
+pub contours-refused : Determined buffer·contours·refused.Learnt (λ κs x e. x)
+contours-refused = by-its-definition _ (λ κs a x e h. h)
 
-pub contours-refused : (p : List ℤ) → Determined (λ (cs : List (List ℕ)). first-of (Contours.refusals p cs))
-contours-refused p = by-its-definition _
+pub contours-is-empty : Determined buffer·contours·is-empty.Learnt (λ κs x e. x)
+contours-is-empty = by-its-definition _ (λ κs a x e h. h)
 
-pub contours-is-empty : (p : List ℤ) → Determined (Contours.is-empty p)
-contours-is-empty p = by-its-definition _
+pub contours-is-single-contour : Determined buffer·contours·is-single-contour.Learnt (λ κs x e. x)
+contours-is-single-contour = by-its-definition _ (λ κs a x e h. h)
 
-pub contours-is-single : (p : List ℤ) → Determined (Contours.is-single p)
-contours-is-single p = by-its-definition _
+pub contours-points-count : Determined buffer·contours·points-count.Learnt (λ κs x e. x)
+contours-points-count = by-its-definition _ (λ κs a x e h. h)
 
-pub contours-points-count : (p : List ℤ) → Determined (Contours.points-count p)
-contours-points-count p = by-its-definition _
+pub contours-contours-count : Determined buffer·contours·contours-count.Learnt (λ κs x e. x)
+contours-contours-count = by-its-definition _ (λ κs a x e h. h)
 
-pub contours-contours-count : (p : List ℤ) → Determined (Contours.contours-count p)
-contours-contours-count p = by-its-definition _
+pub contours-contour : Determined buffer·contours·contour.Learnt (λ κs x e. now x)
+contours-contour = by-its-definition _ (λ κs a x e h. h)
 
-pub contours-contour : (p : List ℤ) (cs : List (List ℕ)) → Determined (Contours.contour-at p cs)
-contours-contour p cs = by-its-definition _
+pub contours-first-contour : Determined buffer·contours·first-contour.Learnt (λ κs x e. now x)
+contours-first-contour = by-its-definition _ (λ κs a x e h. h)
 
-pub contours-first : (p : List ℤ) → Determined (Contours.first-contour p)
-contours-first p = by-its-definition _
+pub contours-set-with-contour : Determined buffer·contours·set-with-contour.Learnt (λ κs x e. Packed.left x (now (e .1 .0)) (now (e .1 .1 .0)) [])
+contours-set-with-contour = by-its-definition _ (λ κs a x e h. h)
 
-pub contours-with-contour : (p out : List ℤ) → Determined (Contours.with-contour p out)
-contours-with-contour p out = by-its-definition _
+pub contours-set-with-shape : Determined buffer·contours·set-with-shape.Learnt (λ κs x e. Packed.left x (now (e .1 .1 .0)) (now (e .1 .1 .1 .0)) [])
+contours-set-with-shape = by-its-definition _ (λ κs a x e h. h)
 
-pub contours-with-shape : (p : List ℤ) (cs : List (List ℕ)) (out : List ℤ) → Determined (Contours.with-shape p cs out)
-contours-with-shape p cs out = by-its-definition _
+pub contours-set-with-shapes : Determined buffer·contours·set-with-shapes.Learnt (λ κs x e. Packed.left x (now (e .1 .1 .1 .0)) (now (e .1 .1 .1 .1 .0)) [])
+contours-set-with-shapes = by-its-definition _ (λ κs a x e h. h)
 
-pub contours-with-shapes : (p : List ℤ) (cs ss : List (List ℕ)) (out : List ℤ) → Determined (Contours.with-shapes p cs ss out)
-contours-with-shapes p cs ss out = by-its-definition _
+pub contours-add-contour : Determined buffer·contours·add-contour.Learnt (λ κs x e. Packed.left x (now (e .1 .1 .1 .0)) (now (e .1 .1 .1 .1 .0)) [])
+contours-add-contour = by-its-definition _ (λ κs a x e h. h)
 
-pub contours-add : (p : List ℤ) (cs : List (List ℕ)) (more out : List ℤ) → Determined (Contours.with-one-more p cs more out)
-contours-add p cs more out = by-its-definition _
+-- Sets of shapes.
+pub shapes-refused : Determined buffer·shapes·refused.Learnt (λ κs x e. x)
+shapes-refused = by-its-definition _ (λ κs a x e h. h)
 
-pub shapes-refused : (p : List ℤ) (cs : List (List ℕ)) → Determined (λ (ss : List (List ℕ)). first-of (Shapes.refusals p cs ss))
-shapes-refused p cs = by-its-definition _
+pub shapes-is-empty : Determined buffer·shapes·is-empty.Learnt (λ κs x e. x)
+shapes-is-empty = by-its-definition _ (λ κs a x e h. h)
 
-pub shapes-is-empty : (p : List ℤ) (cs : List (List ℕ)) → Determined (Shapes.is-empty p cs)
-shapes-is-empty p cs = by-its-definition _
+pub shapes-points-count : Determined buffer·shapes·points-count.Learnt (λ κs x e. x)
+shapes-points-count = by-its-definition _ (λ κs a x e h. h)
 
-pub shapes-points-count : (p : List ℤ) (cs : List (List ℕ)) → Determined (Shapes.points-count p cs)
-shapes-points-count p cs = by-its-definition _
+pub shapes-contours-count : Determined buffer·shapes·contours-count.Learnt (λ κs x e. x)
+shapes-contours-count = by-its-definition _ (λ κs a x e h. h)
 
-pub shapes-contours-count : (p : List ℤ) (cs : List (List ℕ)) → Determined (Shapes.contours-count p cs)
-shapes-contours-count p cs = by-its-definition _
+pub shapes-shapes-count : Determined buffer·shapes·shapes-count.Learnt (λ κs x e. x)
+shapes-shapes-count = by-its-definition _ (λ κs a x e h. h)
 
-pub shapes-shapes-count : (p : List ℤ) (cs : List (List ℕ)) → Determined (Shapes.shapes-count p cs)
-shapes-shapes-count p cs = by-its-definition _
+pub shapes-contours-in : Determined buffer·shapes·contours-in.Learnt (λ κs x e. x)
+shapes-contours-in = by-its-definition _ (λ κs a x e h. h)
 
-pub shapes-contours-in : (p : List ℤ) (cs ss : List (List ℕ)) → Determined (Shapes.contours-in p cs ss)
-shapes-contours-in p cs ss = by-its-definition _
+pub shapes-contour-of : Determined buffer·shapes·contour-of.Learnt (λ κs x e. now x)
+shapes-contour-of = by-its-definition _ (λ κs a x e h. h)
 
-pub shapes-contour-of : (p : List ℤ) (cs ss : List (List ℕ)) (s : ℕ) → Determined (Shapes.contour-of p cs ss s)
-shapes-contour-of p cs ss s = by-its-definition _
+pub shapes-set-with-contour : Determined buffer·shapes·set-with-contour.Learnt (λ κs x e. Packed.left x (now (e .1 .0)) (now (e .1 .1 .0)) (now (e .1 .1 .1 .0)))
+shapes-set-with-contour = by-its-definition _ (λ κs a x e h. h)
 
-pub shapes-with-contour : (p out : List ℤ) (to : List (List ℕ)) → Determined (Shapes.with-contour p out to)
-shapes-with-contour p out to = by-its-definition _
+pub shapes-set-with-shape : Determined buffer·shapes·set-with-shape.Learnt (λ κs x e. Packed.left x (now (e .1 .1 .0)) (now (e .1 .1 .1 .0)) (now (e .1 .1 .1 .1 .0)))
+shapes-set-with-shape = by-its-definition _ (λ κs a x e h. h)
 
-pub shapes-with-shape : (p : List ℤ) (cs : List (List ℕ)) (out : List ℤ) (to : List (List ℕ)) → Determined (Shapes.with-shape p cs out to)
-shapes-with-shape p cs out to = by-its-definition _
+pub shapes-set-with-shapes : Determined buffer·shapes·set-with-shapes.Learnt (λ κs x e. Packed.left x (now (e .1 .1 .1 .0)) (now (e .1 .1 .1 .1 .0)) (now (e .1 .1 .1 .1 .1 .0)))
+shapes-set-with-shapes = by-its-definition _ (λ κs a x e h. h)
 
-pub shapes-with-shapes : (p : List ℤ) (cs ss : List (List ℕ)) (out : List ℤ) (to : List (List ℕ)) → Determined (Shapes.with-shapes p cs ss out to)
-shapes-with-shapes p cs ss out to = by-its-definition _
+pub shapes-add-shape : Determined buffer·shapes·add-shape.Learnt (λ κs x e. Packed.left x (now (e .1 .1 .1 .1 .1 .0)) (now (e .1 .1 .1 .1 .1 .1 .0)) (now (e .1 .1 .1 .1 .1 .1 .1 .0)))
+shapes-add-shape = by-its-definition _ (λ κs a x e h. h)
 
-pub shapes-add : (p : List ℤ) (cs ss : List (List ℕ)) (more : List ℤ) (ms : List (List ℕ)) (out : List ℤ) (to : List (List ℕ)) → Determined (Shapes.with-one-more p cs ss more ms out to)
-shapes-add p cs ss more ms out to = by-its-definition _
+-- Sets judged and cleaned.
+pub set-is-simple : Determined sets·simple·is-simple.Learnt (λ κs x e. x)
+set-is-simple = by-its-definition _ (λ κs a x e h. h)
 
-pub set-is-simple : (p : List ℤ) → Determined (Sets.simple p)
-set-is-simple p = by-its-definition _
+pub set-has-no-spikes : Determined sets·despike·has-no-spikes.Learnt (λ κs x e. x)
+set-has-no-spikes = by-its-definition _ (λ κs a x e h. h)
 
-pub set-has-no-spikes : (p : List ℤ) → Determined (Sets.spike-free p)
-set-has-no-spikes p = by-its-definition _
+pub set-area-two : Determined sets·areas·area-two.Learnt (λ κs x e. x)
+set-area-two = by-its-definition _ (λ κs a x e h. h)
 
-pub set-area-two : (p : List ℤ) → Determined (SetArea.doubled p)
-set-area-two p = by-its-definition _
+pub set-area : Determined sets·areas·area.Learnt (λ κs x e. x)
+set-area = by-its-definition _ (λ κs a x e h. h)
 
-pub set-area : (p : List ℤ) → Determined (SetArea.half p)
-set-area p = by-its-definition _
+pub in-shape : Determined sets·in-shape.Learnt (λ κs x e. x)
+in-shape = by-its-definition _ (λ κs a x e h. h)
 
-pub in-a-shape : (p : List ℤ) (cs : List (List ℕ)) (x : ℤ) → Determined (in-shape p cs x)
-in-a-shape p cs x = by-its-definition _
+pub simplified-shape : Determined sets·simple·simplified-shape.Learnt (λ κs x e. Sets.left x (Sets.lent (now (e .1 .1 .0)) (now (e .1 .1 .1 .0)) (now (e .1 .1 .1 .1 .0)) (now (e .1 .1 .1 .1 .1 .0)) (now (e .1 .1 .1 .1 .1 .1 .0)) []))
+simplified-shape = by-its-definition _ (λ κs a x e h. h)
 
-pub simplified-shape : (p : List ℤ) (cs : List (List ℕ)) → Determined (shape-outcome Collinear p cs)
-simplified-shape p cs = by-its-definition _
+pub despiked-shape : Determined sets·despike·despiked-shape.Learnt (λ κs x e. Sets.left x (Sets.lent (now (e .1 .1 .0)) (now (e .1 .1 .1 .0)) (now (e .1 .1 .1 .1 .0)) (now (e .1 .1 .1 .1 .1 .0)) (now (e .1 .1 .1 .1 .1 .1 .0)) []))
+despiked-shape = by-its-definition _ (λ κs a x e h. h)
 
-pub despiked-shape : (p : List ℤ) (cs : List (List ℕ)) → Determined (shape-outcome Spike p cs)
-despiked-shape p cs = by-its-definition _
+pub simplified-shapes : Determined sets·simple·simplified-shapes.Learnt (λ κs x e. Sets.left x (Sets.lent (now (e .1 .1 .1 .0)) (now (e .1 .1 .1 .1 .0)) (now (e .1 .1 .1 .1 .1 .0)) (now (e .1 .1 .1 .1 .1 .1 .0)) (now (e .1 .1 .1 .1 .1 .1 .1 .0)) (now (e .1 .1 .1 .1 .1 .1 .1 .1 .0))))
+simplified-shapes = by-its-definition _ (λ κs a x e h. h)
 
-pub simplified-shapes : (p : List ℤ) (cs ss : List (List ℕ)) → Determined (shapes-outcome Collinear p cs ss)
-simplified-shapes p cs ss = by-its-definition _
+pub despiked-shapes : Determined sets·despike·despiked-shapes.Learnt (λ κs x e. Sets.left x (Sets.lent (now (e .1 .1 .1 .0)) (now (e .1 .1 .1 .1 .0)) (now (e .1 .1 .1 .1 .1 .0)) (now (e .1 .1 .1 .1 .1 .1 .0)) (now (e .1 .1 .1 .1 .1 .1 .1 .0)) (now (e .1 .1 .1 .1 .1 .1 .1 .1 .0))))
+despiked-shapes = by-its-definition _ (λ κs a x e h. h)
 
-pub despiked-shapes : (p : List ℤ) (cs ss : List (List ℕ)) → Determined (shapes-outcome Spike p cs ss)
-despiked-shapes p cs ss = by-its-definition _
+-- Set files.
+pub read : Determined setfile·read.Learnt (λ κs x e. Packed.left x (now (e .1 .0)) (now (e .1 .1 .0)) (now (e .1 .1 .1 .0)))
+read = by-its-definition _ (λ κs a x e h. h)
 
-pub file-read : (f : List ℕ) (out : List ℤ) (to : List (List ℕ)) → Determined (Reading.outcome f out to)
-file-read f out to = by-its-definition _
-
-pub file-written : (p : List ℤ) (cs ss : List (List ℕ)) → Determined (Writing.outcome p cs ss)
-file-written p cs ss = by-its-definition _
+pub write : Determined setfile·write.Learnt (λ κs x e. Written.left (x .reply) (x .bytes) (now (e .1 .1 .1 .0)))
+write = by-its-definition _ (λ κs a x e h. h)

@@ -1,4 +1,6 @@
 -- What the proofs of several functions use.
 mod Coordinates
 pub mod Table
+pub mod OneOutcome
 pub mod Determined
+pub mod DeterminedForC

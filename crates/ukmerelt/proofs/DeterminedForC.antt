@@ -1,0 +1,112 @@
+-- The same of the functions that C and Rust call.
+use mathlib.Core.List.{[]}
+use denote.Ref.{now}
+use Rattle.clean.specs.Outcome as Cleaned
+use Rattle.buffer.specs.Answers as Packed
+use Rattle.sets.specs.Outcome as Sets
+use Rattle.setfile.specs.Writing as Written
+use Rattle.ukmerelt.proofs.OneOutcome.{Determined, by-its-definition}
+use Rattle.ukmerelt.proofs.contours.ukm_area_two.Reads as ukm-area-two·contract
+use Rattle.ukmerelt.proofs.contours.ukm_area.Reads as ukm-area·contract
+use Rattle.ukmerelt.proofs.contours.ukm_is_convex.Reads as ukm-is-convex·contract
+use Rattle.ukmerelt.proofs.contours.ukm_is_clockwise.Reads as ukm-is-clockwise·contract
+use Rattle.ukmerelt.proofs.contours.ukm_contains.Reads as ukm-contains·contract
+use Rattle.ukmerelt.proofs.contours.ukm_is_simple.Reads as ukm-is-simple·contract
+use Rattle.ukmerelt.proofs.contours.ukm_has_no_spikes.Reads as ukm-has-no-spikes·contract
+use Rattle.ukmerelt.proofs.contours.ukm_simplified.Reads as ukm-simplified·contract
+use Rattle.ukmerelt.proofs.contours.ukm_despiked.Reads as ukm-despiked·contract
+use Rattle.ukmerelt.proofs.contour_sets.ukm_ranges_sound.Reads as ukm-ranges-sound·contract
+use Rattle.ukmerelt.proofs.contour_sets.ukm_set_is_simple.Reads as ukm-set-is-simple·contract
+use Rattle.ukmerelt.proofs.contour_sets.ukm_set_has_no_spikes.Reads as ukm-set-has-no-spikes·contract
+use Rattle.ukmerelt.proofs.contour_sets.ukm_set_area_two.Reads as ukm-set-area-two·contract
+use Rattle.ukmerelt.proofs.contour_sets.ukm_set_area.Reads as ukm-set-area·contract
+use Rattle.ukmerelt.proofs.contour_sets.ukm_in_shape.Reads as ukm-in-shape·contract
+use Rattle.ukmerelt.proofs.shapes.ukm_simplified_shape.Reads as ukm-simplified-shape·contract
+use Rattle.ukmerelt.proofs.shapes.ukm_despiked_shape.Reads as ukm-despiked-shape·contract
+use Rattle.ukmerelt.proofs.shapes.ukm_simplified_shapes.Reads as ukm-simplified-shapes·contract
+use Rattle.ukmerelt.proofs.shapes.ukm_despiked_shapes.Reads as ukm-despiked-shapes·contract
+use Rattle.ukmerelt.proofs.packing.ukm_pack_contour.Reads as ukm-pack-contour·contract
+use Rattle.ukmerelt.proofs.packing.ukm_pack_shape.Reads as ukm-pack-shape·contract
+use Rattle.ukmerelt.proofs.packing.ukm_pack_shapes.Reads as ukm-pack-shapes·contract
+use Rattle.ukmerelt.proofs.packing.ukm_add_contour.Reads as ukm-add-contour·contract
+use Rattle.ukmerelt.proofs.packing.ukm_add_shape.Reads as ukm-add-shape·contract
+use Rattle.ukmerelt.proofs.files.ukm_read_set.Reads as ukm-read-set·contract
+use Rattle.ukmerelt.proofs.files.ukm_write_set.Reads as ukm-write-set·contract
+
+pub ukm-area-two : Determined ukm-area-two·contract.Learnt (λ κs x e. x)
+ukm-area-two = by-its-definition _ (λ κs a x e h. h)
+
+pub ukm-area : Determined ukm-area·contract.Learnt (λ κs x e. x)
+ukm-area = by-its-definition _ (λ κs a x e h. h)
+
+pub ukm-is-convex : Determined ukm-is-convex·contract.Learnt (λ κs x e. x)
+ukm-is-convex = by-its-definition _ (λ κs a x e h. h)
+
+pub ukm-is-clockwise : Determined ukm-is-clockwise·contract.Learnt (λ κs x e. x)
+ukm-is-clockwise = by-its-definition _ (λ κs a x e h. h)
+
+pub ukm-contains : Determined ukm-contains·contract.Learnt (λ κs x e. x)
+ukm-contains = by-its-definition _ (λ κs a x e h. h)
+
+pub ukm-is-simple : Determined ukm-is-simple·contract.Learnt (λ κs x e. x)
+ukm-is-simple = by-its-definition _ (λ κs a x e h. h)
+
+pub ukm-has-no-spikes : Determined ukm-has-no-spikes·contract.Learnt (λ κs x e. x)
+ukm-has-no-spikes = by-its-definition _ (λ κs a x e h. h)
+
+pub ukm-simplified : Determined ukm-simplified·contract.Learnt (λ κs x e. Cleaned.left x (now (e .1 .0)) (now (e .1 .1 .0)) (now (e .1 .1 .1 .0)) (now (e .1 .1 .1 .1 .0)))
+ukm-simplified = by-its-definition _ (λ κs a x e h. h)
+
+pub ukm-despiked : Determined ukm-despiked·contract.Learnt (λ κs x e. Cleaned.left x (now (e .1 .0)) (now (e .1 .1 .0)) (now (e .1 .1 .1 .0)) (now (e .1 .1 .1 .1 .0)))
+ukm-despiked = by-its-definition _ (λ κs a x e h. h)
+
+pub ukm-ranges-sound : Determined ukm-ranges-sound·contract.Learnt (λ κs x e. x)
+ukm-ranges-sound = by-its-definition _ (λ κs a x e h. h)
+
+pub ukm-set-is-simple : Determined ukm-set-is-simple·contract.Learnt (λ κs x e. x)
+ukm-set-is-simple = by-its-definition _ (λ κs a x e h. h)
+
+pub ukm-set-has-no-spikes : Determined ukm-set-has-no-spikes·contract.Learnt (λ κs x e. x)
+ukm-set-has-no-spikes = by-its-definition _ (λ κs a x e h. h)
+
+pub ukm-set-area-two : Determined ukm-set-area-two·contract.Learnt (λ κs x e. x)
+ukm-set-area-two = by-its-definition _ (λ κs a x e h. h)
+
+pub ukm-set-area : Determined ukm-set-area·contract.Learnt (λ κs x e. x)
+ukm-set-area = by-its-definition _ (λ κs a x e h. h)
+
+pub ukm-in-shape : Determined ukm-in-shape·contract.Learnt (λ κs x e. x)
+ukm-in-shape = by-its-definition _ (λ κs a x e h. h)
+
+pub ukm-simplified-shape : Determined ukm-simplified-shape·contract.Learnt (λ κs x e. Sets.left x (Sets.lent (now (e .1 .1 .0)) (now (e .1 .1 .1 .0)) (now (e .1 .1 .1 .1 .0)) (now (e .1 .1 .1 .1 .1 .0)) (now (e .1 .1 .1 .1 .1 .1 .0)) []))
+ukm-simplified-shape = by-its-definition _ (λ κs a x e h. h)
+
+pub ukm-despiked-shape : Determined ukm-despiked-shape·contract.Learnt (λ κs x e. Sets.left x (Sets.lent (now (e .1 .1 .0)) (now (e .1 .1 .1 .0)) (now (e .1 .1 .1 .1 .0)) (now (e .1 .1 .1 .1 .1 .0)) (now (e .1 .1 .1 .1 .1 .1 .0)) []))
+ukm-despiked-shape = by-its-definition _ (λ κs a x e h. h)
+
+pub ukm-simplified-shapes : Determined ukm-simplified-shapes·contract.Learnt (λ κs x e. Sets.left x (Sets.lent (now (e .1 .1 .1 .0)) (now (e .1 .1 .1 .1 .0)) (now (e .1 .1 .1 .1 .1 .0)) (now (e .1 .1 .1 .1 .1 .1 .0)) (now (e .1 .1 .1 .1 .1 .1 .1 .0)) (now (e .1 .1 .1 .1 .1 .1 .1 .1 .0))))
+ukm-simplified-shapes = by-its-definition _ (λ κs a x e h. h)
+
+pub ukm-despiked-shapes : Determined ukm-despiked-shapes·contract.Learnt (λ κs x e. Sets.left x (Sets.lent (now (e .1 .1 .1 .0)) (now (e .1 .1 .1 .1 .0)) (now (e .1 .1 .1 .1 .1 .0)) (now (e .1 .1 .1 .1 .1 .1 .0)) (now (e .1 .1 .1 .1 .1 .1 .1 .0)) (now (e .1 .1 .1 .1 .1 .1 .1 .1 .0))))
+ukm-despiked-shapes = by-its-definition _ (λ κs a x e h. h)
+
+pub ukm-pack-contour : Determined ukm-pack-contour·contract.Learnt (λ κs x e. Packed.left x (now (e .1 .0)) (now (e .1 .1 .0)) (now (e .1 .1 .1 .0)))
+ukm-pack-contour = by-its-definition _ (λ κs a x e h. h)
+
+pub ukm-pack-shape : Determined ukm-pack-shape·contract.Learnt (λ κs x e. Packed.left x (now (e .1 .1 .0)) (now (e .1 .1 .1 .0)) (now (e .1 .1 .1 .1 .0)))
+ukm-pack-shape = by-its-definition _ (λ κs a x e h. h)
+
+pub ukm-pack-shapes : Determined ukm-pack-shapes·contract.Learnt (λ κs x e. Packed.left x (now (e .1 .1 .1 .0)) (now (e .1 .1 .1 .1 .0)) (now (e .1 .1 .1 .1 .1 .0)))
+ukm-pack-shapes = by-its-definition _ (λ κs a x e h. h)
+
+pub ukm-add-contour : Determined ukm-add-contour·contract.Learnt (λ κs x e. Packed.left x (now (e .1 .1 .1 .0)) (now (e .1 .1 .1 .1 .0)) [])
+ukm-add-contour = by-its-definition _ (λ κs a x e h. h)
+
+pub ukm-add-shape : Determined ukm-add-shape·contract.Learnt (λ κs x e. Packed.left x (now (e .1 .1 .1 .1 .1 .0)) (now (e .1 .1 .1 .1 .1 .1 .0)) (now (e .1 .1 .1 .1 .1 .1 .1 .0)))
+ukm-add-shape = by-its-definition _ (λ κs a x e h. h)
+
+pub ukm-read-set : Determined ukm-read-set·contract.Learnt (λ κs x e. Packed.left x (now (e .1 .0)) (now (e .1 .1 .0)) (now (e .1 .1 .1 .0)))
+ukm-read-set = by-its-definition _ (λ κs a x e h. h)
+
+pub ukm-write-set : Determined ukm-write-set·contract.Learnt (λ κs x e. Written.left (x .reply) (x .bytes) (now (e .1 .1 .1 .0)))
+ukm-write-set = by-its-definition _ (λ κs a x e h. h)
