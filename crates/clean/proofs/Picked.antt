@@ -13,9 +13,11 @@ use Rattle.grid.specs.Neighbours.{preceding, following, leaving-out}
 use Rattle.grid.specs.Domain.{Contour}
 use Rattle.grid.proofs.RowLaws.{points-more, points-done}
 use Rattle.ring.specs.declared.Rule.{Rule}
-use Rattle.ring.specs.Walk.{survivors-from, survivors, fresh}
+use Rattle.ring.specs.Walk.{survivors-from, survivors, fresh, to-go}
 use Rattle.ring.specs.Rule.{goes-at, goes, corner-of}
 use Rattle.ring.specs.Promises.{would-go}
+use Rattle.ring.proofs.Filling.{fresh-stands}
+use Rattle.ring.proofs.Listed.{to-go-listed}
 use Rattle.clean.specs.Outcome.{chosen}
 
 module _ (row : List ℤ) where
@@ -66,3 +68,9 @@ module _ (row : List ℤ) where
 
     pub picked-all : picked (survivors (fresh n)) ≡ points row
     picked-all = all-from n 0 (omega arith)
+
+    -- what the rule says of a position of the ring it says of the contour's corner there
+    pub ring-corner : (rule : Rule) (j : ℕ) → j < n → to-go (goes rule row) (fresh n) j ≡ goes-at rule (corner-in (points row) j)
+    ring-corner rule j h =
+        let a = fresh-stands n j h in
+        to-go-listed (goes rule row) a ∙ would-go-picked rule (survivors (fresh n)) j (a .inside) ∙ ap (λ (l : List Point). goes-at rule (corner-in l j)) picked-all

@@ -1,14 +1,15 @@
 -- Which contours a cleaner gives back as they are, and how the verdicts tell them.
 use mathlib.Core.Path.{_≡_, refl, sym, _∙_, ap}
 use mathlib.Core.Bool.{true, false, not}
+use mathlib.Core.Logic.{⊎-elim}
 use mathlib.Core.List.{List, [], _∷_}
 use Prim.Native.Nat.{ℕ, zero, suc, _+_, _*_, _<_, _≤_}
 use native.Mathlib.Omega.{arith}
-use lib.Dec.{leb}
+use lib.Dec.{leb, eqb}
 use lib.IntN.{ℤ, pos}
-use lib.ListN.{length, getD, take, drop, drop-of-length-le}
+use lib.ListN.{length, getD, take, drop, length-replicate, drop-of-length-le}
 use lib.Seq.{drop-cons, take-append-seam}
-use borrow.Author.Tests.{le-leb, not-true}
+use borrow.Author.Tests.{le-leb, eq-eqb, ne-eqb, not-true}
 use Rattle.integers.proofs.Logic.{and-right, or-left, or-right}
 use Rattle.grid.specs.declared.Point.{Point}
 use Rattle.grid.specs.Points.{at, origin, points, same}
@@ -24,32 +25,50 @@ use Rattle.ring.specs.declared.Rule.the-variants.{Collinear, Spike}
 use Rattle.ring.specs.Walk.{survivors-from, survivors, fresh, walk}
 use Rattle.ring.specs.Walk.Stage.{kept}
 use Rattle.ring.specs.Rule.{goes-at, goes}
-use Rattle.ring.specs.Promises.{Rising, Settled}
+use Rattle.ring.specs.Promises.{Rising}
+use Rattle.ring.specs.Rows.{FirstStand, Standing}
+use Rattle.ring.proofs.Cases.{which, less?, true-false}
+use Rattle.ring.proofs.Marks.{inside}
 use Rattle.ring.proofs.Survivors.{fresh-count}
-use Rattle.ring.proofs.Listed.{place, to-go-listed}
+use Rattle.ring.proofs.Listed.{rising-few}
 use Rattle.ring.proofs.Theorems.{kept-clean, unchanged-after-n}
 use Rattle.clean.specs.Verdicts.{is-simple, no-spike-left, no-spikes}
 use Rattle.clean.specs.Outcome.{refusals, walked, chosen, zeroed, answer, Left, left, outcome}
 use Rattle.clean.specs.Inside.{Settled as Whole}
 use Rattle.clean.proofs.OutcomeLaws.{accepted, contour-count, outcome-done}
-use Rattle.clean.proofs.Picked.{would-go-picked, picked-all}
+use Rattle.clean.proofs.Picked.{would-go-picked, picked-all, ring-corner}
 use Rattle.clean.proofs.Theorems.{kept-in-order}
 
 -- no vertex of the contour would go
 abbrev pub Stands : Rule → List Point → Type 0
 Stands rule l = (j : ℕ) → j < length l → goes-at rule (corner-in l j) ≡ false
 
+module _ (rule : Rule) (row : List ℤ) {n : ℕ} (c : Contour row n) where
+  -- the look along the edges says whether none would
+  pub front-stands : FirstStand (goes rule row) n n → Stands rule (points row)
+  front-stands f j h = let l : j < n = omega (arith, points-length c) in sym (ring-corner row c rule j l) ∙ f j l
+
+  pub standing-all : {k : ℕ} → Standing (goes rule row) n k → eqb k n ≡ not (some (goes-at rule) (corners (points row)))
+  standing-all {k} x = ⊎-elim part whole (less? k n)
+    where
+      part : k < n → eqb k n ≡ not (some (goes-at rule) (corners (points row)))
+      part l = ne-eqb k n (λ e. omega arith) ∙ sym (⊎-elim
+          (λ s. ap not s)
+          (λ s. true-false (x .next-goes l) (ring-corner row c rule k l ∙ no-corner (goes-at rule) (points row) s k (omega (arith, points-length c))))
+          (which (some (goes-at rule) (corners (points row)))))
+
+      whole : n ≤ k → eqb k n ≡ not (some (goes-at rule) (corners (points row)))
+      whole l =
+          let e : k ≡ n = omega (arith, x .within) in
+          eq-eqb k n e ∙ sym (ap not (corner-none (goes-at rule) (points row) (front-stands (rw e at (x .stand)))))
+
 module _ (rule : Rule) (row : List ℤ) {n : ℕ} (c : Contour row n) (many : 3 ≤ n) where
   -- where nothing is to go, all is kept, after exactly n decisions
+  front-unchanged : FirstStand (goes rule row) n n → walk (goes rule row) n ≡ kept (survivors (fresh n)) n
+  front-unchanged f = unchanged-after-n (goes rule row) n many (λ q x. f q (rw length-replicate at (inside (fresh n) q x)))
+
   pub stands-unchanged : Stands rule (points row) → walk (goes rule row) n ≡ kept (survivors (fresh n)) n
-  stands-unchanged f = unchanged-after-n (goes rule row) n many settled
-    where
-      settled : Settled (goes rule row) (fresh n)
-      settled q x =
-          let a = place (fresh n) q x in
-          let l = a .1 .inside in
-          let h : a .0 < length (points row) = omega (arith, l, fresh-count n, points-length c) in
-          to-go-listed (goes rule row) (a .1) ∙ would-go-picked row rule (survivors (fresh n)) (a .0) l ∙ rw (picked-all row c) (f (a .0) h)
+  stands-unchanged f = front-unchanged (λ j h. ring-corner row c rule j h ∙ f j (omega (arith, points-length c)))
 
   -- and where all is kept, nothing was to go
   pub unchanged-stands : {k : ℕ} → walk (goes rule row) n ≡ kept (survivors (fresh n)) k → Stands rule (points row)
@@ -74,25 +93,19 @@ module _ (row : List ℤ) {n : ℕ} (c : Contour row n) where
 
 -- what a cleaning comes to where no vertex is to go
 module _ (rule : Rule) (row out : List ℤ) {n : ℕ} (c : Contour row n) (many : 3 ≤ n) where
-  pub settled-untouched : not (some (goes-at rule) (corners (points row))) ≡ true → (exit : List ℤ) → exit ≡ front row out → Whole rule row out (answer 0 n n) exit
-  settled-untouched u exit e =
-      let w : walked rule row ≡ kept (survivors (fresh n)) n =
-      ap (walk (goes rule row)) (contour-count c) ∙ stands-unchanged rule row c many (no-corner (goes-at rule) (points row) (not-true _ u)) in
+  pub settled-untouched : {k : ℕ} → Standing (goes rule row) n k → k ≡ n → (exit : List ℤ) → exit ≡ front row out → Whole rule row out (answer 0 n n) exit
+  settled-untouched x all exit e =
+      let w : walked rule row ≡ kept (survivors (fresh n)) n = ap (walk (goes rule row)) (contour-count c) ∙ front-unchanged rule row c many (rw all at (x .stand)) in
       record { answer = rw (w, fresh-count n); output = rw (w, chosen-all row c) e }
 
 -- as many rising positions as there are places are all of them
-rising-few : (low high : ℕ) (s : List ℕ) → low ≤ high → Rising low high s → length s + low ≤ high
-rising-few low high [] h r = omega arith
-rising-few low high (x ∷ s) h r = omega (arith, r .0, r .1, rising-few (suc x) high s (omega (arith, r .1)) (r .2))
-
 rising-all : (m low high : ℕ) (s : List ℕ) → low + m ≡ high → Rising low high s → length s ≡ m → s ≡ survivors-from low (fresh m)
 unfolding survivors-from
 rising-all zero low high [] g r e = refl
 rising-all zero low high (x ∷ s) g r e = absurd (omega arith)
 rising-all (suc m) low high [] g r e = absurd (omega arith)
 rising-all (suc m) low high (x ∷ s) g r e =
-    let h = rising-few (suc x) high s (omega (arith, r .1)) (r .2) in
-    let f : x ≡ low = omega (arith, r .0, h) in
+    let f : x ≡ low = omega (arith, r .0, r .1, rising-few (suc x) high s (r .2)) in
     rw f (ap (λ (l : List ℕ). low ∷ l) (rising-all m (suc low) high s (omega arith) (rw f at (r .2)) (omega arith)))
 
 -- A call that is not refused, on a contour of three points or more.
@@ -168,5 +181,5 @@ module _ (row : List ℤ) (next prev mark : List ℕ) (out : List ℤ)
     unchanged-is-spike-free z a = stands-spike-free (points row) many-points (all-kept-stands Spike row next prev mark out room many o is z a)
 
 -- a contour of which no vertex would be despiked has no spikes
-pub untouched-free : (row : List ℤ) → 3 ≤ count row → not (some (goes-at Spike) (corners (points row))) ≡ true → no-spikes (points row) ≡ true
-untouched-free row many u = stands-spike-free (points row) (omega (arith, points-count row)) (no-corner (goes-at Spike) (points row) (not-true _ u)) .0
+pub untouched-free : (row : List ℤ) → Contour row (count row) → 3 ≤ count row → {k : ℕ} → Standing (goes Spike row) (count row) k → k ≡ count row → no-spikes (points row) ≡ true
+untouched-free row c many x all = stands-spike-free (points row) (omega (arith, points-count row)) (front-stands Spike row c (rw all at (x .stand))) .0

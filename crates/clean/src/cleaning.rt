@@ -92,7 +92,7 @@ pub fn zero_bytes(row: &mut [u8])
 }
 
 // The walk and what it writes, with scratch of exactly the points' count. Where no vertex is to go the contour is
-// copied, after as many decisions, and nothing is linked.
+// copied, after as many decisions, and nothing is linked; otherwise the walk begins at the first that is.
 pub fn settle(
     rule: Rule,
     points: &[i32],
@@ -111,7 +111,8 @@ pub fn settle(
             decisions: 0,
         };
     }
-    if ring::untouched(rule, points, mark.len()) {
+    let standing = ring::standing(rule, points, mark.len());
+    if standing == mark.len() {
         buffer::copy::numbers(points, out, 0);
         return Cleaned {
             reply: grid::reply::DONE,
@@ -119,7 +120,7 @@ pub fn settle(
             decisions: mark.len(),
         };
     }
-    let walked = ring::walk(rule, points, next, prev, mark);
+    let walked = ring::walk(rule, points, standing, next, prev, mark);
     let decisions = walked.decisions;
     if walked.kept {
         Cleaned {

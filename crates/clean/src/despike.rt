@@ -61,7 +61,7 @@ pub fn has_no_spikes(points: &[i32]) -> Verdict
             yes: false,
         };
     }
-    if ring::untouched(Rule::Spike, points, n) {
+    if ring::standing(Rule::Spike, points, n) == n {
         return Verdict {
             reply: grid::reply::DONE,
             yes: true,

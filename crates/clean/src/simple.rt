@@ -28,7 +28,7 @@ pub fn is_simple(points: &[i32]) -> Verdict
     }
     Verdict {
         reply: grid::reply::DONE,
-        yes: ring::untouched(Rule::Collinear, points, n),
+        yes: ring::standing(Rule::Collinear, points, n) == n,
     }
 }
 

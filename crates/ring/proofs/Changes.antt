@@ -1,5 +1,5 @@
 -- What a row is after a survivor is marked, unmarked or removed: who survives, what is marked, and how many.
-use Prim.Native.Nat.{ℕ, _+_, _<_, _≤_}
+use Prim.Native.Nat.{ℕ, zero, suc, _+_, _<_, _≤_}
 use native.Mathlib.Omega.{arith}
 use mathlib.Core.Path.{_≡_, sym, ap, _∙_}
 use mathlib.Core.Logic.{⊎-elim}
@@ -7,9 +7,10 @@ use mathlib.Core.List.{List}
 use lib.ListN.{length, set, length-set}
 use lib.Seq.{getD-set-same, getD-set-other}
 use borrow.Author.Tests.{lt-ltb}
-use Rattle.ring.specs.Walk.{unmarked, marked, removed, mark-at, Survivor, survivors, successor, predecessor, count, unmark, unmark-about, remove}
+use Rattle.ring.specs.Walk.{unmarked, marked, removed, mark-at, Survivor, survivors, successor, predecessor, count, unmark, unmark-about, remove, fresh}
+use Rattle.ring.specs.Rows.{first-marked}
 use Rattle.ring.proofs.Cases.{same?}
-use Rattle.ring.proofs.Marks.{inside, recount, unmark-yes, unmark-no}
+use Rattle.ring.proofs.Marks.{inside, recount, unmark-yes, unmark-no, first-none, first-more, first-due}
 use Rattle.ring.proofs.Survivors.{Same, same-refl, same-trans, same-survivor, same-survivors, survivor-count}
 use Rattle.ring.proofs.Neighbours.{Alone, successor-survives, predecessor-survives, predecessor-other, gap-successor}
 
@@ -22,6 +23,13 @@ same-set m c v s h = record {
       (λ n. rw (getD-set-other m c q v removed n))
       (same? q c);
 }
+
+-- Marking from the front takes none out of the ring.
+pub first-same : (n k : ℕ) → k ≤ n → Same (fresh n) (first-marked n k)
+first-same n zero h = rw (first-none n) (same-refl (fresh n))
+first-same n (suc k) h =
+    let d = first-due n k (omega arith) in
+    same-trans (first-same n k (omega arith)) (rw (← first-more n k (omega arith)) (same-set (first-marked n k) k marked (omega arith) (omega arith)))
 
 same-unmark : (m : List ℕ) (p : ℕ) → Same m (unmark m p)
 same-unmark m p = ⊎-elim

@@ -21,8 +21,25 @@ fresh-listed i zero k h = absurd (omega arith)
 fresh-listed i (suc n) zero h = omega arith
 fresh-listed i (suc n) (suc k) h = fresh-listed (suc i) n k (omega arith) ∙ omega arith
 
-fresh-stands : (n k : ℕ) → k < n → At (fresh n) k k
+pub fresh-stands : (n k : ℕ) → k < n → At (fresh n) k k
 fresh-stands n k h = let e : getD (survivors (fresh n)) k 0 ≡ k = fresh-listed 0 n k h ∙ omega arith in rw e at (at (fresh n) k (omega (arith, fresh-count n)))
+
+-- Its neighbours are the numbers beside it; the first follows the last.
+pub fresh-next : (n k : ℕ) → suc k < n → successor (fresh n) k ≡ suc k
+fresh-next n k h =
+    let l : List ℕ = survivors (fresh n) in
+    fresh-stands n k (omega arith) .after ∙ any-default l (suc k) (getD l 0 0) 0 (omega (arith, fresh-count n)) ∙ fresh-listed 0 n (suc k) h ∙ omega arith
+
+pub fresh-round : (n k : ℕ) → suc k ≡ n → successor (fresh n) k ≡ 0
+fresh-round n k e =
+    let l : List ℕ = survivors (fresh n) in
+    fresh-stands n k (omega arith) .after ∙ List·getD-eq-default l (getD l 0 0) (omega (arith, fresh-count n)) ∙ fresh-listed 0 n 0 (omega arith) ∙ omega arith
+
+pub fresh-before : (n k : ℕ) → suc k < n → predecessor (fresh n) (suc k) ≡ k
+fresh-before n k h = fresh-stands n (suc k) h .before ∙ fresh-listed 0 n k (omega arith) ∙ omega arith
+
+pub fresh-last : (n : ℕ) → 0 < n → predecessor (fresh n) 0 ≡ n - 1
+fresh-last n h = fresh-stands n 0 h .before ∙ fresh-listed 0 n _ (omega (arith, fresh-count n)) ∙ omega (arith, fresh-count n)
 
 linked-fresh : (n : ℕ) (next prev : List ℕ) → length next ≡ n → length prev ≡ n → getD next (n - 1) 0 ≡ 0 → getD prev 0 0 ≡ n - 1
     → ((k : ℕ) → suc k < n → (getD next k 0 ≡ suc k) × (getD prev (suc k) 0 ≡ k)) → Linked (fresh n) next prev
@@ -34,18 +51,14 @@ linked-fresh n next prev ln lp round first links = record {
 }
   where
     ahead : (p : ℕ) → p < n → getD next p 0 ≡ successor (fresh n) p
-    ahead p h =
-        let l : List ℕ = survivors (fresh n) in
-        ⊎-elim
-        (λ i. links p i .0 ∙ sym (fresh-stands n p h .after ∙ any-default l (suc p) (getD l 0 0) 0 (omega (arith, fresh-count n)) ∙ fresh-listed 0 n (suc p) i ∙ omega arith))
-        (λ i.
-        let z : p ≡ n - 1 = omega arith in
-        ap (λ w. getD next w 0) z ∙ round ∙ sym (fresh-stands n p h .after ∙ List·getD-eq-default l (getD l 0 0) (omega (arith, fresh-count n)) ∙ fresh-listed 0 n 0 (omega arith) ∙ omega arith))
+    ahead p h = ⊎-elim
+        (λ i. links p i .0 ∙ sym (fresh-next n p i))
+        (λ i. let z : p ≡ n - 1 = omega arith in ap (λ w. getD next w 0) z ∙ round ∙ sym (fresh-round n p (omega arith)))
         (less? (suc p) n)
 
     back : (p : ℕ) → p < n → getD prev p 0 ≡ predecessor (fresh n) p
-    back zero h = first ∙ sym (fresh-stands n 0 h .before ∙ fresh-listed 0 n _ (omega (arith, fresh-count n)) ∙ omega (arith, fresh-count n))
-    back (suc k) h = links k h .1 ∙ sym (fresh-stands n (suc k) h .before ∙ fresh-listed 0 n k (omega arith) ∙ omega arith)
+    back zero h = first ∙ sym (fresh-last n h)
+    back (suc k) h = links k h .1 ∙ sym (fresh-before n k h)
 
 -- The positions below i of a ring of n are linked, and none of them is marked.
 pub record Filled (n i : ℕ) (next prev mark : List ℕ) : Type 0 where

@@ -20,6 +20,11 @@ rising-down : (low low′ high : ℕ) (s : List ℕ) → low′ ≤ low → Risi
 rising-down low low′ high [] h r = tt
 rising-down low low′ high (x ∷ s) h r = (omega (arith, r .0), r .1, r .2)
 
+-- Rising positions are no more than there are places.
+pub rising-few : (low high : ℕ) (s : List ℕ) → Rising low high s → length s ≤ high - low
+rising-few low high [] r = omega arith
+rising-few low high (x ∷ s) r = omega (arith, r .0, r .1, rising-few (suc x) high s (r .2))
+
 pub survivors-rise : (i high : ℕ) (m : List ℕ) → i + length m ≤ high → Rising i high (survivors-from i m)
 unfolding survivors-from
 survivors-rise i high [] h = tt

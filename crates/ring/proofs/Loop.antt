@@ -7,12 +7,12 @@ use mathlib.Core.Bool.{Bool, true, false}
 use lib.ListN.{length, getD, set}
 use Rattle.ring.specs.Walk.{unmarked, marked, removed, mark-at, Survivor, survivors, successor, predecessor, count, to-go, walk}
 use Rattle.ring.specs.Walk.Stage.{kept, collapsed}
-use Rattle.ring.specs.Rows.{Linked, AllLinked, Removable, Removed}
+use Rattle.ring.specs.Rows.{Linked, AllLinked, first-marked, FirstStand, Begun, Removable, Removed}
 use Rattle.grid.proofs.RowLaws.{any-default}
-use Rattle.ring.proofs.Marks.{fresh-unmarked}
-use Rattle.ring.proofs.Survivors.{survivor-count, fresh-count}
-use Rattle.ring.proofs.Changes.{same-set, mark-counts, remove-counts}
-use Rattle.ring.proofs.Moments.{Reached, begun, stayed, went, moment}
+use Rattle.ring.proofs.Marks.{first-unmarked}
+use Rattle.ring.proofs.Survivors.{same-survivors, survivor-count, fresh-count}
+use Rattle.ring.proofs.Changes.{same-set, first-same, mark-counts, remove-counts}
+use Rattle.ring.proofs.Moments.{Reached, reached-first, stayed, went, moment}
 use Rattle.ring.proofs.Ahead.{idle, visits-room}
 use Rattle.ring.proofs.Ends.{walk-many, settled-answer, fallen-after}
 use Rattle.ring.proofs.Links.{Here, here, linked-same}
@@ -27,17 +27,20 @@ module _ (goes : ℕ → ℕ → ℕ → Bool) (n : ℕ) where
     pub left-is : left ≡ length (survivors mark)
     pub total-is : total ≡ made + count unmarked mark
 
-  module _ (big : 3 ≤ n) where
-    pub turn-start : {next prev mark : List ℕ} → AllLinked n mark next prev → Turn next prev mark n n 0
-    turn-start {next} {prev} {mark} x = record {
-      made = 0;
-      visits = 0;
-      reached = rw (x .marks) begun;
-      linked = x .linked;
-      left-is = sym (ap (λ l. length (survivors l)) (x .marks) ∙ fresh-count n);
-      total-is = omega (arith, ap (count unmarked) (x .marks), fresh-unmarked n);
-    }
+  -- The code begins where the first k positions stand and are marked.
+  pub turn-start : {k : ℕ} {next prev mark : List ℕ} → Begun goes n k mark next prev → Turn next prev mark n n k
+  turn-start {k} x =
+      let h = x .inside in
+      record {
+        made = k;
+        visits = k;
+        reached = rw (x .marks) (reached-first goes n k h (x .stand));
+        linked = x .linked;
+        left-is = rw (x .marks) (sym (ap length (sym (same-survivors 0 (first-same n k (omega arith)))) ∙ fresh-count n));
+        total-is = rw (x .marks) (omega (arith, first-unmarked n k (omega arith)));
+      }
 
+  module _ (big : 3 ≤ n) where
     module _ {next prev mark : List ℕ} {left total p : ℕ} (x : Turn next prev mark left total p) where
       -- What a turn can rely on: its places lie inside the rows, its numbers stay small, and it reads the mark that the walk has.
       pub record Known : Type 0 where
@@ -112,3 +115,13 @@ module _ (goes : ℕ → ℕ → ℕ → Bool) (n : ℕ) where
         turn-fall t h u e =
             let v = visits-room goes n big (x .reached) in
             walk-many goes n big ∙ fallen-after goes n big (x .reached) due t (omega (arith, x .left-is)) (suc (3 * n)) (omega arith) ∙ ap collapsed (omega (arith, x .total-is))
+
+-- A ring that is linked, and then marked from the front.
+pub begun-first : {goes : ℕ → ℕ → ℕ → Bool} {n k : ℕ} {mark next prev mark′ : List ℕ} → AllLinked n mark next prev → k < n → FirstStand goes n k
+    → mark′ ≡ first-marked n k → Begun goes n k mark′ next prev
+begun-first {n = n} {k = k} x h f e = record {
+  inside = h;
+  stand = f;
+  marks = e;
+  linked = rw e (linked-same (first-same n k (omega arith)) (rw (x .marks) at (x .linked)));
+}

@@ -1,14 +1,17 @@
 -- How many positions have each mark, and how that changes.
-use Prim.Native.Nat.{ℕ, zero, suc, _+_, _<_}
+use Prim.Native.Nat.{ℕ, zero, suc, _+_, _-_, _<_, _≤_}
 use native.Mathlib.Omega.{arith}
-use mathlib.Core.Path.{_≡_, refl, ap, _∙_}
+use native.Mathlib.Numerals.{add-one}
+use mathlib.Core.Path.{_≡_, refl, sym, ap, _∙_}
 use mathlib.Core.Logic.{⊎-elim}
-use mathlib.Core.List.{List, [], _∷_}
+use mathlib.Core.List.{List, [], _∷_, _++_, append-assoc}
 use mathlib.Core.Bool.{Bool, true, false}
-use lib.ListN.{length, set, length-replicate, getD-replicate}
+use lib.ListN.{length, set, replicate, length-replicate, getD-replicate, replicate-append-replicate}
+use lib.Seq.{set-at, getD-at}
 use lib.Dec.{eqb}
 use borrow.Author.Tests.{eqb-true, eq-eqb, ne-eqb}
 use Rattle.ring.specs.Walk.{unmarked, marked, removed, mark-at, Survivor, count, unmark, fresh}
+use Rattle.ring.specs.Rows.{first-marked}
 use Rattle.ring.proofs.Cases.{which}
 
 -- What survives lies inside the row.
@@ -72,3 +75,30 @@ pub fresh-marked : (n : ℕ) → count marked (fresh n) ≡ 0
 unfolding count
 fresh-marked zero = refl
 fresh-marked (suc n) = fresh-marked n
+
+-- Marking from the front, one more position each time.
+pub first-none : (n : ℕ) → first-marked n 0 ≡ fresh n
+first-none n = let e : n - 0 ≡ n = omega arith in ap fresh e
+
+pub first-more : (n k : ℕ) → k < n → set (first-marked n k) k marked ≡ first-marked n (suc k)
+first-more n k h =
+    let rest : List ℕ = fresh (n - suc k) in
+    let e : n - k ≡ suc (n - suc k) = omega arith in
+    ap (λ (w : ℕ). set (replicate k marked ++ fresh w) k marked) e
+    ∙ set-at (replicate k marked) unmarked rest marked k (length-replicate k marked)
+    ∙ sym (append-assoc (replicate k marked) (marked ∷ []) rest)
+    ∙ ap (λ (l : List ℕ). l ++ rest) (replicate-append-replicate k 1 marked ∙ ap (λ (w : ℕ). replicate w marked) (add-one k))
+
+pub first-due : (n k : ℕ) → k < n → mark-at (first-marked n k) k ≡ unmarked
+first-due n k h =
+    let e : n - k ≡ suc (n - suc k) = omega arith in
+    ap (λ (w : ℕ). mark-at (replicate k marked ++ fresh w) k) e
+    ∙ getD-at (replicate k marked) unmarked (fresh (n - suc k)) removed k (length-replicate k marked)
+
+pub first-unmarked : (n k : ℕ) → k ≤ n → k + count unmarked (first-marked n k) ≡ n
+first-unmarked n zero h = rw (first-none n) (omega (arith, fresh-unmarked n))
+first-unmarked n (suc k) h = rw (← first-more n k (omega arith)) (omega (
+  arith,
+  recount (first-marked n k) k unmarked marked (first-due n k (omega arith)) (omega arith) unmarked,
+  first-unmarked n k (omega arith),
+))

@@ -1,18 +1,20 @@
 -- The moments that a walk reaches, what holds at each of them, and how it ends.
 use Prim.Native.Nat.{ℕ, zero, suc, _+_, _*_, _<_, _≤_}
 use native.Mathlib.Omega.{arith}
-use mathlib.Core.Path.{_≡_, refl, ap, _∙_}
+use mathlib.Core.Path.{_≡_, refl, sym, ap, _∙_}
 use mathlib.Core.Logic.{⊎-elim}
 use mathlib.Core.List.{List}
 use mathlib.Core.Bool.{Bool, true, false}
 use lib.ListN.{length, set, length-set, length-replicate}
 use Rattle.ring.specs.Walk.{unmarked, marked, mark-at, Survivor, survivors, successor, predecessor, count, remove, Stage, fresh, start, to-go, look, looks}
 use Rattle.ring.specs.Walk.Stage.{under-way, kept, collapsed}
+use Rattle.ring.specs.Rows.{first-marked, FirstStand}
 use Rattle.ring.proofs.Cases.{which, same?, less?}
-use Rattle.ring.proofs.Marks.{fresh-unmarked, fresh-survives}
+use Rattle.ring.proofs.Marks.{fresh-unmarked, fresh-survives, first-none, first-more, first-due}
 use Rattle.ring.proofs.Survivors.{same-survivor, fresh-count}
-use Rattle.ring.proofs.Neighbours.{successor-survives, not-alone}
-use Rattle.ring.proofs.Changes.{same-set, same-remove, length-remove, gap-survives, mark-counts, remove-counts}
+use Rattle.ring.proofs.Neighbours.{successor-survives, not-alone, same-successor, same-predecessor}
+use Rattle.ring.proofs.Changes.{same-set, first-same, same-remove, length-remove, gap-survives, mark-counts, remove-counts}
+use Rattle.ring.proofs.Filling.{fresh-next}
 use Rattle.ring.proofs.Looks.{look-done, look-over, look-stay, look-go, look-fall}
 
 module _ (goes : ℕ → ℕ → ℕ → Bool) (n : ℕ) where
@@ -30,6 +32,15 @@ module _ (goes : ℕ → ℕ → ℕ → Bool) (n : ℕ) where
   reached-is (stepped {m = m} {p = p} {k = k} r z e) = ap (look goes) (reached-is r) ∙ look-over goes m p k z e
   reached-is (stayed {m = m} {p = p} {k = k} r e t) = ap (look goes) (reached-is r) ∙ look-stay goes m p k e t
   reached-is (went {m = m} {p = p} {k = k} r e t h) = ap (look goes) (reached-is r) ∙ look-go goes m p k e t h
+
+  -- Where the first k positions stand, k visits mark them and come to position k.
+  pub reached-first : (k : ℕ) → k < n → FirstStand goes n k → Reached k (first-marked n k) k k
+  reached-first zero h f = rw (first-none n) begun
+  reached-first (suc k) h f =
+      let s = first-same n k (omega arith) in
+      let q : successor (first-marked n k) k ≡ suc k = sym (same-successor s k) ∙ fresh-next n k h in
+      let t : to-go goes (first-marked n k) k ≡ false = rw (← same-predecessor s k, ← same-successor s k) (f k (omega arith)) in
+      rw (first-more n k (omega arith), q) at (stayed (reached-first k (omega arith) (λ j l. f j (omega arith))) (first-due n k (omega arith)) t)
 
   module _ (big : 3 ≤ n) where
     -- What holds at every moment. Each decision is paid for by three for each survivor and one for each unmarked position.

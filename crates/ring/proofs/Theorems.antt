@@ -1,5 +1,5 @@
 -- What holds of the walk of every ring of n positions, for any rule.
-use Prim.Native.Nat.{ℕ, suc, _+_, _-_, _*_, _≤_}
+use Prim.Native.Nat.{ℕ, suc, _+_, _-_, _*_, _<_, _≤_}
 use native.Mathlib.Omega.{arith}
 use mathlib.Core.Path.{_≡_, refl, sym, ap, _∙_}
 use mathlib.Core.Logic.{⊎-elim}
@@ -9,12 +9,13 @@ use lib.ListN.{length, getD}
 use Rattle.ring.specs.Walk.{unmarked, marked, mark-at, survivors, count, Stage, fresh, start, looks, walk}
 use Rattle.ring.specs.Walk.Stage.{under-way, kept, collapsed}
 use Rattle.ring.specs.Promises.{EndedWithin, Rising, Clean, Settled, Preserved, LastThree}
+use Rattle.ring.specs.Rows.{first-marked, FirstStand}
 use Rattle.ring.proofs.Cases.{same?, less?}
 use Rattle.ring.proofs.Marks.{fresh-unmarked}
 use Rattle.ring.proofs.Survivors.{same-survivors}
 use Rattle.ring.proofs.Changes.{same-set, same-remove}
 use Rattle.ring.proofs.Looks.{some-unmarked}
-use Rattle.ring.proofs.Moments.{Reached, begun, stepped, stayed, went, moment, Kept, Collapsed, History, history}
+use Rattle.ring.proofs.Moments.{Reached, begun, stepped, stayed, went, reached-is, reached-first, moment, Kept, Collapsed, History, history}
 use Rattle.ring.proofs.Ahead.{idle, visits-room, going-room}
 use Rattle.ring.proofs.Ends.{walk-few, walk-many, ended-walk, settled-answer, kept-after, fallen-after}
 use Rattle.ring.proofs.Listed.{survivors-rise, at, place, to-go-listed}
@@ -87,6 +88,10 @@ module _ (goes : ℕ → ℕ → ℕ → Bool) (n : ℕ) where
     -- It was kept within 3 n visits, less one for each survivor; one more look sees that all are marked.
     pub kept-in-3n-visits : looks goes (suc (3 * n - length s)) (start n) ≡ kept s k
     kept-in-3n-visits = rw (end .is) (kept-after goes n big (end .reached) (end .all-marked) _ (omega (arith, visits-room goes n big (end .reached))))
+
+  -- Where the first k positions stand, k looks mark them and come to position k, after as many decisions.
+  pub front-marked : (k : ℕ) → k < n → FirstStand goes n k → looks goes k (start n) ≡ under-way (first-marked n k) k k
+  front-marked k h f = reached-is goes n (reached-first goes n k h f)
 
   module _ (big : 3 ≤ n) where
     -- Where no vertex of the ring would go, all is kept, after n decisions.

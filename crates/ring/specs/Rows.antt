@@ -1,10 +1,10 @@
 -- The two rows that link a ring, and what the code asks and leaves of them and of the marks.
-use Prim.Native.Nat.{ℕ, _+_, _^_, _<_, _≤_}
+use Prim.Native.Nat.{ℕ, _+_, _-_, _^_, _<_, _≤_}
 use mathlib.Core.Path.{_≡_}
-use mathlib.Core.Bool.{true, false}
-use mathlib.Core.List.{List}
-use lib.ListN.{length, getD, set}
-use Rattle.ring.specs.Walk.{unmarked, marked, removed, mark-at, Survivor, survivors, successor, predecessor, count, unmark, unmark-about, remove, fresh, Stage}
+use mathlib.Core.Bool.{Bool, true, false}
+use mathlib.Core.List.{List, _++_}
+use lib.ListN.{length, getD, set, replicate}
+use Rattle.ring.specs.Walk.{unmarked, marked, removed, mark-at, Survivor, survivors, successor, predecessor, count, unmark, unmark-about, remove, fresh, to-go, Stage}
 use Rattle.ring.specs.Walk.Stage.{kept, collapsed}
 use Rattle.ring.specs.declared.Walked.{Walked}
 
@@ -26,6 +26,28 @@ pub record Level (next prev mark : List ℕ) : Type 0 where
 pub record AllLinked (n : ℕ) (mark next prev : List ℕ) : Type 0 where
   pub marks : mark ≡ fresh n
   pub linked : Linked mark next prev
+
+-- The row of n positions with the first k marked.
+abbrev pub first-marked : ℕ → ℕ → List ℕ
+first-marked n k = replicate k marked ++ fresh (n - k)
+
+module _ (goes : ℕ → ℕ → ℕ → Bool) (n : ℕ) where
+  -- The first k positions of a ring of n stand: none of them is to go, with its neighbours where nothing is removed.
+  abbrev pub FirstStand : ℕ → Type 0
+  FirstStand k = (j : ℕ) → j < k → to-go goes (fresh n) j ≡ false
+
+  -- The first k stand, and the next one is to go, if there is one.
+  pub record Standing (k : ℕ) : Type 0 where
+    pub within : k ≤ n
+    pub stand : FirstStand k
+    pub next-goes : k < n → to-go goes (fresh n) k ≡ true
+
+  -- All positions are linked, and the first k are marked, which stand.
+  pub record Begun (k : ℕ) (mark next prev : List ℕ) : Type 0 where
+    pub inside : k < n
+    pub stand : FirstStand k
+    pub marks : mark ≡ first-marked n k
+    pub linked : Linked mark next prev
 
 -- Position c is unmarked, and others survive beside it.
 pub record Removable (m next prev : List ℕ) (c : ℕ) : Type 0 where

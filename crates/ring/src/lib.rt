@@ -2,13 +2,11 @@
 ghost use mathlib.Core.Path.{_≡_};
 ghost use Prim.Native.Nat.{_<_, _≤_, _^_};
 ghost use lib.ListN.{length};
-ghost use mathlib.Core.Bool.{not};
-ghost use Rattle.grid.specs.Points.{Short, points as points-of};
-ghost use Rattle.grid.specs.Corners.{corners, some};
+ghost use Rattle.grid.specs.Points.{Short};
 ghost use Rattle.grid.specs.Domain.{Contour};
-ghost use Rattle.ring.specs.Walk.{unmarked as due-mark, Survivor, count, walk as walk-of};
-ghost use Rattle.ring.specs.Rule.{Vertices, goes-at, goes-along as goes-along-by, goes as goes-by};
-ghost use Rattle.ring.specs.Rows.{AllLinked, Level, Linked, Removable, Removed, Unlinked, Unmarked, UnmarkedAbout, ended};
+ghost use Rattle.ring.specs.Walk.{unmarked as due-mark, Survivor, count, fresh, walk as walk-of};
+ghost use Rattle.ring.specs.Rule.{Vertices, goes-along as goes-along-by, goes as goes-by};
+ghost use Rattle.ring.specs.Rows.{AllLinked, Begun, FirstStand, Level, Linked, Removable, Removed, Standing, Unlinked, Unmarked, UnmarkedAbout, ended, first-marked};
 use grid::Edge;
 
 // A position of a row as an index.
@@ -42,6 +40,18 @@ pub fn link(next: &mut [u32], prev: &mut [u32], mark: &mut [u8])
         i += 1;
     }
     next[n - 1] = 0;
+}
+
+// Marks the first k positions of a new ring.
+fn mark_first(mark: &mut [u8], k: usize)
+    requires { ⌜ (now mark ≡ fresh (length (now mark))) × (k ≤ length (now mark)) ⌝ }
+    ensures { λ r. ⌜ now (mark .exit) ≡ first-marked (length (now (mark .entry))) k ⌝ }
+{
+    let mut i: usize = 0;
+    while i < k {
+        mark[i] = 1;
+        i += 1;
+    }
 }
 
 // Takes the mark off p, and says how many marks that was.
@@ -141,23 +151,28 @@ fn goes_along(rule: Rule, to: Edge, from: Edge) -> bool
     }
 }
 
-// Whether no vertex of a contour is to go, with its neighbours there.
-pub fn untouched(rule: Rule, points: &[i32], n: usize) -> bool
+// How many vertices stand from the front of a contour: the position of the first that is to go with its neighbours
+// there, or n.
+pub fn standing(rule: Rule, points: &[i32], n: usize) -> usize
     requires { ⌜ Contour (now points) n × (0 < n) ⌝ }
-    ensures { λ r. ⌜ r ≡ not (some (goes-at rule) (corners (points-of (now (points .entry))))) ⌝ }
+    ensures { λ r. ⌜ Standing (goes-by rule (now (points .entry))) n r ⌝ }
 {
-    let closing = grid::edge_at(points, n - 1, 0);
+    let last = n - 1;
+    let closing = grid::edge_at(points, last, 0);
     let mut to = closing;
-    let mut i: usize = 1;
-    while i < n {
-        let from = grid::edge_at(points, i - 1, i);
+    let mut i: usize = 0;
+    while i < last {
+        let from = grid::edge_at(points, i, i + 1);
         if goes_along(rule, to, from) {
-            return false;
+            return i;
         }
         to = from;
         i += 1;
     }
-    !goes_along(rule, to, closing)
+    if goes_along(rule, to, closing) {
+        return last;
+    }
+    n
 }
 
 // How a walk ended, and after how many decisions.
@@ -183,17 +198,24 @@ fn unmarked(mark: &[u8]) -> usize
     found
 }
 
-// The walk of a ring that is linked, nothing marked. It stops at the first marked position: from there on nothing
-// goes any more, and each position that is not marked yet takes one decision. These are counted beforehand, so that
-// only a removal changes the count.
-fn round(rule: Rule, points: &[i32], next: &mut [u32], prev: &mut [u32], mark: &mut [u8]) -> Walked
+// The walk of a ring that is linked, from position k on: the first k stand, and are marked. It stops where it meets a
+// marked position: from there on nothing goes any more, and each position that is not marked yet takes one decision.
+// These are counted beforehand, so that only a removal changes the count.
+fn round(
+    rule: Rule,
+    points: &[i32],
+    k: usize,
+    next: &mut [u32],
+    prev: &mut [u32],
+    mark: &mut [u8],
+) -> Walked
     requires { ⌜ Contour (now points) (length (now mark)) × (3 ≤ length (now mark)) ⌝ }
-    requires { ⌜ AllLinked (length (now mark)) (now mark) (now next) (now prev) ⌝ }
+    requires { ⌜ Begun (goes-by rule (now points)) (length (now mark)) k (now mark) (now next) (now prev) ⌝ }
     ensures { λ r. ⌜ walk-of (goes-by rule (now (points .entry))) (length (now (mark .entry))) ≡ ended r (now (mark .exit)) ⌝ }
 {
     let mut left = mark.len();
     let mut decisions = mark.len();
-    let mut at: usize = 0;
+    let mut at = k;
     while mark[at] == 0 {
         let before = wide(prev[at]);
         let after = wide(next[at]);
@@ -219,18 +241,21 @@ fn round(rule: Rule, points: &[i32], next: &mut [u32], prev: &mut [u32], mark: &
     }
 }
 
-// The walk of a contour of three points or more. Its marks tell the survivors.
+// The walk of a contour of three points or more, of which the first k stand. Its marks tell the survivors.
 pub fn walk(
     rule: Rule,
     points: &[i32],
+    k: usize,
     next: &mut [u32],
     prev: &mut [u32],
     mark: &mut [u8],
 ) -> Walked
     requires { ⌜ Contour (now points) (length (now mark)) × (3 ≤ length (now mark)) ⌝ }
     requires { ⌜ (length (now next) ≡ length (now mark)) × (length (now prev) ≡ length (now mark)) ⌝ }
+    requires { ⌜ (k < length (now mark)) × FirstStand (goes-by rule (now points)) (length (now mark)) k ⌝ }
     ensures { λ r. ⌜ walk-of (goes-by rule (now (points .entry))) (length (now (mark .entry))) ≡ ended r (now (mark .exit)) ⌝ }
 {
     link(next, prev, mark);
-    round(rule, points, next, prev, mark)
+    mark_first(mark, k);
+    round(rule, points, k, next, prev, mark)
 }

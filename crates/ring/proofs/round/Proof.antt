@@ -11,10 +11,10 @@ use Rattle.ring.proofs.round.Statement.{statement}
 use Rattle.ring.proofs.round.Tie as tie
 
 abbrev Inv-loop : tie.InvT-loop
-Inv-loop rule row next₀ prev₀ mark₀ left₀ decisions₀ at₀ next prev mark left decisions at = Turn (goes rule row) (length mark₀) next prev mark left decisions at
+Inv-loop rule row k next₀ prev₀ mark₀ left₀ decisions₀ at₀ next prev mark left decisions at = Turn (goes rule row) (length mark₀) next prev mark left decisions at
 
 abbrev μ-loop : tie.MeasureT-loop
-μ-loop rule row next₀ prev₀ mark₀ left₀ decisions₀ at₀ next prev mark left decisions at = 3 * left + count unmarked mark
+μ-loop rule row k next₀ prev₀ mark₀ left₀ decisions₀ at₀ next prev mark left decisions at = 3 * left + count unmarked mark
 
 -- the ring has three positions or more
 many : (c : tie.At-loop Inv-loop μ-loop) → 3 ≤ length (c .before .before .before .before .args .mark .now)
@@ -40,7 +40,7 @@ said c =
     rw (w .before .before .wide .ensures ∙ h .prev-is, w .wide2 .ensures ∙ h .next-is) at (c .goes .ensures)
 
 loop-holds : tie.Need-loop-holds Inv-loop μ-loop
-loop-holds c = let p = c .before .before .before .pre in turn-start _ _ (p .0 .1) (p .1)
+loop-holds c = let p = c .before .before .before .pre in turn-start _ _ (p .1)
 
 slice-read-if1 : tie.Need-slice-read-if1 Inv-loop μ-loop
 slice-read-if1 c = head (c .before) .0 .at .inside-marks
@@ -75,14 +75,14 @@ goes-requires c κs =
       on = p .on;
     }
 
-add-t21 : tie.Need-add-t21 Inv-loop μ-loop
-add-t21 c = let h = head (c .before .before .before .before .before .before .before .before .before) in omega arith
+add-t22 : tie.Need-add-t22 Inv-loop μ-loop
+add-t22 c = let h = head (c .before .before .before .before .before .before .before .before .before) in omega arith
 
 unmarked-requires : tie.Need-unmarked-requires Inv-loop μ-loop
 unmarked-requires c κs = search needs
 
-sub-t25 : tie.Need-sub-t25 Inv-loop μ-loop
-sub-t25 c = let h = head (c .before .before .before .before .before .before .before .before .before .before .before) .0 in omega (arith, c .unmarked .ensures, h .few)
+sub-t26 : tie.Need-sub-t26 Inv-loop μ-loop
+sub-t26 c = let h = head (c .before .before .before .before .before .before .before .before .before .before .before) .0 in omega (arith, c .unmarked .ensures, h .few)
 
 same-length : tie.Need-same-length Inv-loop μ-loop
 same-length c =
@@ -188,9 +188,9 @@ round-spec =
     slice-read-wide-2
     wide-requires-2
     goes-requires
-    add-t21
+    add-t22
     unmarked-requires
-    sub-t25
+    sub-t26
     same-length
     same-length-2
     same-length-3

@@ -1,6 +1,7 @@
 -- `clean::cleaning::settle` meets its contract, however the walk ends.
 use borrow.Author.Needs.{needs}
-use mathlib.Core.Path.{sym, _∙_}
+use mathlib.Core.Path.{_∙_}
+use native.Mathlib.Omega.{arith}
 use Rattle.buffer.proofs.RowLaws.{placed-front}
 use Rattle.clean.proofs.OutcomeLaws.{settled-few, settled-kept, settled-fallen}
 use Rattle.clean.proofs.Unchanged.{settled-untouched}
@@ -10,8 +11,8 @@ use Rattle.clean.proofs.cleaning.settle.Tie as tie
 returns : tie.Need-returns
 returns c = let p = c .before .before .before .before .pre in settled-few _ _ _ (p .contour) (c .if1 .taken)
 
-untouched-requires : tie.Need-untouched-requires
-untouched-requires c κs = search needs
+standing-requires : tie.Need-standing-requires
+standing-requires c κs = search needs
 
 numbers-requires : tie.Need-numbers-requires
 numbers-requires c κs = search needs
@@ -24,11 +25,15 @@ returns-2 c =
     let u = c .before .before .before .before in
     let i = u .before in
     let s = i .before .before .before .before in
-    settled-untouched (s .args .rule) (s .args .points .now) _ (s .pre .contour) (i .if1 .left) (sym (u .untouched .ensures) ∙ c .before .before .before .if2 .taken) _
+    settled-untouched (s .args .rule) (s .args .points .now) _ (s .pre .contour) (i .if1 .left) (u .standing .ensures) (c .before .before .before .if2 .taken) _
     (c .before .numbers .ensures ∙ placed-front _ (s .args .points .now))
 
 walk-requires : tie.Need-walk-requires
-walk-requires c κs = search needs
+walk-requires c κs =
+    let i = c .before .before .before in
+    let x = i .before .standing .ensures in
+    let s = i .before .before .before .before .before .before in
+    ((s .pre .contour, i .before .before .if1 .left), ((s .pre .next-long, s .pre .prev-long), (omega (arith, x .within, i .if2 .left), x .stand)))
 
 write-requires : tie.Need-write-requires
 write-requires c κs = search needs
@@ -73,7 +78,7 @@ settle-spec =
     tie.close
     (tie.spec
     returns
-    untouched-requires
+    standing-requires
     numbers-requires
     same-length
     returns-2

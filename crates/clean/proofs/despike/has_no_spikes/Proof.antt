@@ -21,15 +21,16 @@ returns-2 : tie.Need-returns-2
 unfolding spike-free
 returns-2 c = verdict-given _ _ _ (sym (c .before .before .domain .ensures) ∙ c .before .if1 .left) (spikes-few _ (c .if2 .taken))
 
-untouched-requires : tie.Need-untouched-requires
-untouched-requires c κs = (in-domain _ (sym (c .before .before .domain .ensures) ∙ c .before .if1 .left), omega (arith, c .if2 .left))
+standing-requires : tie.Need-standing-requires
+standing-requires c κs = (in-domain _ (sym (c .before .before .domain .ensures) ∙ c .before .if1 .left), omega (arith, c .if2 .left))
 
 returns-3 : tie.Need-returns-3
 unfolding spike-free
 returns-3 c =
     let e = c .before .before in
     let d = e .before in
-    verdict-given _ _ _ (sym (d .before .domain .ensures) ∙ d .if1 .left) (sym (untouched-free _ (e .if2 .left) (sym (c .before .untouched .ensures) ∙ c .if3 .taken)))
+    let z = sym (d .before .domain .ensures) ∙ d .if1 .left in
+    verdict-given _ _ _ z (sym (untouched-free _ (in-domain _ z) (e .if2 .left) (c .before .standing .ensures) (c .if3 .taken)))
 
 none-back-requires : tie.Need-none-back-requires
 none-back-requires c κs =
@@ -46,4 +47,4 @@ returns-4 c =
 pub has-no-spikes-spec : {M : Type 1} → statement M
 has-no-spikes-spec =
     tie.close
-    (tie.spec domain-requires returns returns-2 untouched-requires returns-3 none-back-requires returns-4)
+    (tie.spec domain-requires returns returns-2 standing-requires returns-3 none-back-requires returns-4)

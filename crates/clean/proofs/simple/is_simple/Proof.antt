@@ -4,8 +4,10 @@ use mathlib.Core.Path.{sym, _∙_}
 use native.Mathlib.Omega.{arith}
 use Rattle.grid.proofs.DomainLaws.{in-domain}
 use Rattle.grid.proofs.VerdictLaws.{verdict-refused, verdict-given}
+use Rattle.ring.specs.declared.Rule.the-variants.{Collinear}
 use Rattle.clean.specs.Verdicts.{simple}
 use Rattle.clean.proofs.VerdictLaws.{simple-few, simple-many}
+use Rattle.clean.proofs.Unchanged.{standing-all}
 use Rattle.clean.proofs.simple.is_simple.Statement.{statement}
 use Rattle.clean.proofs.simple.is_simple.Tie as tie
 
@@ -20,13 +22,16 @@ returns-2 : tie.Need-returns-2
 unfolding simple
 returns-2 c = verdict-given _ _ _ (sym (c .before .before .domain .ensures) ∙ c .before .if1 .left) (simple-few _ (c .if2 .taken))
 
-untouched-requires : tie.Need-untouched-requires
-untouched-requires c κs = (in-domain _ (sym (c .before .before .domain .ensures) ∙ c .before .if1 .left), omega (arith, c .if2 .left))
+standing-requires : tie.Need-standing-requires
+standing-requires c κs = (in-domain _ (sym (c .before .before .domain .ensures) ∙ c .before .if1 .left), omega (arith, c .if2 .left))
 
 returns-3 : tie.Need-returns-3
 unfolding simple
-returns-3 c = let d = c .before .before in verdict-given _ _ _ (sym (d .before .domain .ensures) ∙ d .if1 .left) (c .untouched .ensures ∙ simple-many _ (c .before .if2 .left))
+returns-3 c =
+    let d = c .before .before in
+    let e = sym (d .before .domain .ensures) ∙ d .if1 .left in
+    verdict-given _ _ _ e (standing-all Collinear _ (in-domain _ e) (c .standing .ensures) ∙ simple-many _ (c .before .if2 .left))
 
 pub is-simple-spec : {M : Type 1} → statement M
 is-simple-spec =
-    tie.close (tie.spec domain-requires returns returns-2 untouched-requires returns-3)
+    tie.close (tie.spec domain-requires returns returns-2 standing-requires returns-3)
