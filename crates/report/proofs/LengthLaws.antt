@@ -19,7 +19,8 @@ use Rattle.ring.specs.declared.Rule as R
 use Rattle.ring.specs.Walk.{Stage}
 use Rattle.ring.specs.Walk.Stage.{under-way, kept, collapsed}
 use Rattle.ring.specs.Rule.{goes}
-use Rattle.ring.specs.Promises.{EndedWithin, Rising}
+use Rattle.ring.specs.Promises.{EndedWithin}
+use Rattle.ring.proofs.Listed.{rising-few}
 use Rattle.ring.proofs.Theorems.{ends-in-4n-9, kept-rising}
 use Rattle.report.specs.Text.{decimal, signed, dash}
 use Rattle.report.specs.Listing.{after, decisions, area2, cleaned, line, lines}
@@ -29,10 +30,6 @@ use Rattle.report.proofs.TextLaws.{decimal-length, signed-length}
 abbrev pub Contours : List (List ℤ) → Type 0
 Contours [] = Unit {0}
 Contours (c ∷ l) = Contour c (count c) × Contours l
-
-rising-few : (low high : ℕ) (s : List ℕ) → Rising low high s → length s ≤ high - low
-rising-few low high [] r = omega arith
-rising-few low high (x ∷ s) r = omega (arith, r .0, r .1, rising-few (suc x) high s (r .2))
 
 module _ (c : List ℤ) (x : Contour c (count c)) where
   few : count c < 65537

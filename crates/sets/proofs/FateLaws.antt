@@ -1,8 +1,8 @@
 -- What a contour's fate leaves of it.
 use mathlib.Core.Path.{_≡_, refl, sym, _∙_, ap}
 use mathlib.Core.Bool.{Bool, true, false}
-use mathlib.Core.List.{List, [], _∷_}
-use Prim.Native.Nat.{ℕ, suc, _-_, _*_, _≤_}
+use mathlib.Core.List.{List}
+use Prim.Native.Nat.{ℕ, _-_, _*_, _≤_}
 use native.Mathlib.Omega.{arith}
 use lib.IntN.{ℤ}
 use lib.ListN.{length}
@@ -12,7 +12,8 @@ use Rattle.ring.specs.declared.Rule.{Rule}
 use Rattle.ring.specs.Walk.{Stage}
 use Rattle.ring.specs.Walk.Stage.{under-way, kept, collapsed}
 use Rattle.ring.specs.Rule.{goes}
-use Rattle.ring.specs.Promises.{EndedWithin, Rising}
+use Rattle.ring.specs.Promises.{EndedWithin}
+use Rattle.ring.proofs.Listed.{rising-few}
 use Rattle.ring.proofs.Theorems.{ends-in-4n-9, kept-rising}
 use Rattle.clean.specs.declared.cleaning.Cleaned.{Cleaned}
 use Rattle.clean.specs.Outcome.{walked, told as told-walk, written as written-walk, answer}
@@ -60,10 +61,6 @@ module _ (rule : Rule) (c out : List ℤ) where
 abbrev pub Smaller : List ℤ → Fate → Type 0
 Smaller c (stays d k) = (length d ≤ length c) × (length d ≡ 2 * count d) × (k ≤ 2 * length c)
 Smaller c (gone k) = k ≤ 2 * length c
-
-rising-few : (low high : ℕ) (s : List ℕ) → Rising low high s → length s ≤ high - low
-rising-few low high [] r = omega arith
-rising-few low high (x ∷ s) r = omega (arith, r .0, r .1, rising-few (suc x) high s (r .2))
 
 pub fate-smaller : (rule : Rule) (c : List ℤ) → Contour c (count c) → Smaller c (fate rule c)
 unfolding fate
