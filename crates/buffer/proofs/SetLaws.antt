@@ -2,7 +2,7 @@
 use mathlib.Core.Path.{_≡_, refl, sym, _∙_, ap, ap₂}
 use mathlib.Core.Bool.{true}
 use mathlib.Core.List.{List, [], _∷_, _++_, map, append-assoc}
-use Prim.Native.Nat.{ℕ, _+_, _-_, _*_, _≤_}
+use Prim.Native.Nat.{ℕ, suc, _+_, _-_, _*_, _≤_}
 use native.Mathlib.Omega.{arith}
 use lib.ListN.{length, take, drop, length-append, length-drop, take-append-drop}
 use lib.Seq.{drop-length, drop-drop, take-append-seam, drop-append-seam, take-append-le, drop-append-le, drop-append-add, length-take-le}
@@ -22,6 +22,17 @@ sound-nothing p n e = eq-eqb p n e
 pub sound-first : (p n : ℕ) (s : Span) (l : List Span) → p ≡ s .start → s .start ≤ s .end → sound-from (s .end) l n ≡ true → sound-from p (s ∷ l) n ≡ true
 unfolding sound-from
 sound-first p n s l e f g = rw (eq-eqb p (s .start) e, le-leb (s .start) (s .end) f, g)
+
+-- parts laid end to end
+pub laid-length : (p : ℕ) (sizes : List ℕ) → length (laid p sizes) ≡ length sizes
+unfolding laid
+laid-length p [] = refl
+laid-length p (n ∷ sizes) = ap suc (laid-length (p + n) sizes)
+
+pub joined-append : {A : Type 0} (a b : List (List A)) → joined (a ++ b) ≡ joined a ++ joined b
+unfolding joined
+joined-append [] b = refl
+joined-append {A} (c ∷ a) b = ap (λ (l : List A). c ++ l) (joined-append a b) ∙ sym (append-assoc c (joined a) (joined b))
 
 pub laid-sound : (p m : ℕ) (sizes : List ℕ) → m ≡ p + total sizes → sound-from p (laid p sizes) m ≡ true
 unfolding laid

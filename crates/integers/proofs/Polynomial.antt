@@ -100,9 +100,10 @@ module _ (ρ : List ℤ) where
 pub ring : (e f : Po) (ρ : List ℤ) → norm e ≡ norm f → ev ρ e ≡ ev ρ f
 ring e f ρ h = sym (norm-ok ρ e) ∙ ap (evP ρ) h ∙ norm-ok ρ f
 
+-- numbers whose difference is 0 are equal
+pub no-difference : (x y : ℤ) → x -ℤ y ≡ pos 0 → x ≡ y
+no-difference x y z = sym (-ℤ-+ℤ-cancel x y) ∙ ap (λ (t : ℤ). t +ℤ y) z ∙ +ℤ-idl y
+
 -- a linear combination of one hypothesis: e - f is k times a - b
 pub ring-by : (e f k a b : Po) (ρ : List ℤ) → ev ρ a ≡ ev ρ b → norm (e :- f) ≡ norm (k :* (a :- b)) → ev ρ e ≡ ev ρ f
-ring-by e f k a b ρ h n = same (ev ρ e) (ev ρ f) (ring (e :- f) (k :* (a :- b)) ρ n ∙ ap (λ (x : ℤ). ev ρ k *ℤ (x -ℤ ev ρ b)) h ∙ ap (λ (x : ℤ). ev ρ k *ℤ x) (+ℤ-invr (ev ρ b)) ∙ *ℤ-zero (ev ρ k))
-  where
-    same : (x y : ℤ) → x -ℤ y ≡ pos 0 → x ≡ y
-    same x y z = sym (-ℤ-+ℤ-cancel x y) ∙ ap (λ (t : ℤ). t +ℤ y) z ∙ +ℤ-idl y
+ring-by e f k a b ρ h n = no-difference (ev ρ e) (ev ρ f) (ring (e :- f) (k :* (a :- b)) ρ n ∙ ap (λ (x : ℤ). ev ρ k *ℤ (x -ℤ ev ρ b)) h ∙ ap (λ (x : ℤ). ev ρ k *ℤ x) (+ℤ-invr (ev ρ b)) ∙ *ℤ-zero (ev ρ k))

@@ -46,12 +46,12 @@ infixl 6 _⊖_
 pub _⊖_ : ℕ → ℕ → ℤ
 a ⊖ b = pos a +ℤ negℤ (pos b)
 
+four : (x y z w : ℤ) → (x +ℤ y) +ℤ (z +ℤ w) ≡ (x +ℤ z) +ℤ (y +ℤ w)
+four x y z w = simp AC
+
 pub ⊖-add : (a b c d : ℕ) → (a ⊖ b) +ℤ (c ⊖ d) ≡ (a + c) ⊖ (b + d)
 unfolding _⊖_
 ⊖-add a b c d = four (pos a) (negℤ (pos b)) (pos c) (negℤ (pos d)) ∙ ap (λ (x : ℤ). pos (a + c) +ℤ x) (sym (negℤ-+ℤ (pos b) (pos d)))
-  where
-    four : (x y z w : ℤ) → (x +ℤ y) +ℤ (z +ℤ w) ≡ (x +ℤ z) +ℤ (y +ℤ w)
-    four x y z w = simp AC
 
 pub ⊖-neg : (a b : ℕ) → negℤ (a ⊖ b) ≡ b ⊖ a
 unfolding _⊖_
@@ -77,13 +77,10 @@ unfolding _⊖_
   where
     move : (x y z w : ℤ) → x +ℤ w ≡ z +ℤ y → x +ℤ negℤ y ≡ z +ℤ negℤ w
     move x y z w e =
-        sym (+ℤ-idr (x +ℤ negℤ y)) ∙ ap (λ (t : ℤ). (x +ℤ negℤ y) +ℤ t) (sym (+ℤ-invr w)) ∙ r₁ x (negℤ y) w (negℤ w) ∙ ap (λ (t : ℤ). t +ℤ (negℤ y +ℤ negℤ w)) e ∙ r₂ z y (negℤ y) (negℤ w) ∙ ap (λ (t : ℤ). t +ℤ (z +ℤ negℤ w)) (+ℤ-invr y) ∙ +ℤ-idl (z +ℤ negℤ w)
+        sym (+ℤ-idr (x +ℤ negℤ y)) ∙ ap (λ (t : ℤ). (x +ℤ negℤ y) +ℤ t) (sym (+ℤ-invr w)) ∙ four x (negℤ y) w (negℤ w) ∙ ap (λ (t : ℤ). t +ℤ (negℤ y +ℤ negℤ w)) e ∙ turned z y (negℤ y) (negℤ w) ∙ ap (λ (t : ℤ). t +ℤ (z +ℤ negℤ w)) (+ℤ-invr y) ∙ +ℤ-idl (z +ℤ negℤ w)
       where
-        r₁ : (p q r s : ℤ) → (p +ℤ q) +ℤ (r +ℤ s) ≡ (p +ℤ r) +ℤ (q +ℤ s)
-        r₁ p q r s = simp AC
-
-        r₂ : (p q r s : ℤ) → (p +ℤ q) +ℤ (r +ℤ s) ≡ (q +ℤ r) +ℤ (p +ℤ s)
-        r₂ p q r s = simp AC
+        turned : (p q r s : ℤ) → (p +ℤ q) +ℤ (r +ℤ s) ≡ (q +ℤ r) +ℤ (p +ℤ s)
+        turned p q r s = simp AC
 
 pub ⊖-negsuc : (n : ℕ) → negsuc n ≡ 0 ⊖ suc n
 unfolding _⊖_

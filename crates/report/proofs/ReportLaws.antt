@@ -26,7 +26,7 @@ use Rattle.buffer.proofs.SpanLaws.{range-within}
 use Rattle.buffer.proofs.WrittenLaws.{spans-rows}
 use Rattle.buffer.proofs.Theorems.{packing-then-unpacking-gives-back-every-contour, points-total, what-is-packed-is-sound}
 use Rattle.setfile.specs.Format.{Entry, contours-of, shapes-of, parsed, damage, read-contours}
-use Rattle.setfile.proofs.FillLaws.{laid-length}
+use Rattle.buffer.proofs.SetLaws.{laid-length}
 use Rattle.setfile.specs.Reading.{refusals, outcome}
 use Rattle.report.specs.Text.{decimal, line-end, heading, refused}
 use Rattle.report.specs.Listing.{lines, listing}

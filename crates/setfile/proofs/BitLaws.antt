@@ -10,12 +10,21 @@ use lib.Dec.{eqb}
 use lib.ListN.{length, take, drop, length-append, length-drop, take-append-drop}
 use lib.Seq.{take-append-add, drop-append-add, take-nil, drop-nil, take-at, drop-at, length-take-le}
 use lib.Pow.{pow-add, high, low, mod-pow-add}
+use mir.Val.{boolByte}
 use Rattle.setfile.specs.Bits.{digit, value, field, bits, bytes}
 use Rattle.setfile.specs.Inside.{Bytes}
 
-digit-below : (b : Bool) → digit b < 2
+-- a truth value in the code's byte is its bit
+pub byte-digit : (b : Bool) → boolByte b ≡ digit b
+byte-digit true = refl
+byte-digit false = refl
+
+pub digit-below : (b : Bool) → digit b < 2
 digit-below true = omega arith
 digit-below false = omega arith
+
+pub byte-below : (b : Bool) → boolByte b < 2
+byte-below b = rw (byte-digit b) (digit-below b)
 
 digit-bit : (d : ℕ) → d < 2 → digit (eqb d 1) ≡ d
 digit-bit zero h = refl

@@ -202,16 +202,16 @@ pub coded-bytes : (l : List Entry) → Bytes (coded l)
 coded-bytes l = both-bytes (two (4096 + length l)) (coded-contours l) (two-bytes (4096 + length l)) (contours-bytes l)
 
 -- and as many as the format says
-pub places-length : (c : List ℤ) → length (coded-places c) ≡ 4 * length c
+pub coded-places-length : (c : List ℤ) → length (coded-places c) ≡ 4 * length c
 unfolding joined
-places-length [] = refl
-places-length (z ∷ c) = omega (arith, places-length c)
+coded-places-length [] = refl
+coded-places-length (z ∷ c) = omega (arith, coded-places-length c)
 
 contours-length : (l : List Entry) → Even (contours-of l) → length (coded-contours l) ≡ 2 * length l + 8 * total (map count (contours-of l))
 unfolding joined
 contours-length [] h = refl
 contours-length (e ∷ l) h =
-    length-append (coded-contour e) (coded-contours l) ∙ omega (arith, h .0, places-length (e .points), contours-length l (h .1))
+    length-append (coded-contour e) (coded-contours l) ∙ omega (arith, h .0, coded-places-length (e .points), contours-length l (h .1))
 
 pub coded-length : (l : List Entry) → Even (contours-of l) → length (coded l) ≡ file-length (length l) (total (map count (contours-of l)))
 coded-length l h = omega (arith, contours-length l h)

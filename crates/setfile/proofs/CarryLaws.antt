@@ -2,7 +2,7 @@
 use mathlib.Core.Path.{_≡_, refl, sym, _∙_, ap, ap₂, subst}
 use mathlib.Core.Bool.{Bool, true, false, not, _&&_, _||_, true≢false}
 use mathlib.Core.List.{List, [], _∷_, map}
-use Prim.Native.Nat.{ℕ, suc, _+_, _-_, _*_, _%_, _<_, _≤_}
+use Prim.Native.Nat.{ℕ, _+_, _-_, _*_, _%_, _<_, _≤_}
 use native.Mathlib.Omega.{arith}
 use lib.Dec.{eqb, ltb}
 use lib.ListN.{length, drop, length-drop, length-map}
@@ -89,11 +89,6 @@ pub laid-sizes : (p : ℕ) (sizes : List ℕ) → map size (laid p sizes) ≡ si
 unfolding laid
 laid-sizes p [] = refl
 laid-sizes p (n ∷ sizes) = ap₂ (λ (a : ℕ) (l : List ℕ). a ∷ l) (omega arith) (laid-sizes (p + n) sizes)
-
-pub laid-length : (p : ℕ) (sizes : List ℕ) → length (laid p sizes) ≡ length sizes
-unfolding laid
-laid-length p [] = refl
-laid-length p (n ∷ sizes) = ap suc (laid-length (p + n) sizes)
 
 -- parts cut at sound spans
 module _ {A : Type 0} (a : List A) where

@@ -1,7 +1,7 @@
 -- Contours and shapes in bytes, met one after the other.
-use mathlib.Core.Path.{_≡_, refl, sym, _∙_, ap}
+use mathlib.Core.Path.{_≡_, refl, _∙_, ap}
 use mathlib.Core.Bool.{Bool, true, false}
-use mathlib.Core.List.{List, [], _∷_, _++_, map, map-append, append-assoc}
+use mathlib.Core.List.{List, [], _∷_, _++_, map, map-append}
 use Prim.Native.Nat.{ℕ, suc, _+_, _-_, _<_, _≤_, _^_}
 use native.Mathlib.Omega.{arith}
 use native.Mathlib.Numerals.{add-one}
@@ -11,31 +11,17 @@ use lib.Seq.{drop-cons}
 use lib.IntN.{ℤ, pos}
 use lib.Signed.{mag}
 use mir.Syntax.{w32}
-use mir.Val.{toZ, ofZ, boolByte}
+use mir.Val.{toZ, ofZ}
 use mir.Facts.{toZ-ofZ}
 use borrow.Author.Tests.{ne-eqb, eq-eqb}
 use Rattle.buffer.specs.Spans.{span, spans}
 use Rattle.buffer.specs.Sets.{joined, cut, contour, contours, shapes}
 use Rattle.buffer.proofs.PartLaws.{contours-at}
-use Rattle.setfile.specs.Bits.{digit}
+use Rattle.buffer.proofs.SetLaws.{joined-append}
 use Rattle.setfile.specs.Format.{Entry, entry, shape-entries, entries}
 use Rattle.setfile.specs.Inside.{four, coded-places, coded-contour, coded-contours}
 use Rattle.setfile.specs.InsideWriting.{between, coded-shape, coded-shapes}
 use Rattle.setfile.proofs.WriteLaws.{Parted}
-
-joined-append : {A : Type 0} (a b : List (List A)) → joined (a ++ b) ≡ joined a ++ joined b
-unfolding joined
-joined-append [] b = refl
-joined-append (x ∷ a) b = ap (λ (l : List _). x ++ l) (joined-append a b) ∙ sym (append-assoc x (joined a) (joined b))
-
--- whether a contour begins a shape, as the code has it
-pub begins-is : (b : Bool) → boolByte b ≡ digit b
-begins-is true = refl
-begins-is false = refl
-
-pub begins-small : (b : Bool) → boolByte b ≤ 1
-begins-small true = omega arith
-begins-small false = omega arith
 
 -- the coordinates from number i on: the next of them, or none
 module _ (c : List ℤ) (i : ℕ) where

@@ -1,7 +1,7 @@
 -- Rows that are filled contour by contour.
 use mathlib.Core.Path.{_≡_, refl, sym, _∙_, ap, ap₂, subst}
 use mathlib.Core.List.{List, [], _∷_, _++_, map}
-use Prim.Native.Nat.{ℕ, suc, _+_, _*_, _≤_, _<_}
+use Prim.Native.Nat.{ℕ, _+_, _*_, _≤_, _<_}
 use native.Mathlib.Omega.{arith}
 use lib.ListN.{length, drop, set, length-append, length-map}
 use lib.Seq.{drop-drop}
@@ -15,6 +15,7 @@ use Rattle.buffer.proofs.RowLaws.{placed-front}
 use Rattle.setfile.specs.Format.{Entry, contours-of}
 use Rattle.setfile.specs.Inside.{places, held}
 use Rattle.setfile.specs.InsideReading.{contained, Readable}
+use Rattle.buffer.proofs.SetLaws.{laid-length}
 use Rattle.setfile.proofs.ReadLaws.{places-length, front-entry}
 use Rattle.setfile.proofs.RestLaws.{Rest, Next, next, done, rest-all}
 use Rattle.setfile.proofs.AheadLaws.{Ahead, ahead-all, ahead-more, ahead-one, ahead-none}
@@ -83,11 +84,6 @@ module _ {f : List ℕ} {n i at to : ℕ} {row₀ wanted row : List ℤ} (x : Fi
       let b : new ≡ placed to next-points row = q ∙ ap₂ (λ (k : ℕ) (g : List ℕ). placed to (places (2 * k) g) row) e (sym (drop-drop 2 at f)) in
       filled x l points-made (to + 2 * h) new
       (subst (Ahead row₀ wanted (to + 2 * h) (points-made points-left)) (sym b) (ahead-more next-points (points-made points-left) (to + 2 * h) a points-to-come)) h e
-
-pub laid-length : (p : ℕ) (l : List ℕ) → length (laid p l) ≡ length l
-unfolding laid
-laid-length p [] = refl
-laid-length p (n ∷ l) = ap suc (laid-length (p + n) l)
 
 -- the contour ranges, the first of which starts at this point
 abbrev pub contours-made : ℕ → List Entry → List (List ℕ)

@@ -25,6 +25,7 @@ use Rattle.setfile.specs.Format.{Entry, entry, contours-of, shapes-of, g
 use Rattle.setfile.specs.Format.Parsed.{carries, damaged}
 use Rattle.setfile.specs.Inside.{pair, places, starts, held, fault, walk, head-fault, walked}
 use Rattle.setfile.specs.InsideReading.{none-met, met-more, Inside, judged, on-or-refused, summed, contained, refusals-of, Readable, Judgement}
+use Rattle.setfile.proofs.BitLaws.{byte-digit, digit-below}
 use Rattle.setfile.proofs.ReadLaws.{places-length, walk-more, Numbered, walk-numbered, Long, walk-long}
 
 all-on-append : (p q : List ℤ) → all-on-grid (p ++ q) ≡ (all-on-grid p && all-on-grid q)
@@ -65,20 +66,12 @@ module _ (f : List ℕ) (n i : ℕ) (m : Met) where
   inside-more h e = record {
     within = e;
     numbers-few = omega (arith, h .numbers-few);
-    shapes-few = omega (arith, h .shapes-few, digit-few (starts (drop (m .at) f)));
+    shapes-few = omega (arith, h .shapes-few, digit-below (starts (drop (m .at) f)));
   }
-    where
-      digit-few : (b : Bool) → digit b ≤ 1
-      digit-few true = omega arith
-      digit-few false = omega arith
 
 same-met : {a b c d : ℕ} {x y : Bool} {k l : ℕ} → a ≡ b → c ≡ d → k ≡ l → x ≡ y
     → _≡_ {A = Met} (record { at = a; numbers = c; shapes = k; on = x }) (record { at = b; numbers = d; shapes = l; on = y })
 same-met e f g h = cc
-
-byte-digit : (b : Bool) → boolByte b ≡ digit b
-byte-digit true = refl
-byte-digit false = refl
 
 -- as the code counts
 pub met-is : (f : List ℕ) (m : Met) (h : ℕ) (b on : Bool) → h ≡ held (drop (m .at) f) → b ≡ starts (drop (m .at) f) → on ≡ all-on-grid (places (2 * h) (drop (m .at + 2) f))

@@ -23,7 +23,8 @@ use Rattle.setfile.specs.Format.Parsed.{carries, damaged}
 use Rattle.setfile.specs.Inside.{Bytes, pair, quad, places, starts, held, fault, walk, head-fault, walked, two, four, coded-places, coded-contour, coded-contours, coded}
 use Rattle.setfile.specs.Writing.{most-contours, most-points}
 use Rattle.setfile.specs.Promises.{Each, Short, Started, Carried}
-use Rattle.setfile.proofs.ByteLaws.{dropped, pair-below, places-length, coded-bytes, parsed-by-bytes, file-by-bytes}
+use Rattle.setfile.proofs.ReadLaws.{places-length}
+use Rattle.setfile.proofs.ByteLaws.{dropped, pair-below, coded-places-length, coded-bytes, parsed-by-bytes, file-by-bytes}
 
 -- a number in two bytes, or in four, and back
 pair-two : (n : ℕ) (f : List ℕ) → n < 65536 → pair (two n ++ f) ≡ n
@@ -85,7 +86,7 @@ module _ (e : Entry) (more : List ℕ) (first : Bool) (even : length (e .points)
   no-fault h =
       let n : length (coded-places (e .points) ++ more) ≡ length (coded-places (e .points)) + length more = length-append (coded-places (e .points)) more in
       let a : ltb (length whole) 2 ≡ false = le-ltb (length whole) 2 (omega arith) in
-      let b : ltb (length whole) (2 + 8 * held whole) ≡ false = le-ltb (length whole) (2 + 8 * held whole) (omega (arith, held-back, places-length (e .points))) in
+      let b : ltb (length whole) (2 + 8 * held whole) ≡ false = le-ltb (length whole) (2 + 8 * held whole) (omega (arith, held-back, coded-places-length (e .points))) in
       rw (a, starts-back, b, begun first (e .begins) h)
 
   points-back : Each (SFits w32) (e .points) → places (2 * held whole) (drop 2 whole) ≡ e .points
@@ -94,7 +95,7 @@ module _ (e : Entry) (more : List ℕ) (first : Bool) (even : length (e .points)
       ap (λ (k : ℕ). places k (drop 2 whole)) n ∙ places-back (e .points) more h
 
   rest-back : drop (2 + 8 * held whole) whole ≡ more
-  rest-back = drop-at (coded-contour e) more (2 + 8 * held whole) (omega (arith, held-back, places-length (e .points)))
+  rest-back = drop-at (coded-contour e) more (2 + 8 * held whole) (omega (arith, held-back, coded-places-length (e .points)))
 
 -- contours that were written are read
 contours-back : (l : List Entry) (first : Bool) → Even (contours-of l) → Short (contours-of l) → (first ≡ true → Started l) → Each (Each (SFits w32)) (contours-of l)
@@ -144,11 +145,6 @@ walk-next k first f l h = go (fault first f) refl
     go : (r : ℕ) → r ≡ fault first f → Walked first f k l
     go zero e = record { right = sym e; next = read-next _ _ l (sym (walk-on k first f (sym e)) ∙ h) }
     go (suc r) e = let b : walk (suc k) first f ≡ damaged (suc r) = rw (← e, walk) in let z : _≡_ {A = ℕ} 0 1 = cc in absurd (omega arith)
-
-places-count : (k : ℕ) (f : List ℕ) → length (places k f) ≡ k
-unfolding places
-places-count zero f = refl
-places-count (suc k) f = ap suc (places-count k (drop 4 f))
 
 two-back : (f : List ℕ) → Bytes f → 2 ≤ length f → two (pair f) ≡ take 2 f
 two-back [] h e = absurd (omega arith)
@@ -206,7 +202,7 @@ module _ (f : List ℕ) (h : Bytes f) (e : 2 + 8 * held f ≤ length f) where
       go false g = omega (arith, leb-false 32768 (pair f) g)
 
   count-read : count (places (2 * held f) (drop 2 f)) ≡ held f
-  count-read = let n = places-count (2 * held f) (drop 2 f) in omega (arith, n)
+  count-read = let n = places-length (2 * held f) (drop 2 f) in omega (arith, n)
 
   contour-read : coded-contour (entry (starts f) (places (2 * held f) (drop 2 f))) ≡ take (2 + 8 * held f) f
   contour-read =
@@ -257,7 +253,7 @@ contours-match (suc k) first f l h e =
     let n : 2 + 8 * held f ≤ length f = ltb-false (length f) (2 + 8 * held f) (c .1 .1 .0) in
     let more : List ℕ = drop (2 + 8 * held f) f in
     let o = contours-match k false more (w .next .others) (dropped (2 + 8 * held f) f h) (w .next .there) in
-    let p = places-count (2 * held f) (drop 2 f) in
+    let p = places-length (2 * held f) (drop 2 f) in
     rw (w .next .is)
     (record {
       number = ap suc (o .number);

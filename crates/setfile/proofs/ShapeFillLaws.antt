@@ -15,7 +15,8 @@ use Rattle.setfile.specs.Inside.{places, starts, held}
 use Rattle.setfile.specs.InsideReading.{contained, Readable, next-open, closed}
 use Rattle.setfile.proofs.RestLaws.{Rest, Next, next, done, rest-all}
 use Rattle.setfile.proofs.AheadLaws.{Ahead, ahead-one, ahead-none}
-use Rattle.setfile.proofs.FillLaws.{Filling, ahead-front, coming, to-come, filled, laid-length}
+use Rattle.buffer.proofs.SetLaws.{laid-length}
+use Rattle.setfile.proofs.FillLaws.{Filling, ahead-front, coming, to-come, filled}
 
 -- the shape ranges, the first of which starts at contour from and is met up to contour i
 abbrev pub shapes-made : ℕ → ℕ → List Entry → List (List ℕ)

@@ -32,7 +32,8 @@ use Rattle.setfile.specs.Promises.{Carried, Carriable, file-of, written-
 use Rattle.setfile.proofs.ByteLaws.{coded-length, file-by-bytes}
 use Rattle.setfile.proofs.RoundTrip.{read-back, written-back, read-carried, undamaged}
 use Rattle.setfile.proofs.GatherLaws.{entries-gathered, shapes-filled, contours-entries}
-use Rattle.setfile.proofs.CarryLaws.{each-like, over-in, laid-sizes, laid-length, carriable, not-refused, carried-points, carried-ranges, carried-count, carried-total, carried-groups, set-carried}
+use Rattle.buffer.proofs.SetLaws.{laid-length}
+use Rattle.setfile.proofs.CarryLaws.{each-like, over-in, laid-sizes, carriable, not-refused, carried-points, carried-ranges, carried-count, carried-total, carried-groups, set-carried}
 
 pub a-file-can-carry : (p : List ℤ) (cs ss : List (List ℕ)) → (first-of (W.refusals p cs ss) ≡ 0) ↔ Carriable p cs ss
 a-file-can-carry p cs ss = (carriable p cs ss, not-refused p cs ss)

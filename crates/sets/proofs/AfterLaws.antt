@@ -22,7 +22,8 @@ use Rattle.sets.specs.Inside.{Reached, reached, placing, run, Tested, te
 use Rattle.sets.specs.Promises.{Contours}
 use Rattle.sets.proofs.FateLaws.{Smaller, fate-smaller}
 use Rattle.sets.proofs.PlaceLaws.{joined-more, room-rest}
-use Rattle.sets.proofs.LaidLaws.{joined-append, points-even, rows-long, rows-laid}
+use Rattle.buffer.proofs.SetLaws.{joined-append}
+use Rattle.sets.proofs.LaidLaws.{points-even, rows-long, rows-laid}
 
 -- contours that stay, laid behind what is written
 abbrev pub after : Stay → Reached → Reached

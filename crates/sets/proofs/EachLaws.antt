@@ -22,7 +22,7 @@ use Rattle.sets.specs.Promises.{Contours}
 use Rattle.sets.proofs.FateLaws.{fate-smaller}
 use Rattle.sets.proofs.PlaceLaws.{joined-more, all-named}
 use Rattle.sets.proofs.ShapeLaws.{names-moved}
-use Rattle.sets.proofs.LaidLaws.{joined-append}
+use Rattle.buffer.proofs.SetLaws.{joined-append}
 use Rattle.sets.proofs.AfterLaws.{placing-long, room-next}
 
 pub joined-both : (l k : List (List ℤ)) → length (joined (l ++ k)) ≡ length (joined l) + length (joined k)

@@ -3,7 +3,7 @@ use mathlib.Core.Path.{_≡_, refl, _∙_, ap, subst, sym}
 use mathlib.Core.Logic.{⊎-elim}
 use mathlib.Core.Bool.{Bool, true, false, _&&_}
 use mathlib.Core.List.{List, [], _∷_, _++_, map}
-use Prim.Native.Nat.{_-_, _*_, ℕ, zero, suc, _+_}
+use Prim.Native.Nat.{_-_, _*_, ℕ, zero, suc}
 use native.Mathlib.Omega.{arith}
 use lib.ListN.{length, take, drop, length-map}
 use lib.IntN.{ℤ, pos}
@@ -43,7 +43,8 @@ use Rattle.sets.specs.Promises.Follow.{no-more, same-area, no-area}
 use Rattle.sets.specs.Promises.ShapesFollow.{no-shapes, falls, stands as shape-stands}
 use Rattle.sets.specs.Verdicts.{passes}
 use Rattle.sets.specs.Outcome.{Lent, Left, lacking, outcome, shape-left, shape-outcome, shapes-left, shapes-outcome}
-use Rattle.sets.proofs.LaidLaws.{even-append, points-even, laid-length}
+use Rattle.buffer.proofs.SetLaws.{laid-length}
+use Rattle.sets.proofs.LaidLaws.{even-append, points-even}
 use Rattle.sets.proofs.PlaceLaws.{accepted-named, all-named, all-cut}
 
 -- what becomes of a contour of the domain: it stays with its exact doubled area, or had none

@@ -1,7 +1,7 @@
 -- Lists laid end to end, and the ranges that are written for them.
-use mathlib.Core.Path.{_≡_, refl, sym, _∙_, ap}
-use mathlib.Core.List.{List, [], _∷_, _++_, append-assoc}
-use Prim.Native.Nat.{ℕ, suc, _+_, _*_}
+use mathlib.Core.Path.{_≡_, _∙_, ap}
+use mathlib.Core.List.{List, [], _∷_, _++_}
+use Prim.Native.Nat.{ℕ, _+_, _*_}
 use native.Mathlib.Omega.{arith}
 use lib.IntN.{ℤ}
 use lib.ListN.{length, length-map}
@@ -10,12 +10,8 @@ use Rattle.buffer.specs.declared.ranges.Span.{Span}
 use Rattle.buffer.specs.Spans.{row, rows, total, laid}
 use Rattle.buffer.specs.Sets.{joined, Even}
 use Rattle.buffer.proofs.RowLaws.{rows-append}
+use Rattle.buffer.proofs.SetLaws.{laid-length}
 use Rattle.buffer.proofs.Theorems.{points-total}
-
-pub joined-append : {A : Type 0} (a b : List (List A)) → joined (a ++ b) ≡ joined a ++ joined b
-unfolding joined
-joined-append [] b = refl
-joined-append {A} (c ∷ a) b = ap (λ (l : List A). c ++ l) (joined-append a b) ∙ sym (append-assoc c (joined a) (joined b))
 
 pub even-append : (a b : List (List ℤ)) → Even a → Even b → Even (a ++ b)
 even-append [] b h k = k
@@ -23,11 +19,6 @@ even-append (c ∷ a) b h k = (h .0, even-append a b (h .1) k)
 
 pub points-even : (t : List (List ℤ)) → Even t → length (joined t) ≡ 2 * count (joined t)
 points-even t h = omega (arith, points-total t h)
-
-pub laid-length : (p : ℕ) (sizes : List ℕ) → length (laid p sizes) ≡ length sizes
-unfolding laid
-laid-length p [] = refl
-laid-length p (n ∷ sizes) = ap suc (laid-length (p + n) sizes)
 
 laid-append : (p q : ℕ) (a b : List ℕ) → q ≡ p + total a → laid p (a ++ b) ≡ laid p a ++ laid q b
 unfolding laid

@@ -1,16 +1,10 @@
 -- `setfile::judging::met_more` meets its contract.
 use borrow.Author.Needs.{needs}
-use mathlib.Core.Bool.{Bool, true, false}
-use Prim.Native.Nat.{_≤_}
 use native.Mathlib.Omega.{arith}
-use mir.Val.{boolByte}
+use Rattle.setfile.proofs.BitLaws.{byte-below}
 use Rattle.setfile.proofs.JudgeLaws.{met-is}
 use Rattle.setfile.proofs.judging.met_more.Statement.{statement}
 use Rattle.setfile.proofs.judging.met_more.Tie as tie
-
-byte-few : (b : Bool) → boolByte b ≤ 1
-byte-few true = omega arith
-byte-few false = omega arith
 
 held-requires : tie.Need-held-requires
 held-requires c κs = search needs
@@ -46,7 +40,7 @@ cast-t12 : tie.Need-cast-t12
 cast-t12 c = search needs
 
 add-t13 : tie.Need-add-t13
-add-t13 c = omega (arith, byte-few (c .before .before .before .starts .result), c .before .before .before .before .before .before .pre .0 .shapes-few, c .before .before .before .before .before .before .pre .1)
+add-t13 c = omega (arith, byte-below (c .before .before .before .starts .result), c .before .before .before .before .before .before .pre .0 .shapes-few, c .before .before .before .before .before .before .pre .1)
 
 returns : tie.Need-returns
 returns c = let s = c .before .before .before .before .before .before .before .args in met-is (s .bytes .now) (s .m) _ _ _ (c .before .before .before .before .before .held .ensures) (c .before .before .before .before .starts .ensures) (c .before .before .before .all-on .ensures)

@@ -3,7 +3,7 @@ use borrow.Author.Needs.{needs}
 use native.Mathlib.Omega.{arith}
 use mir.Facts.{fits-of-lt}
 use Rattle.setfile.proofs.WriteLaws.{both-put}
-use Rattle.setfile.proofs.CodedLaws.{begins-is, begins-small}
+use Rattle.setfile.proofs.BitLaws.{byte-digit, byte-below}
 use Rattle.setfile.proofs.putting.put_contour.Statement.{statement}
 use Rattle.setfile.proofs.putting.put_contour.Tie as tie
 
@@ -11,10 +11,10 @@ cast-head : tie.Need-cast-head
 cast-head c = search needs
 
 mul-head : tie.Need-mul-head
-mul-head c = fits-of-lt (omega (arith, begins-small (c .before .args .begins)))
+mul-head c = fits-of-lt (omega (arith, byte-below (c .before .args .begins)))
 
 add-head : tie.Need-add-head
-add-head c = fits-of-lt (omega (arith, begins-small (c .before .args .begins)))
+add-head c = fits-of-lt (omega (arith, byte-below (c .before .args .begins)))
 
 put-pair-requires : tie.Need-put-pair-requires
 put-pair-requires c κs = search needs
@@ -28,7 +28,7 @@ same-length c = search needs
 returns : tie.Need-returns
 returns c =
     let s = c .before .before .before .before .before .before .before .before .before in
-    let e = begins-is (s .args .begins) in
+    let e = byte-digit (s .args .begins) in
     both-put (s .pre) (rw e at (c .before .before .before .before .before .before .put-pair .ensures)) (c .before .before .put-places .ensures)
 
 pub put-contour-spec : {M : Type 1} → statement M
