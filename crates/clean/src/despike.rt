@@ -12,34 +12,37 @@ use crate::cleaning::Cleaned;
 use grid::Verdict;
 use ring::Rule;
 
-// Whether, equal neighbours skipped, three or more points are left and none of them is a spike.
+// Whether, equal neighbours skipped, three or more points are left and none of them is a spike. Only where the way does
+// not turn can an edge be still: it leads to an equal neighbour, and is passed over.
 fn none_back(points: &[i32], n: usize) -> bool
     requires { ⌜ Contour (now points) n × (3 ≤ n) ⌝ }
     ensures { λ r. ⌜ r ≡ no-spike-left (distinct-neighbours (points-of (now (points .entry)))) ⌝ }
 {
-    let mut a = grid::point_at(points, n - 1);
-    let first = grid::next_other(points, n, 0, a);
+    let first = grid::first_other(points, n);
     if first == n {
         return false;
     }
-    let o = grid::point_at(points, first);
-    let mut b = o;
+    let closing = grid::edge_at(points, n - 1, first);
+    let mut to = closing;
     let mut kept: usize = 1;
-    let mut i = grid::next_other(points, n, first + 1, o);
+    let mut i = first + 1;
     while i < n {
-        let c = grid::point_at(points, i);
-        if grid::turns_back(a, b, c) {
+        let from = grid::edge_at(points, i - 1, i);
+        if !grid::parallel(to, from) {
+            to = from;
+            kept += 1;
+            i += 1;
+        } else if grid::still(from) {
+            i += 1;
+        } else if grid::against(to, from) {
             return false;
+        } else {
+            to = from;
+            kept += 1;
+            i += 1;
         }
-        a = b;
-        b = c;
-        kept += 1;
-        i = grid::next_other(points, n, i + 1, c);
     }
-    if kept < 3 {
-        return false;
-    }
-    !grid::turns_back(a, b, o)
+    3 <= kept && !grid::opposed(to, closing)
 }
 
 // Whether the contour has no spikes, equal neighbours aside. Mostly there are no equal neighbours either, and one quick

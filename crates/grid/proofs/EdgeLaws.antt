@@ -1,18 +1,23 @@
 -- Edges tell the same of a corner as its three points.
 use mathlib.Core.Path.{_≡_, refl, sym, _∙_, ap, ap₂}
 use mathlib.Core.Bool.{Bool, true, false, _&&_, true≢false}
+use mathlib.Core.List.{[], _∷_}
 use Prim.Native.Nat.{zero, suc}
 use native.Mathlib.Omega.{arith}
 use lib.IntN.{ℤ, pos, negsuc, _-ℤ_, _*ℤ_, +ℤ-invr}
 use lib.Signed.{ltZ}
 use borrow.Author.Tests.{ne-eqb}
 use Rattle.integers.specs.Equal.{eqZ}
+use Rattle.integers.specs.Polynomial.{#, num as const, _:*_}
 use Rattle.integers.specs.Linear.{at, num, _:-_, above, below}
+use Rattle.integers.proofs.Logic.{and-left, and-right}
+use Rattle.integers.proofs.Polynomial.{ring}
 use Rattle.integers.proofs.Ring.{⊖-eq}
 use Rattle.integers.proofs.Linear.{difference, same-parts}
 use Rattle.integers.proofs.Equal.{eqZ-true, eqZ-same}
 use Rattle.grid.specs.declared.Point.{Point}
-use Rattle.grid.specs.Points.{same, sign, dot, step, bend, reverses, between, still, parallel, opposed}
+use Rattle.grid.specs.declared.Edge.{Edge}
+use Rattle.grid.specs.Points.{same, sign, dot, step, bend, turn, reverses, between, turn-along, still, parallel, opposed}
 use Rattle.grid.specs.Corners.{straight, back}
 use Rattle.grid.proofs.AroundLaws.{corner}
 
@@ -48,13 +53,34 @@ sign-none-test (pos zero) = refl
 sign-none-test (pos (suc n)) = sym (ne-eqb (suc n) 0 (λ h. omega arith))
 sign-none-test (negsuc n) = refl
 
+pub parallel-turn : (u v : Edge) → parallel u v ≡ eqZ (turn-along u v) (pos 0)
+unfolding parallel
+parallel-turn u v = eqZ-difference (u .dx *ℤ v .dy) (u .dy *ℤ v .dx) ∙ sym (sign-none-test (u .dx *ℤ v .dy -ℤ u .dy *ℤ v .dx))
+
+times-none : (z : ℤ) → z *ℤ pos 0 ≡ pos 0
+times-none z = ring (# 0 :* const (pos 0)) (const (pos 0)) (z ∷ []) refl
+
+-- where the way turns, the next edge is not still
+pub moving : (u v : Edge) → parallel u v ≡ false → still v ≡ false
+unfolding parallel
+moving u v n = go (still v) refl
+  where
+    go : (t : Bool) → still v ≡ t → still v ≡ false
+    go false f = f
+    go true f =
+        let xs = eqZ-true (v .dx) (pos 0) (and-left (eqZ (v .dx) (pos 0)) (eqZ (v .dy) (pos 0)) f) in
+        let ys = eqZ-true (v .dy) (pos 0) (and-right (eqZ (v .dx) (pos 0)) (eqZ (v .dy) (pos 0)) f) in
+        let e : parallel u v ≡ true = ap₂ eqZ (ap (λ (z : ℤ). u .dx *ℤ z) ys ∙ times-none (u .dx)) (ap (λ (z : ℤ). u .dy *ℤ z) xs ∙ times-none (u .dy)) in
+        absurd (true≢false (sym e ∙ n))
+
 module _ (a b c : Point) where
+  pub turn-edges : turn a b c ≡ turn-along (between a b) (between b c)
+  unfolding bend
+  turn-edges = refl
+
   pub straight-edges : straight (corner a b c) ≡ parallel (between a b) (between b c)
-  unfolding bend parallel
-  straight-edges =
-      let u = between a b in
-      let v = between b c in
-      sign-none-test (u .dx *ℤ v .dy -ℤ u .dy *ℤ v .dx) ∙ sym (eqZ-difference (u .dx *ℤ v .dy) (u .dy *ℤ v .dx))
+  unfolding bend
+  straight-edges = sym (parallel-turn (between a b) (between b c))
 
   pub back-edges : back (corner a b c) ≡ opposed (between a b) (between b c)
   unfolding reverses

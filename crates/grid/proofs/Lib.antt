@@ -7,3 +7,4 @@ pub mod LadderLaws
 pub mod DomainLaws
 pub mod VerdictLaws
 pub mod EdgeLaws
+pub mod AlongLaws

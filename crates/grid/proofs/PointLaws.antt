@@ -7,16 +7,15 @@ use native.Mathlib.Omega.{arith}
 use lib.Dec.{T}
 use lib.IntN.{ℤ, pos, negsuc, _-ℤ_}
 use lib.Signed.{ltZ}
-use mir.Syntax.{w32, w64}
+use mir.Syntax.{w32}
 use mir.Val.{toZ, ofZ}
 use borrow.Author.Tests.{ltb-true, lt-ltb}
 use Rattle.integers.specs.Bound.{In}
-use Rattle.integers.proofs.Bound.{in-sub, in-add, in-mul, back, back-in}
+use Rattle.integers.proofs.Bound.{in-sub, in-add, in-mul}
 use Rattle.integers.proofs.Logic.{and-left, and-right}
 use Rattle.grid.specs.declared.Point.{Point}
-use Rattle.grid.specs.declared.Steps.{Steps}
 use Rattle.grid.specs.Limits.{limit, on-grid, all-on-grid}
-use Rattle.grid.specs.Points.{at, sign, on, cross, dot, step, edges, Short, AllOn}
+use Rattle.grid.specs.Points.{at, sign, on, cross, dot, step, Short, AllOn}
 use Rattle.grid.proofs.LimitLaws.{on-grid-in, on-grid-back, all-on-grid-at}
 
 pub sign-below : (z : ℤ) → ltZ z (pos 0) ≡ true → sign z ≡ negsuc 0
@@ -63,27 +62,6 @@ corner-steps {a} {b} {c} k = record {
   vx-in = gap-in (b .x) (c .x) (x-on b (k .b-on)) (x-on c (k .c-on));
   vy-in = gap-in (b .y) (c .y) (y-on b (k .b-on)) (y-on c (k .c-on));
 }
-
--- the same steps, as they are passed on
-pub short-passed : {a b c : Point} (s : Steps) → s ≡ edges a b c → AllOn a b c
-    → Short (toZ w64 (ofZ w64 (s .ux))) (toZ w64 (ofZ w64 (s .uy))) (toZ w64 (ofZ w64 (s .vx))) (toZ w64 (ofZ w64 (s .vy)))
-unfolding limit
-short-passed s e k =
-    let t = corner-steps k in
-    rw e
-    (record {
-      ux-in = back-in w64 (t .ux-in) tt;
-      uy-in = back-in w64 (t .uy-in) tt;
-      vx-in = back-in w64 (t .vx-in) tt;
-      vy-in = back-in w64 (t .vy-in) tt;
-    })
-
-pub steps-back : {a b c : Point} (s : Steps) → s ≡ edges a b c → AllOn a b c
-    → record { ux = toZ w64 (ofZ w64 (s .ux)); uy = toZ w64 (ofZ w64 (s .uy)); vx = toZ w64 (ofZ w64 (s .vx)); vy = toZ w64 (ofZ w64 (s .vy)) } ≡ edges a b c
-unfolding limit
-steps-back s e k =
-    let t = corner-steps k in
-    rw e (rw (back w64 (t .ux-in) tt, back w64 (t .uy-in) tt, back w64 (t .vx-in) tt, back w64 (t .vy-in) tt))
 
 -- cross and dot of differences of grid points lie within ±2^61
 pub cross-within : {a b c : Point} → AllOn a b c → In (2 ^ 61) (cross (step a b) (step b c))

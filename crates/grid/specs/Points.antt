@@ -9,7 +9,6 @@ use lib.Signed.{ltZ}
 use Rattle.integers.specs.Equal.{eqZ}
 use Rattle.integers.specs.Bound.{In}
 use Rattle.grid.specs.declared.Point.{Point}
-use Rattle.grid.specs.declared.Steps.{Steps}
 use Rattle.grid.specs.declared.Edge.{Edge}
 use Rattle.grid.specs.Limits.{limit, on-grid}
 
@@ -66,10 +65,6 @@ sign (pos zero) = pos 0
 sign (pos (suc n)) = pos 1
 sign (negsuc n) = negsuc 0
 
--- the two edges at b on the way from a to c
-abbrev pub edges : Point → Point → Point → Steps
-edges a b c = record { ux = b .x -ℤ a .x; uy = b .y -ℤ a .y; vx = c .x -ℤ b .x; vy = c .y -ℤ b .y }
-
 -- the cross of the two edges at b, on the way from a to c
 unfoldable pub bend : Point → Point → Point → ℤ
 bend a b c = cross (step a b) (step b c)
@@ -90,10 +85,18 @@ between a b = record { dx = b .x -ℤ a .x; dy = b .y -ℤ a .y }
 abbrev pub still : Edge → Bool
 still u = eqZ (u .dx) (pos 0) && eqZ (u .dy) (pos 0)
 
+-- how the way turns from one edge to the next: 1 left, 0 straight on or back, -1 right
+abbrev pub turn-along : Edge → Edge → ℤ
+turn-along u v = sign (u .dx *ℤ v .dy -ℤ u .dy *ℤ v .dx)
+
+-- two edges point against each other
+abbrev pub against : Edge → Edge → Bool
+against u v = ltZ (u .dx *ℤ v .dx +ℤ u .dy *ℤ v .dy) (pos 0)
+
 -- two edges have cross 0
 unfoldable pub parallel : Edge → Edge → Bool
 parallel u v = eqZ (u .dx *ℤ v .dy) (u .dy *ℤ v .dx)
 
 -- two edges have cross 0 and point against each other
 abbrev pub opposed : Edge → Edge → Bool
-opposed u v = parallel u v && ltZ (u .dx *ℤ v .dx +ℤ u .dy *ℤ v .dy) (pos 0)
+opposed u v = parallel u v && against u v

@@ -3,15 +3,15 @@ pub mod reply;
 
 ghost use mathlib.Core.Path.{_≡_};
 ghost use mathlib.Core.Bool.{true};
-ghost use Prim.Native.Nat.{_+_, _*_, _<_, _≤_};
+ghost use Prim.Native.Nat.{_+_, _*_, _<_};
 ghost use lib.ListN.{length};
 ghost use lib.IntN.{_+ℤ_, _-ℤ_, _*ℤ_};
 ghost use Rattle.grid.specs.Limits.{limit, on-grid, all-on-grid};
-ghost use Rattle.grid.specs.Points.{at, on, same as same-point, sign as sign-of, turn as turn-of, reverses as reverses-at, Short, AllOn, edges as edges-of, between as between-of, parallel as parallel-of, opposed as opposed-of, still as still-of};
+ghost use Rattle.grid.specs.Points.{at, on, same as same-point, sign as sign-of, turn as turn-of, Short, AllOn, between as between-of, turn-along as turn-along-of, against as against-of, parallel as parallel-of, opposed as opposed-of, still as still-of};
 ghost use Rattle.grid.specs.Ladder.{first-of};
 ghost use Rattle.grid.specs.Corners.{straight as straight-at, back as back-at};
 ghost use Rattle.grid.specs.Domain.{domain as domain-of, Contour};
-ghost use Rattle.grid.specs.Inside.{raised as raised-of, Other};
+ghost use Rattle.grid.specs.Inside.{raised as raised-of, First};
 
 // The largest coordinate, either side of 0.
 pub const LIMIT: i32 = 536_870_912;
@@ -120,14 +120,6 @@ pub fn same(a: Point, b: Point) -> bool
     a.x == b.x && a.y == b.y
 }
 
-// Two steps, u and v.
-struct Steps {
-    ux: i64,
-    uy: i64,
-    vx: i64,
-    vy: i64,
-}
-
 // From one coordinate to another.
 fn gap(from: i32, to: i32) -> i64
     requires { ⌜ (on-grid from ≡ true) × (on-grid to ≡ true) ⌝ }
@@ -165,37 +157,6 @@ fn sign(z: i64) -> i32
     }
 }
 
-// The two edges at b on the way from a to c: the step from a to b, and the step from b to c.
-fn edges(a: Point, b: Point, c: Point) -> Steps
-    requires { ⌜ AllOn a b c ⌝ }
-    ensures { λ r. ⌜ r ≡ edges-of a b c ⌝ }
-{
-    Steps {
-        ux: gap(a.x, b.x),
-        uy: gap(a.y, b.y),
-        vx: gap(b.x, c.x),
-        vy: gap(b.y, c.y),
-    }
-}
-
-// How the way from a to c turns at b: 1 left, 0 straight on or back, -1 right.
-pub fn turn(a: Point, b: Point, c: Point) -> i32
-    requires { ⌜ AllOn a b c ⌝ }
-    ensures { λ r. ⌜ r ≡ turn-of a b c ⌝ }
-{
-    let e = edges(a, b, c);
-    sign(cross(e.ux, e.uy, e.vx, e.vy))
-}
-
-// Whether the two edges at b, on the way from a to c, point against each other.
-pub fn reverses(a: Point, b: Point, c: Point) -> bool
-    requires { ⌜ AllOn a b c ⌝ }
-    ensures { λ r. ⌜ r ≡ reverses-at a b c ⌝ }
-{
-    let e = edges(a, b, c);
-    dot(e.ux, e.uy, e.vx, e.vy) < 0
-}
-
 // An edge: how far it goes in x and in y.
 pub struct Edge {
     pub dx: i64,
@@ -228,6 +189,22 @@ pub fn still(u: Edge) -> bool
     u.dx == 0 && u.dy == 0
 }
 
+// How the way turns from one edge to the next: 1 left, 0 straight on or back, -1 right.
+pub fn turn_along(u: Edge, v: Edge) -> i32
+    requires { ⌜ Short (u .dx) (u .dy) (v .dx) (v .dy) ⌝ }
+    ensures { λ r. ⌜ r ≡ turn-along-of u v ⌝ }
+{
+    sign(cross(u.dx, u.dy, v.dx, v.dy))
+}
+
+// Whether two edges point against each other.
+pub fn against(u: Edge, v: Edge) -> bool
+    requires { ⌜ Short (u .dx) (u .dy) (v .dx) (v .dy) ⌝ }
+    ensures { λ r. ⌜ r ≡ against-of u v ⌝ }
+{
+    dot(u.dx, u.dy, v.dx, v.dy) < 0
+}
+
 // Whether two edges have cross 0.
 pub fn parallel(u: Edge, v: Edge) -> bool
     requires { ⌜ Short (u .dx) (u .dy) (v .dx) (v .dy) ⌝ }
@@ -241,11 +218,15 @@ pub fn opposed(u: Edge, v: Edge) -> bool
     requires { ⌜ Short (u .dx) (u .dy) (v .dx) (v .dy) ⌝ }
     ensures { λ r. ⌜ r ≡ opposed-of u v ⌝ }
 {
-    if parallel(u, v) {
-        dot(u.dx, u.dy, v.dx, v.dy) < 0
-    } else {
-        false
-    }
+    if parallel(u, v) { against(u, v) } else { false }
+}
+
+// How the way from a to c turns at b: 1 left, 0 straight on or back, -1 right.
+pub fn turn(a: Point, b: Point, c: Point) -> i32
+    requires { ⌜ AllOn a b c ⌝ }
+    ensures { λ r. ⌜ r ≡ turn-of a b c ⌝ }
+{
+    turn_along(between(a, b), between(b, c))
 }
 
 // Whether the two edges at b, on the way from a to c, have cross 0.
@@ -253,7 +234,7 @@ pub fn straight(a: Point, b: Point, c: Point) -> bool
     requires { ⌜ AllOn a b c ⌝ }
     ensures { λ r. ⌜ r ≡ straight-at (record { before = a; vertex = b; after = c }) ⌝ }
 {
-    turn(a, b, c) == 0
+    parallel(between(a, b), between(b, c))
 }
 
 // Whether the way from a to c turns back at b: cross 0 with dot below 0.
@@ -261,24 +242,21 @@ pub fn turns_back(a: Point, b: Point, c: Point) -> bool
     requires { ⌜ AllOn a b c ⌝ }
     ensures { λ r. ⌜ r ≡ back-at (record { before = a; vertex = b; after = c }) ⌝ }
 {
-    if straight(a, b, c) {
-        reverses(a, b, c)
-    } else {
-        false
-    }
+    opposed(between(a, b), between(b, c))
 }
 
-// The first position from i on whose point differs from b; n where there is none.
-pub fn next_other(points: &[i32], n: usize, i: usize, b: Point) -> usize
-    requires { ⌜ Contour (now points) n × (i ≤ n) ⌝ }
-    ensures { λ r. ⌜ Other (now (points .entry)) n i b r ⌝ }
+// The first position whose point differs from the last point; n where all are equal.
+pub fn first_other(points: &[i32], n: usize) -> usize
+    requires { ⌜ Contour (now points) n × (0 < n) ⌝ }
+    ensures { λ r. ⌜ First (now (points .entry)) n r ⌝ }
 {
-    let mut here = i;
-    while here < n {
-        if !same(point_at(points, here), b) {
-            return here;
+    let last = point_at(points, n - 1);
+    let mut i: usize = 0;
+    while i < n {
+        if !same(point_at(points, i), last) {
+            return i;
         }
-        here += 1;
+        i += 1;
     }
     n
 }

@@ -1,87 +1,155 @@
 -- What has been seen of the corners, and the question as a whole.
-use mathlib.Core.Path.{_≡_, refl, sym, _∙_, ap}
+use mathlib.Core.Path.{_≡_, refl, sym, _∙_, ap, ap₂}
 use mathlib.Core.Bool.{Bool, true, false, not, _&&_, _||_, or-true, or-false, true≢false}
-use mathlib.Core.List.{List, [], _∷_}
-use Prim.Native.Nat.{ℕ, _+_, _-_, _<_, _≤_}
+use mathlib.Core.List.{List, []}
+use Prim.Native.Nat.{ℕ, zero, suc, _+_, _-_, _<_, _≤_}
 use native.Mathlib.Omega.{arith}
 use native.Mathlib.Decide.{decLe}
 use lib.Dec.{leb}
 use lib.ListN.{length, drop}
-use lib.IntN.{ℤ, pos}
+use lib.IntN.{ℤ, pos, negsuc, _-ℤ_, _*ℤ_}
 use lib.Signed.{ltZ}
 use borrow.Author.Tests.{le-leb, lt-leb}
+use Rattle.integers.specs.Equal.{eqZ}
 use Rattle.integers.proofs.Logic.{and-left, and-right}
 use Rattle.grid.specs.declared.Point.{Point}
-use Rattle.grid.specs.Points.{at, points, bend, turn, reverses}
+use Rattle.grid.specs.declared.Edge.{Edge}
+use Rattle.grid.specs.Points.{at, points, sign, bend, between, still, turn-along, against, opposed}
 use Rattle.grid.specs.Corners.{differing, corners, some, left, right, back}
 use Rattle.grid.specs.Domain.{count, Contour}
-use Rattle.grid.specs.Inside.{Other, First}
+use Rattle.grid.specs.Inside.{First}
 use Rattle.grid.proofs.PointLaws.{sign-left, sign-right, sign-none}
 use Rattle.grid.proofs.RowLaws.{points-count}
 use Rattle.grid.proofs.CornerLaws.{few-turn-nowhere}
-use Rattle.grid.proofs.AroundLaws.{corner, Tally, tally-more, tally-met, tally-all, tally-start, left-over, Around, around-next, around-none, around-count}
+use Rattle.grid.proofs.AroundLaws.{corner, Tally, tally-more, tally-met, tally-all}
+use Rattle.grid.proofs.EdgeLaws.{parallel-turn, moving, back-edges}
+use Rattle.grid.proofs.AlongLaws.{left-over, Along, along-start, tally-start, next-from, next-skipped, along-skipped, next-kept, along-kept, closing-next, along-none, along-count}
 use Rattle.path.specs.declared.Seen.{Seen}
 use Rattle.path.specs.Convex.{one-way, convex-left, is-convex}
-use Rattle.path.specs.Inside.{looked}
+use Rattle.path.specs.Inside.{looked, one-sided}
 
 -- one corner more
-module _ (s : Seen) (a b c : Point) where
-  pub looked-left : ltZ (pos 0) (turn a b c) ≡ true → record { left = true; right = s .right; back = s .back } ≡ looked s (corner a b c)
-  looked-left t = simp (sign-left (bend a b c) t, or-true, or-false)
+abbrev turned : Edge → Edge → ℤ
+turned u v = u .dx *ℤ v .dy -ℤ u .dy *ℤ v .dx
 
-  pub looked-right : ltZ (turn a b c) (pos 0) ≡ true → record { left = s .left; right = true; back = s .back } ≡ looked s (corner a b c)
-  looked-right t = simp (sign-right (bend a b c) t, or-true, or-false)
+module _ (s : Seen) (u v : Edge) where
+  looked-left : ltZ (pos 0) (turn-along u v) ≡ true → record { left = true; right = s .right; back = s .back } ≡ looked s u v
+  looked-left t = simp (parallel-turn u v, sign-left (turned u v) t, or-true, or-false)
 
-  pub looked-none : (r : Bool) → ltZ (pos 0) (turn a b c) ≡ false → ltZ (turn a b c) (pos 0) ≡ false → r ≡ reverses a b c
-      → record { left = s .left; right = s .right; back = s .back || r } ≡ looked s (corner a b c)
-  looked-none r t u e = simp (sign-none (bend a b c) t u, or-false, e)
+  looked-right : ltZ (turn-along u v) (pos 0) ≡ true → record { left = s .left; right = true; back = s .back } ≡ looked s u v
+  looked-right t = simp (parallel-turn u v, sign-right (turned u v) t, or-true, or-false)
 
--- what the corners up to b have shown
-pub record Sight (s : Seen) (l : List Point) (o a b : Point) (unmet : List Point) : Type 0 where
-  pub lefts : Tally left (s .left) l o a b unmet
-  pub rights : Tally right (s .right) l o a b unmet
-  pub backs : Tally back (s .back) l o a b unmet
+  looked-none : (r : Bool) → ltZ (pos 0) (turn-along u v) ≡ false → ltZ (turn-along u v) (pos 0) ≡ false → r ≡ against u v
+      → record { left = s .left; right = s .right; back = s .back || r } ≡ looked s u v
+  looked-none r t f e = simp (parallel-turn u v, sign-none (turned u v) t f, or-false, e)
 
-sight-more : {s : Seen} {l : List Point} {o a b c : Point} {unmet : List Point} → Sight s l o a b (c ∷ unmet) → Sight (looked s (corner a b c)) l o b c unmet
-sight-more x = record { lefts = tally-more (x .lefts); rights = tally-more (x .rights); backs = tally-more (x .backs) }
+-- which turns are left and right
+left-test : (z : ℤ) → ltZ (pos 0) (sign z) ≡ eqZ (sign z) (pos 1)
+left-test (pos zero) = refl
+left-test (pos (suc n)) = refl
+left-test (negsuc n) = refl
 
-sight-all : {s : Seen} {l : List Point} {o a b : Point} → Sight s l o a b [] → let t = looked s (corner a b o) in (not (t .left && t .right) && not (t .back)) ≡ one-way (corners l)
-sight-all x = sym (rw (tally-all (x .lefts), tally-all (x .rights), tally-all (x .backs)))
+right-test : (z : ℤ) → ltZ (sign z) (pos 0) ≡ eqZ (sign z) (negsuc 0)
+right-test (pos zero) = refl
+right-test (pos (suc n)) = refl
+right-test (negsuc n) = refl
 
--- both ways have been seen, which two points or fewer cannot show
-pub both-ways : {s : Seen} {l : List Point} {o a b : Point} {unmet : List Point} → Sight s l o a b unmet → (s .left && s .right) ≡ true → false ≡ convex-left l
-unfolding convex-left
-both-ways {s} {l} x e =
-    let p = tally-met (x .lefts) (and-left (s .left) (s .right) e) in
-    let q = tally-met (x .rights) (and-right (s .left) (s .right) e) in
-    rw (many p, p, q)
-  where
-    many : some left (corners l) ≡ true → leb (length l) 2 ≡ false
-    many p = go (decLe (length l) 2)
-      where
-        go : Dec (length l ≤ 2) → leb (length l) 2 ≡ false
-        go (yes h) = absurd (true≢false (sym p ∙ few-turn-nowhere (pos 1) refl l h))
-        go (no h) = lt-leb (length l) 2 (omega arith)
+-- the closing corner
+pub closes-told : (s : Seen) (u v : Edge) (t : ℤ) (o : Bool) → t ≡ turn-along u v → o ≡ opposed u v
+    → (not ((s .left || ltZ (pos 0) t) && (s .right || ltZ t (pos 0))) && not (s .back || o)) ≡ one-sided (looked s u v)
+closes-told s u v t o e f = rw (e, f, left-test (turned u v), right-test (turned u v))
 
-module _ (row : List ℤ) {n : ℕ} (c : Contour row n) where
-  pub sight-start : (first i : ℕ) → First row n first → Other row n (first + 1) (at row first) i
-      → Sight (record { left = false; right = false; back = false }) (left-over row) (at row first) (at row (n - 1)) (at row first) (differing (at row first) (drop i (points row)))
-  sight-start first i x y = record { lefts = tally-start row c first i x y left; rights = tally-start row c first i x y right; backs = tally-start row c first i x y back }
+-- what the two edges at a corner show is what the corner shows
+looked-corner : (s : Seen) {u v : Edge} (a b p : Point) → u ≡ between a b → v ≡ between b p
+    → looked s u v ≡ record { left = s .left || left (corner a b p); right = s .right || right (corner a b p); back = s .back || back (corner a b p) }
+unfolding bend
+looked-corner s a b p e f =
+    ap₂ (looked s) e f
+    ∙ ap (λ (t : Bool). record { left = s .left || left (corner a b p); right = s .right || right (corner a b p); back = s .back || t }) (sym (back-edges a b p))
 
-  module _ {o a b : Point} {s : Seen} {kept i : ℕ} (w : Around row n a b kept i) (x : Sight s (left-over row) o a b (differing b (drop i (points row)))) where
-    pub sight-kept : i < n → Sight (looked s (corner a b (at row i))) (left-over row) o b (at row i) (differing (at row i) (drop (i + 1) (points row)))
-    sight-kept h = sight-more (rw (around-next row c w h) at x)
+module _ (row : List ℤ) where
+  -- what the corners up to the last point kept have shown
+  pub record Sight (n : ℕ) (s : Seen) (first : ℕ) (to : Edge) (kept i : ℕ) : Type 0 where
+    pub a : Point
+    pub b : Point
+    pub along : Along row n a b to kept i
+    pub lefts : Tally left (s .left) (left-over row) (at row first) a b (differing b (drop i (points row)))
+    pub rights : Tally right (s .right) (left-over row) (at row first) a b (differing b (drop i (points row)))
+    pub backs : Tally back (s .back) (left-over row) (at row first) a b (differing b (drop i (points row)))
 
-    module _ (e : n ≤ i) where
-      pub few-left : kept ≤ 2 → true ≡ convex-left (left-over row)
+  module _ {n : ℕ} (c : Contour row n) where
+    pub sight-start : (first : ℕ) → First row n first → first < n → (closing : Edge) → closing ≡ between (at row (n - 1)) (at row first)
+        → Sight n (record { left = false; right = false; back = false }) first closing 1 (first + 1)
+    sight-start first x h closing e = record {
+      a = at row (n - 1);
+      b = at row first;
+      along = along-start row c first x h closing e;
+      lefts = tally-start row c first x h left;
+      rights = tally-start row c first x h right;
+      backs = tally-start row c first x h back;
+    }
+
+    module _ {s : Seen} {first : ℕ} {to : Edge} {kept i : ℕ} (w : Sight n s first to kept i) where
+      module _ (l : i < n) {from : Edge} (e : from ≡ between (at row (i - 1)) (at row i)) where
+        pub sight-skip : still from ≡ true → Sight n s first to kept (i + 1)
+        sight-skip f =
+            let r = next-skipped row c (w .along) l e f in
+            record { a = w .a; b = w .b; along = along-skipped row c (w .along) l e f; lefts = rw r at (w .lefts); rights = rw r at (w .rights); backs = rw r at (w .backs) }
+
+        sight-keep : still from ≡ false → Sight n (looked s to from) first from (kept + 1) (i + 1)
+        sight-keep f =
+            let r = next-kept row c (w .along) l e f in
+            rw (looked-corner s (w .a) (w .b) (at row i) (w .along .to-is) (next-from row c (w .along) i e))
+            (record {
+              a = w .b;
+              b = at row i;
+              along = along-kept row c (w .along) l e f;
+              lefts = tally-more (rw r at (w .lefts));
+              rights = tally-more (rw r at (w .rights));
+              backs = tally-more (rw r at (w .backs));
+            })
+
+        pub sight-left : ltZ (pos 0) (turn-along to from) ≡ true → Sight n (record { left = true; right = s .right; back = s .back }) first from (kept + 1) (i + 1)
+        sight-left t =
+            let p = parallel-turn to from ∙ ap (λ (z : ℤ). eqZ z (pos 0)) (sign-left (turned to from) t) in
+            rw (looked-left s to from t) (sight-keep (moving to from p))
+
+        pub sight-right : ltZ (turn-along to from) (pos 0) ≡ true → Sight n (record { left = s .left; right = true; back = s .back }) first from (kept + 1) (i + 1)
+        sight-right t =
+            let p = parallel-turn to from ∙ ap (λ (z : ℤ). eqZ z (pos 0)) (sign-right (turned to from) t) in
+            rw (looked-right s to from t) (sight-keep (moving to from p))
+
+        pub sight-on : ltZ (pos 0) (turn-along to from) ≡ false → ltZ (turn-along to from) (pos 0) ≡ false → still from ≡ false → (r : Bool) → r ≡ against to from
+            → Sight n (record { left = s .left; right = s .right; back = s .back || r }) first from (kept + 1) (i + 1)
+        sight-on t u f r e = rw (looked-none s to from r t u e) (sight-keep f)
+
+      -- both ways have been seen, which two points or fewer cannot show
+      pub both-ways : (s .left && s .right) ≡ true → false ≡ convex-left (left-over row)
       unfolding convex-left
-      few-left h = sym (ap (λ (t : Bool). t || one-way (corners (left-over row))) (le-leb (length (left-over row)) 2 (omega (arith, around-count row c w e))))
+      both-ways e =
+          let p = tally-met (w .lefts) (and-left (s .left) (s .right) e) in
+          let q = tally-met (w .rights) (and-right (s .left) (s .right) e) in
+          rw (many p, p, q)
+        where
+          many : some left (corners (left-over row)) ≡ true → leb (length (left-over row)) 2 ≡ false
+          many p = go (decLe (length (left-over row)) 2)
+            where
+              go : Dec (length (left-over row) ≤ 2) → leb (length (left-over row)) 2 ≡ false
+              go (yes h) = absurd (true≢false (sym p ∙ few-turn-nowhere (pos 1) refl (left-over row) h))
+              go (no h) = lt-leb (length (left-over row)) 2 (omega arith)
 
-      pub closed : 2 < kept → (t : Seen) → t ≡ looked s (corner a b o) → (not (t .left && t .right) && not (t .back)) ≡ convex-left (left-over row)
-      unfolding convex-left
-      closed h t f =
-          let m = lt-leb (length (left-over row)) 2 (omega (arith, around-count row c w e)) in
-          rw (f, m) (sight-all (rw (around-none row c w e) at x))
+      module _ (l : n ≤ i) where
+        pub few-left : kept ≤ 2 → true ≡ convex-left (left-over row)
+        unfolding convex-left
+        few-left h = sym (ap (λ (t : Bool). t || one-way (corners (left-over row))) (le-leb (length (left-over row)) 2 (omega (arith, along-count row c (w .along) l))))
+
+        pub closed : {closing : Edge} → closing ≡ between (at row (n - 1)) (at row first) → 2 < kept → one-sided (looked s to closing) ≡ convex-left (left-over row)
+        unfolding convex-left
+        closed e h =
+            let none = along-none row c (w .along) l in
+            let m = lt-leb (length (left-over row)) 2 (omega (arith, along-count row c (w .along) l)) in
+            let k = looked-corner s (w .a) (w .b) (at row first) (w .along .to-is) (next-from row c (w .along) first (closing-next row c (w .along) l first e)) in
+            ap one-sided k ∙ rw m (sym (rw (tally-all (rw none at (w .lefts)), tally-all (rw none at (w .rights)), tally-all (rw none at (w .backs)))))
 
 -- the question as a whole
 module _ (row : List ℤ) where

@@ -2,14 +2,15 @@
 ghost use mathlib.Core.Path.{_≡_};
 ghost use mathlib.Core.Bool.{true};
 ghost use Prim.Native.Nat.{_<_};
-ghost use Rattle.grid.specs.Points.{AllOn, on, points as points-of};
+ghost use Rattle.grid.specs.Points.{AllOn, Short, on, points as points-of};
 ghost use Rattle.grid.specs.Corners.{distinct-neighbours};
 ghost use Rattle.grid.specs.Domain.{Contour};
 ghost use Rattle.grid.specs.Inside.{First};
 ghost use Rattle.path.specs.Convex.{convex-left, convex as convex-verdict};
-ghost use Rattle.path.specs.Inside.{looked};
+ghost use Rattle.path.specs.Inside.{looked, one-sided};
 ghost use Rattle.path.specs.Clockwise.{clockwise};
 ghost use Rattle.path.specs.Contains.{above, crosses as crosses-at, contained, contains as contains-verdict};
+use grid::Edge;
 use grid::Point;
 pub use grid::Verdict;
 
@@ -20,64 +21,60 @@ struct Seen {
     back: bool,
 }
 
-// What is seen with the corner at b, on the way from a to c.
-fn look(seen: Seen, a: Point, b: Point, c: Point) -> Seen
-    requires { ⌜ AllOn a b c ⌝ }
-    ensures { λ r. ⌜ r ≡ looked seen (record { before = a; vertex = b; after = c }) ⌝ }
+// Whether what was seen, with the last corner, is one way and never back.
+fn closes(seen: Seen, to: Edge, from: Edge) -> bool
+    requires { ⌜ Short (to .dx) (to .dy) (from .dx) (from .dy) ⌝ }
+    ensures { λ r. ⌜ r ≡ one-sided (looked seen to from) ⌝ }
 {
-    let turn = grid::turn(a, b, c);
-    if turn > 0 {
-        return Seen {
-            left: true,
-            right: seen.right,
-            back: seen.back,
-        };
-    }
-    if turn < 0 {
-        return Seen {
-            left: seen.left,
-            right: true,
-            back: seen.back,
-        };
-    }
-    Seen {
-        left: seen.left,
-        right: seen.right,
-        back: seen.back | grid::reverses(a, b, c),
-    }
+    let turn = grid::turn_along(to, from);
+    let left = seen.left | (turn > 0);
+    let right = seen.right | (turn < 0);
+    let back = seen.back | grid::opposed(to, from);
+    !(left & right) & !back
 }
 
-// Whether the contour turns one way and never back. Its point at `first` is the first that differs from the last.
+// Whether the contour turns one way and never back. Its point at `first` is the first that differs from the last. Only
+// where the way does not turn can an edge be still: it leads to an equal neighbour, and is passed over.
 fn one_way(points: &[i32], n: usize, first: usize) -> bool
-    requires { ⌜ Contour (now points) n × First (now points) n first ⌝ }
+    requires { ⌜ Contour (now points) n × First (now points) n first × (first < n) ⌝ }
     ensures { λ r. ⌜ r ≡ convex-left (distinct-neighbours (points-of (now (points .entry)))) ⌝ }
 {
-    let o = grid::point_at(points, first);
-    let mut a = grid::point_at(points, n - 1);
-    let mut b = o;
-    let mut seen = Seen {
-        left: false,
-        right: false,
-        back: false,
-    };
+    let closing = grid::edge_at(points, n - 1, first);
+    let mut to = closing;
+    let mut left = false;
+    let mut right = false;
+    let mut back = false;
     let mut kept: usize = 1;
-    let mut i = grid::next_other(points, n, first + 1, o);
+    let mut i = first + 1;
     while i < n {
-        let c = grid::point_at(points, i);
-        seen = look(seen, a, b, c);
-        if seen.left & seen.right {
-            return false;
+        let from = grid::edge_at(points, i - 1, i);
+        let turn = grid::turn_along(to, from);
+        if turn > 0 {
+            if right {
+                return false;
+            }
+            left = true;
+            to = from;
+            kept += 1;
+            i += 1;
+        } else if turn < 0 {
+            if left {
+                return false;
+            }
+            right = true;
+            to = from;
+            kept += 1;
+            i += 1;
+        } else if grid::still(from) {
+            i += 1;
+        } else {
+            back = back | grid::against(to, from);
+            to = from;
+            kept += 1;
+            i += 1;
         }
-        a = b;
-        b = c;
-        kept += 1;
-        i = grid::next_other(points, n, i + 1, c);
     }
-    if kept <= 2 {
-        return true;
-    }
-    let all = look(seen, a, b, o);
-    !(all.left & all.right) & !all.back
+    kept <= 2 || closes(Seen { left, right, back }, to, closing)
 }
 
 // Whether all turns have one sign and no edge reverses, equal neighbours skipped.
@@ -98,7 +95,7 @@ pub fn is_convex(points: &[i32]) -> Verdict
             yes: true,
         };
     }
-    let first = grid::next_other(points, n, 0, grid::point_at(points, n - 1));
+    let first = grid::first_other(points, n);
     if first == n {
         return Verdict {
             reply: grid::reply::DONE,

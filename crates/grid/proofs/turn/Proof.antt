@@ -1,30 +1,25 @@
--- `grid::turn` meets its contract: the sign of the cross of the two edges.
+-- `grid::turn` meets its contract: the turn from one edge to the next.
 use borrow.Author.Needs.{needs, sfits-of}
-use mathlib.Core.Path.{_∙_, ap}
-use lib.IntN.{_-ℤ_, _*ℤ_}
+use mathlib.Core.Path.{sym, _∙_, ap₂}
 use mir.Facts.{toZ-ofZ}
-use Rattle.grid.specs.declared.Steps.{Steps}
-use Rattle.grid.specs.Points.{sign, bend}
-use Rattle.grid.proofs.PointLaws.{short-passed, steps-back}
+use Rattle.grid.specs.Points.{turn-along}
+use Rattle.grid.proofs.PointLaws.{corner-steps}
+use Rattle.grid.proofs.EdgeLaws.{turn-edges}
 use Rattle.grid.proofs.turn.Statement.{statement}
 use Rattle.grid.proofs.turn.Tie as tie
 
-edges-requires : tie.Need-edges-requires
-edges-requires c κs = search needs
+between-requires : tie.Need-between-requires
+between-requires c κs = search needs
 
-cross-requires : tie.Need-cross-requires
-cross-requires c κs = let e = c .before .before .before .before in short-passed (e .edges .result) (e .edges .ensures) (e .before .pre)
+between-requires-2 : tie.Need-between-requires-2
+between-requires-2 c κs = search needs
 
-sign-requires : tie.Need-sign-requires
-sign-requires c κs = search needs
+turn-along-requires : tie.Need-turn-along-requires
+turn-along-requires c κs = rw (c .before .between .ensures, c .between2 .ensures) (corner-steps (c .before .before .pre))
 
 returns : tie.Need-returns
-unfolding bend
 returns c =
-    let d = c .before in
-    let e = d .before .before .before .before .before in
-    toZ-ofZ (sfits-of (c .sign .ok)) ∙ c .sign .ensures
-    ∙ ap sign (toZ-ofZ (sfits-of (d .cross .ok)) ∙ d .cross .ensures ∙ ap (λ (t : Steps). t .ux *ℤ t .vy -ℤ t .uy *ℤ t .vx) (steps-back (e .edges .result) (e .edges .ensures) (e .before .pre)))
+    toZ-ofZ (sfits-of (c .turn-along .ok)) ∙ c .turn-along .ensures ∙ ap₂ turn-along (c .before .before .between .ensures) (c .before .between2 .ensures) ∙ sym (turn-edges _ _ _)
 
 pub turn-spec : {M : Type 1} → statement M
-turn-spec = tie.close (tie.spec edges-requires cross-requires sign-requires returns)
+turn-spec = tie.close (tie.spec between-requires between-requires-2 turn-along-requires returns)

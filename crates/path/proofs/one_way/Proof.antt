@@ -1,128 +1,163 @@
 -- `path::one_way` meets its contract: what was seen and what is left to see make up all corners.
-use mathlib.Core.Path.{_≡_}
-use Prim.Native.Nat.{_-_}
+use borrow.Author.Needs.{needs, sfits-of}
+use borrow.Author.Tests.{le-leb}
+use mathlib.Core.Path.{_≡_, sym, _∙_, ap}
+use mathlib.Core.Bool.{Bool, true, _&&_}
+use Prim.Native.Nat.{_+_, _-_}
 use native.Mathlib.Omega.{arith}
-use lib.ListN.{drop}
-use Rattle.grid.specs.Points.{at, points}
-use Rattle.grid.specs.Corners.{differing}
-use Rattle.grid.proofs.PointLaws.{at-on}
-use Rattle.grid.proofs.AroundLaws.{corner, left-over, Around, around-start, around-more}
-use Rattle.path.specs.Inside.{looked}
-use Rattle.path.proofs.ConvexLaws.{Sight, sight-start, sight-kept, both-ways, few-left, closed}
+use mir.Syntax.{w32}
+use mir.Val.{toZ, ofZ}
+use mir.Facts.{toZ-ofZ}
+use Rattle.grid.specs.Points.{turn-along}
+use Rattle.grid.proofs.AlongLaws.{next-short, closing-next}
+use Rattle.path.proofs.ConvexLaws.{Sight, sight-start, sight-skip, sight-left, sight-right, sight-on, both-ways, few-left, closed}
 use Rattle.path.proofs.one_way.Statement.{statement}
 use Rattle.path.proofs.one_way.Tie as tie
 
 abbrev Inv-loop : tie.InvT-loop
-Inv-loop row n first o a₀ b₀ seen₀ kept₀ i₀ a b seen kept i = (o ≡ at row first) × Around row n a b kept i × Sight seen (left-over row) o a b (differing b (drop i (points row)))
+Inv-loop row n first closing to₀ left₀ right₀ back₀ kept₀ i₀ to left right back kept i = Sight row n (record { left = left; right = right; back = back }) first to kept i
 
 abbrev μ-loop : tie.MeasureT-loop
-μ-loop row n first o a₀ b₀ seen₀ kept₀ i₀ a b seen kept i = n - i
+μ-loop row n first closing to₀ left₀ right₀ back₀ kept₀ i₀ to left right back kept i = n - i
 
--- what is seen with the point at i
-seen-is : (c : tie.After-look Inv-loop μ-loop) → let l = c .before .before .before in
-    c .look .result ≡ looked (l .loop .seen) (corner (l .loop .a) (l .loop .b) (at (l .before .before .before .before .args .points .now) (l .loop .i)))
-seen-is c = rw (c .before .point-at3 .ensures) at (c .look .ensures)
+-- the turn that was answered
+told : (c : tie.After-turn-along Inv-loop μ-loop) → toZ w32 (ofZ w32 (c .turn-along .result)) ≡ turn-along (c .before .before .before .loop .to) (c .before .edge-at2 .result)
+told c = toZ-ofZ (sfits-of (c .turn-along .ok)) ∙ c .turn-along .ensures
 
-point-at-requires : tie.Need-point-at-requires Inv-loop μ-loop
-point-at-requires c κs = omega (arith, c .pre .0 .even, c .pre .1 .inside)
+-- what is seen with a turn to the left, or to the right
+left-seen : (c : tie.Then1 Inv-loop μ-loop) → let l = c .before .before .before .before in
+    Sight (l .before .before .args .points .now) (l .before .before .args .n) (record { left = true; right = l .loop .right; back = l .loop .back })
+    (l .before .before .args .first) (c .before .before .edge-at2 .result) (l .loop .kept + 1) (l .loop .i + 1)
+left-seen c =
+    let t = c .before .before .before in
+    let s = t .before .before .before in
+    sight-left (s .args .points .now) (s .pre .0) (t .before .loop .inv) (t .loop-test .taken) (c .before .before .edge-at2 .ensures) (rw (told (c .before)) at (c .if1 .taken))
 
-sub-point-at : tie.Need-sub-point-at Inv-loop μ-loop
-sub-point-at c = omega (arith, c .before .pre .1 .inside)
+right-seen : (c : tie.Then3 Inv-loop μ-loop) → let l = c .before .before .before .before .before in
+    Sight (l .before .before .args .points .now) (l .before .before .args .n) (record { left = l .loop .left; right = true; back = l .loop .back })
+    (l .before .before .args .first) (c .before .before .before .edge-at2 .result) (l .loop .kept + 1) (l .loop .i + 1)
+right-seen c =
+    let t = c .before .before .before .before in
+    let s = t .before .before .before in
+    sight-right (s .args .points .now) (s .pre .0) (t .before .loop .inv) (t .loop-test .taken) (c .before .before .before .edge-at2 .ensures) (rw (told (c .before .before)) at (c .if3 .taken))
 
-point-at-requires-2 : tie.Need-point-at-requires-2 Inv-loop μ-loop
-point-at-requires-2 c κs = omega (arith, c .before .pre .0 .even, c .before .pre .1 .inside)
+sub-edge-at : tie.Need-sub-edge-at Inv-loop μ-loop
+sub-edge-at c = omega (arith, c .pre .2)
 
-add-next-other : tie.Need-add-next-other Inv-loop μ-loop
-add-next-other c = omega (arith, c .before .before .fits .n, c .before .before .pre .1 .inside)
+edge-at-requires : tie.Need-edge-at-requires Inv-loop μ-loop
+edge-at-requires c κs = (c .pre .0 .on, omega (arith, c .pre .0 .even, c .pre .2), omega (arith, c .pre .0 .even, c .pre .2))
 
-next-other-requires : tie.Need-next-other-requires Inv-loop μ-loop
-next-other-requires c κs = let p = c .before .before .pre in (p .0, omega (arith, p .1 .inside))
+add-i : tie.Need-add-i Inv-loop μ-loop
+add-i c = omega (arith, c .before .fits .n, c .before .pre .2)
 
 loop-holds : tie.Need-loop-holds Inv-loop μ-loop
-loop-holds c =
-    let s = c .before .before .before in
-    let o = c .before .before .point-at .ensures in
-    let y = rw o at (c .next-other .ensures) in (
-      o,
-      rw (o, c .before .point-at2 .ensures) (around-start (s .args .points .now) (s .pre .0) (s .args .first) _ (s .pre .1) y),
-      rw (o, c .before .point-at2 .ensures) (sight-start (s .args .points .now) (s .pre .0) (s .args .first) _ (s .pre .1) y),
-    )
+loop-holds c = let s = c .before in sight-start (s .args .points .now) (s .pre .0) (s .args .first) (s .pre .1) (s .pre .2) _ (c .edge-at .ensures)
 
-point-at-requires-3 : tie.Need-point-at-requires-3 Inv-loop μ-loop
-point-at-requires-3 c κs = omega (arith, c .before .before .before .before .before .pre .0 .even)
+sub-edge-at-2 : tie.Need-sub-edge-at-2 Inv-loop μ-loop
+sub-edge-at-2 c = omega (arith, c .before .loop .inv .along .low)
 
-look-requires : tie.Need-look-requires Inv-loop μ-loop
-look-requires c κs =
+edge-at-requires-2 : tie.Need-edge-at-requires-2 Inv-loop μ-loop
+edge-at-requires-2 c κs =
+    let p = c .before .before .before .pre .0 in
+    (p .on, omega (arith, p .even, c .loop-test .taken), omega (arith, p .even, c .loop-test .taken))
+
+turn-along-requires : tie.Need-turn-along-requires Inv-loop μ-loop
+turn-along-requires c κs =
     let l = c .before .before in
-    let s = l .before .before .before .before in
-    record {
-      a-on = l .loop .inv .1 .a-on;
-      b-on = l .loop .inv .1 .b-on;
-      c-on = rw (c .point-at3 .ensures) (at-on (s .args .points .now) (l .loop .i) (s .pre .0 .on));
-    }
+    let s = l .before .before in
+    next-short (s .args .points .now) (s .pre .0) (l .loop .inv .along) (l .loop .i) (c .edge-at2 .ensures)
 
 returns : tie.Need-returns Inv-loop μ-loop
 returns c =
-    let k = c .before .before in
-    let l = k .before .before .before in
-    let s = l .before .before .before .before in
-    both-ways (rw (← seen-is k) at (sight-kept (s .args .points .now) (s .pre .0) (l .loop .inv .1) (l .loop .inv .2) (k .before .before .loop-test .taken))) (c .if1 .taken)
+    let s = c .before .before .before .before .before .before .before in
+    both-ways (s .args .points .now) (s .pre .0) (left-seen (c .before)) (c .if2 .taken)
 
 add-kept : tie.Need-add-kept Inv-loop μ-loop
-add-kept c =
-    let t = c .before .before .before .before in
-    omega (arith, t .before .loop .inv .1 .few, t .before .before .before .before .before .fits .n, t .loop-test .taken)
+add-kept c = omega (arith, c .before .before .before .before .before .loop .inv .along .few, c .before .before .before .before .before .before .before .fits .n, c .before .before .before .before .loop-test .taken)
 
-add-next-other-2 : tie.Need-add-next-other-2 Inv-loop μ-loop
-add-next-other-2 c =
-    let t = c .before .before .before .before in
-    omega (arith, t .before .before .before .before .before .fits .n, t .loop-test .taken)
-
-next-other-requires-2 : tie.Need-next-other-requires-2 Inv-loop μ-loop
-next-other-requires-2 c κs =
-    let t = c .before .before .before .before in
-    (t .before .before .before .before .before .pre .0, omega (arith, t .loop-test .taken))
+add-i-2 : tie.Need-add-i-2 Inv-loop μ-loop
+add-i-2 c = omega (arith, c .before .before .before .before .before .before .before .fits .n, c .before .before .before .before .loop-test .taken)
 
 loop-less : tie.Need-loop-less Inv-loop μ-loop
-loop-less c =
-    let t = c .before .before .before .before .before in
-    omega (arith, t .loop-test .taken, c .next-other2 .ensures .from)
+loop-less c = omega (arith, c .before .before .before .before .loop-test .taken)
 
 loop-again : tie.Need-loop-again Inv-loop μ-loop
-loop-again c =
-    let k = c .before .before .before in
-    let l = k .before .before .before in
-    let s = l .before .before .before .before in
-    let here = k .before .point-at3 .ensures in
-    let y = rw here at (c .next-other2 .ensures) in
-    let t = k .before .before .loop-test .taken in (
-      l .loop .inv .0,
-      rw here (around-more (s .args .points .now) (s .pre .0) (l .loop .inv .1) t _ y),
-      rw (seen-is k, here, ← y .skipped) (sight-kept (s .args .points .now) (s .pre .0) (l .loop .inv .1) (l .loop .inv .2) t),
-    )
+loop-again c = left-seen (c .before)
 
 returns-2 : tie.Need-returns-2 Inv-loop μ-loop
 returns-2 c =
-    let l = c .before .before in
-    let s = l .before .before .before .before in
-    few-left (s .args .points .now) (s .pre .0) (l .loop .inv .1) (l .loop .inv .2) (c .before .loop-test .left) (c .if2 .taken)
+    let s = c .before .before .before .before .before .before .before .before in
+    both-ways (s .args .points .now) (s .pre .0) (right-seen (c .before)) (ap (λ (t : Bool). t && true) (c .if4 .taken))
 
-look-requires-2 : tie.Need-look-requires-2 Inv-loop μ-loop
-look-requires-2 c κs =
+add-kept-2 : tie.Need-add-kept-2 Inv-loop μ-loop
+add-kept-2 c = omega (arith, c .before .before .before .before .before .before .loop .inv .along .few, c .before .before .before .before .before .before .before .before .fits .n, c .before .before .before .before .before .loop-test .taken)
+
+add-i-3 : tie.Need-add-i-3 Inv-loop μ-loop
+add-i-3 c = omega (arith, c .before .before .before .before .before .before .before .before .fits .n, c .before .before .before .before .before .loop-test .taken)
+
+loop-less-2 : tie.Need-loop-less-2 Inv-loop μ-loop
+loop-less-2 c = omega (arith, c .before .before .before .before .before .loop-test .taken)
+
+loop-again-2 : tie.Need-loop-again-2 Inv-loop μ-loop
+loop-again-2 c = right-seen (c .before)
+
+still-requires : tie.Need-still-requires Inv-loop μ-loop
+still-requires c κs = search needs
+
+add-i-4 : tie.Need-add-i-4 Inv-loop μ-loop
+add-i-4 c = omega (arith, c .before .before .before .before .before .before .before .before .before .fits .n, c .before .before .before .before .before .before .loop-test .taken)
+
+loop-less-3 : tie.Need-loop-less-3 Inv-loop μ-loop
+loop-less-3 c = omega (arith, c .before .before .before .before .before .before .loop-test .taken)
+
+loop-again-3 : tie.Need-loop-again-3 Inv-loop μ-loop
+loop-again-3 c =
+    let t = c .before .before .before .before .before .before in
+    let s = t .before .before .before in
+    sight-skip (s .args .points .now) (s .pre .0) (t .before .loop .inv) (t .loop-test .taken) (c .before .before .before .before .before .edge-at2 .ensures) (sym (c .before .still .ensures) ∙ c .if5 .taken)
+
+against-requires : tie.Need-against-requires Inv-loop μ-loop
+against-requires c κs =
+    let l = c .before .before .before .before .before .before .before in
+    let s = l .before .before in
+    next-short (s .args .points .now) (s .pre .0) (l .loop .inv .along) (l .loop .i) (c .before .before .before .before .before .edge-at2 .ensures)
+
+add-kept-3 : tie.Need-add-kept-3 Inv-loop μ-loop
+add-kept-3 c = omega (arith, c .before .before .before .before .before .before .before .before .loop .inv .along .few, c .before .before .before .before .before .before .before .before .before .before .fits .n, c .before .before .before .before .before .before .before .loop-test .taken)
+
+add-i-5 : tie.Need-add-i-5 Inv-loop μ-loop
+add-i-5 c = omega (arith, c .before .before .before .before .before .before .before .before .before .before .fits .n, c .before .before .before .before .before .before .before .loop-test .taken)
+
+loop-less-4 : tie.Need-loop-less-4 Inv-loop μ-loop
+loop-less-4 c = omega (arith, c .before .before .before .before .before .before .before .loop-test .taken)
+
+loop-again-4 : tie.Need-loop-again-4 Inv-loop μ-loop
+loop-again-4 c =
+    let u = c .before .before .before .before .before in
+    let t = u .before .before in
+    let s = t .before .before .before in
+    sight-on (s .args .points .now) (s .pre .0) (t .before .loop .inv) (t .loop-test .taken) (u .before .edge-at2 .ensures)
+    (rw (told u) at (c .before .before .before .before .if1 .left)) (rw (told u) at (c .before .before .before .if3 .left)) (sym (c .before .before .still .ensures) ∙ c .before .if5 .left) _ (c .against .ensures)
+
+closes-requires : tie.Need-closes-requires Inv-loop μ-loop
+closes-requires c κs =
     let l = c .before .before in
-    let s = l .before .before .before .before in
-    record {
-      a-on = l .loop .inv .1 .a-on;
-      b-on = l .loop .inv .1 .b-on;
-      c-on = rw (l .loop .inv .0) (at-on (s .args .points .now) (s .args .first) (s .pre .0 .on));
-    }
+    let s = l .before .before in
+    let row = s .args .points .now in
+    let w = l .loop .inv .along in
+    next-short row (s .pre .0) w (s .args .first) (closing-next row (s .pre .0) w (c .before .loop-test .left) (s .args .first) (l .before .edge-at .ensures))
 
 returns-3 : tie.Need-returns-3 Inv-loop μ-loop
 returns-3 c =
-    let k = c .before .before in
-    let l = k .before .before .before in
-    let s = l .before .before .before .before in
-    closed (s .args .points .now) (s .pre .0) (l .loop .inv .1) (l .loop .inv .2) (k .before .before .loop-test .left) (k .before .if2 .left) (k .look2 .result) (k .look2 .ensures)
+    let l = c .before .before in
+    let s = l .before .before in
+    le-leb _ 2 (c .if6 .taken) ∙ few-left (s .args .points .now) (s .pre .0) (l .loop .inv) (c .before .loop-test .left) (c .if6 .taken)
+
+returns-4 : tie.Need-returns-4 Inv-loop μ-loop
+returns-4 c =
+    let l = c .before .before .before in
+    let s = l .before .before in
+    c .closes .ensures ∙ closed (s .args .points .now) (s .pre .0) (l .loop .inv) (c .before .before .loop-test .left) (l .before .edge-at .ensures) (c .before .if6 .left)
 
 pub one-way-spec : {M : Type 1} → statement M
 one-way-spec =
@@ -130,20 +165,32 @@ one-way-spec =
     (tie.spec
     Inv-loop
     μ-loop
-    point-at-requires
-    sub-point-at
-    point-at-requires-2
-    add-next-other
-    next-other-requires
+    sub-edge-at
+    edge-at-requires
+    add-i
     loop-holds
-    point-at-requires-3
-    look-requires
+    sub-edge-at-2
+    edge-at-requires-2
+    turn-along-requires
     returns
     add-kept
-    add-next-other-2
-    next-other-requires-2
+    add-i-2
     loop-less
     loop-again
     returns-2
-    look-requires-2
-    returns-3)
+    add-kept-2
+    add-i-3
+    loop-less-2
+    loop-again-2
+    still-requires
+    add-i-4
+    loop-less-3
+    loop-again-3
+    against-requires
+    add-kept-3
+    add-i-5
+    loop-less-4
+    loop-again-4
+    closes-requires
+    returns-3
+    returns-4)

@@ -1,144 +1,130 @@
 -- `clean::despike::none_back` meets its contract: no corner passed is a spike.
-use mathlib.Core.Path.{_≡_, sym, _∙_, ap}
-use Prim.Native.Nat.{_-_}
+use borrow.Author.Needs.{needs}
+use borrow.Author.Tests.{not-true, not-false, lt-leb}
+use mathlib.Core.Path.{sym, _∙_}
+use Prim.Native.Nat.{_-_, _<_}
 use native.Mathlib.Omega.{arith}
-use Rattle.grid.specs.declared.Point.{Point}
-use Rattle.grid.specs.Points.{at}
-use Rattle.grid.specs.Corners.{back}
-use Rattle.grid.specs.Inside.{Other, First}
-use Rattle.grid.proofs.PointLaws.{at-on}
-use Rattle.grid.proofs.AroundLaws.{corner, nothing-left, around-start, around-more}
-use Rattle.clean.proofs.VerdictLaws.{Onward, onward-start, onward-more, spike-met, few-kept, onward-all, too-few}
+use Rattle.grid.proofs.AlongLaws.{nothing-left, next-short, closing-next}
+use Rattle.clean.proofs.VerdictLaws.{Onward, onward-start, onward-skip, onward-turn, onward-on, spike-met, few-kept, onward-all, too-few}
 use Rattle.clean.proofs.despike.none_back.Statement.{statement}
 use Rattle.clean.proofs.despike.none_back.Tie as tie
 
 abbrev Inv-loop : tie.InvT-loop
-Inv-loop row n a₀ first o b₀ kept₀ i₀ a b kept i = (o ≡ at row first) × Onward row n o a b kept i
+Inv-loop row n first closing to₀ kept₀ i₀ to kept i = Onward row n first to kept i
 
 abbrev μ-loop : tie.MeasureT-loop
-μ-loop row n a₀ first o b₀ kept₀ i₀ a b kept i = n - i
+μ-loop row n first closing to₀ kept₀ i₀ to kept i = n - i
 
--- where the first point stands that differs from the last
-other : (c : tie.After-next-other Inv-loop μ-loop) → let s = c .before .before in Other (s .args .points .now) (s .args .n) 0 (at (s .args .points .now) (s .args .n - 1)) (c .next-other .result)
-other c = rw (c .before .point-at .ensures) at (c .next-other .ensures)
+-- some point differs from the last
+inside : (c : tie.Else1 Inv-loop μ-loop) → c .before .first-other .result < c .before .before .args .n
+inside c = omega (arith, c .before .first-other .ensures .within, c .if1 .left)
 
-first-is : (c : tie.Else1 Inv-loop μ-loop) → let s = c .before .before .before in First (s .args .points .now) (s .args .n) (c .before .next-other .result)
-first-is c = let x = other (c .before) in record { other = x; inside = omega (arith, x .within, c .if1 .left) }
-
--- whether the corner before the point at i is a spike
-told : (c : tie.After-turns-back Inv-loop μ-loop) → let l = c .before .before .before in
-    c .turns-back .result ≡ back (corner (l .loop .a) (l .loop .b) (at (l .before .before .before .before .before .before .args .points .now) (l .loop .i)))
-told c = let l = c .before .before .before in c .turns-back .ensures ∙ ap (λ (p : Point). back (corner (l .loop .a) (l .loop .b) p)) (c .before .point-at3 .ensures)
-
-sub-point-at : tie.Need-sub-point-at Inv-loop μ-loop
-sub-point-at c = omega (arith, c .pre .1)
-
-point-at-requires : tie.Need-point-at-requires Inv-loop μ-loop
-point-at-requires c κs = omega (arith, c .pre .0 .even, c .pre .1)
-
-next-other-requires : tie.Need-next-other-requires Inv-loop μ-loop
-next-other-requires c κs = (c .before .pre .0, omega arith)
+first-other-requires : tie.Need-first-other-requires Inv-loop μ-loop
+first-other-requires c κs = (c .pre .0, omega (arith, c .pre .1))
 
 returns : tie.Need-returns Inv-loop μ-loop
 returns c =
-    let s = c .before .before .before in
+    let s = c .before .before in
     let row = s .args .points .now in
-    let none = nothing-left row (s .pre .0) (rw (c .if1 .taken) at (other (c .before))) (omega (arith, s .pre .1)) in
+    let none = nothing-left row (s .pre .0) (rw (c .if1 .taken) at (c .before .first-other .ensures)) (omega (arith, s .pre .1)) in
     too-few row (rw none (omega arith))
 
-point-at-requires-2 : tie.Need-point-at-requires-2 Inv-loop μ-loop
-point-at-requires-2 c κs = omega (arith, c .before .before .before .pre .0 .even, first-is c .inside)
+sub-edge-at : tie.Need-sub-edge-at Inv-loop μ-loop
+sub-edge-at c = omega (arith, c .before .before .pre .1)
 
-add-next-other : tie.Need-add-next-other Inv-loop μ-loop
-add-next-other c = omega (arith, c .before .before .before .before .fits .n, first-is (c .before) .inside)
+edge-at-requires : tie.Need-edge-at-requires Inv-loop μ-loop
+edge-at-requires c κs = let p = c .before .before .pre .0 in (p .on, omega (arith, p .even, c .before .before .pre .1), omega (arith, p .even, inside c))
 
-next-other-requires-2 : tie.Need-next-other-requires-2 Inv-loop μ-loop
-next-other-requires-2 c κs = (c .before .before .before .before .pre .0, omega (arith, first-is (c .before) .inside))
+add-i : tie.Need-add-i Inv-loop μ-loop
+add-i c = omega (arith, c .before .before .before .fits .n, inside (c .before))
 
 loop-holds : tie.Need-loop-holds Inv-loop μ-loop
-loop-holds c =
-    let i = c .before .before in
-    let s = i .before .before .before in
-    let o = c .before .point-at2 .ensures in
-    let y = rw o at (c .next-other2 .ensures) in (
-      o,
-      rw (o, i .before .before .point-at .ensures)
-          (onward-start (s .args .points .now) (s .pre .0) _ _ (first-is i) y (around-start (s .args .points .now) (s .pre .0) _ _ (first-is i) y)),
-    )
+loop-holds c = let s = c .before .before .before in onward-start (s .args .points .now) (s .pre .0) _ (c .before .before .first-other .ensures) (inside (c .before)) _ (c .edge-at .ensures)
 
-point-at-requires-3 : tie.Need-point-at-requires-3 Inv-loop μ-loop
-point-at-requires-3 c κs = omega (arith, c .before .before .before .before .before .before .before .pre .0 .even)
+sub-edge-at-2 : tie.Need-sub-edge-at-2 Inv-loop μ-loop
+sub-edge-at-2 c = omega (arith, c .before .loop .inv .along .low)
 
-turns-back-requires : tie.Need-turns-back-requires Inv-loop μ-loop
-turns-back-requires c κs =
+edge-at-requires-2 : tie.Need-edge-at-requires-2 Inv-loop μ-loop
+edge-at-requires-2 c κs =
+    let p = c .before .before .before .before .before .pre .0 in
+    (p .on, omega (arith, p .even, c .loop-test .taken), omega (arith, p .even, c .loop-test .taken))
+
+parallel-requires : tie.Need-parallel-requires Inv-loop μ-loop
+parallel-requires c κs =
     let l = c .before .before in
-    let s = l .before .before .before .before .before .before in
-    record {
-      a-on = l .loop .inv .1 .around .a-on;
-      b-on = l .loop .inv .1 .around .b-on;
-      c-on = rw (c .point-at3 .ensures) (at-on (s .args .points .now) (l .loop .i) (s .pre .0 .on));
-    }
-
-returns-2 : tie.Need-returns-2 Inv-loop μ-loop
-returns-2 c =
-    let t = c .before .before .before in
-    let s = t .before .before .before .before .before .before .before in
-    spike-met (s .args .points .now) (s .pre .0) (t .before .loop .inv .1) (t .loop-test .taken) (sym (told (c .before)) ∙ c .if2 .taken)
+    let s = c .before .before .before .before .before .before in
+    next-short (s .args .points .now) (s .pre .0) (l .loop .inv .along) (l .loop .i) (c .edge-at2 .ensures)
 
 add-kept : tie.Need-add-kept Inv-loop μ-loop
-add-kept c =
-    let t = c .before .before .before in
-    omega (arith, t .before .loop .inv .1 .around .few, t .before .before .before .before .before .before .before .fits .n, t .loop-test .taken)
+add-kept c = omega (arith, c .before .before .before .before .loop .inv .along .few, c .before .before .before .before .before .before .before .before .fits .n, c .before .before .before .loop-test .taken)
 
-add-next-other-2 : tie.Need-add-next-other-2 Inv-loop μ-loop
-add-next-other-2 c =
-    let t = c .before .before .before in
-    omega (arith, t .before .before .before .before .before .before .before .fits .n, t .loop-test .taken)
-
-next-other-requires-3 : tie.Need-next-other-requires-3 Inv-loop μ-loop
-next-other-requires-3 c κs =
-    let t = c .before .before .before in
-    (t .before .before .before .before .before .before .before .pre .0, omega (arith, t .loop-test .taken))
+add-i-2 : tie.Need-add-i-2 Inv-loop μ-loop
+add-i-2 c = omega (arith, c .before .before .before .before .before .before .before .before .fits .n, c .before .before .before .loop-test .taken)
 
 loop-less : tie.Need-loop-less Inv-loop μ-loop
-loop-less c = omega (arith, c .before .before .before .before .loop-test .taken, c .next-other3 .ensures .from)
+loop-less c = omega (arith, c .before .before .before .loop-test .taken)
 
 loop-again : tie.Need-loop-again Inv-loop μ-loop
 loop-again c =
-    let b = c .before .before in
-    let t = b .before .before in
-    let l = t .before in
-    let s = l .before .before .before .before .before .before in
-    let here = b .before .point-at3 .ensures in
-    let y = rw here at (c .next-other3 .ensures) in
-    let w = l .loop .inv .1 in (
-      l .loop .inv .0,
-      rw here
-          (onward-more (s .args .points .now) (s .pre .0) w (t .loop-test .taken) (sym (told b) ∙ c .before .if2 .left) _ y
-          (around-more (s .args .points .now) (s .pre .0) (w .around) (t .loop-test .taken) _ y)),
-    )
+    let s = c .before .before .before .before .before .before .before .before in
+    onward-turn (s .args .points .now) (s .pre .0) (c .before .before .before .before .loop .inv) (c .before .before .before .loop-test .taken) (c .before .before .edge-at2 .ensures) (sym (c .before .parallel .ensures) ∙ not-true _ (c .if2 .taken))
+
+still-requires : tie.Need-still-requires Inv-loop μ-loop
+still-requires c κs = search needs
+
+add-i-3 : tie.Need-add-i-3 Inv-loop μ-loop
+add-i-3 c = omega (arith, c .before .before .before .before .before .before .before .before .before .before .fits .n, c .before .before .before .before .before .loop-test .taken)
+
+loop-less-2 : tie.Need-loop-less-2 Inv-loop μ-loop
+loop-less-2 c = omega (arith, c .before .before .before .before .before .loop-test .taken)
+
+loop-again-2 : tie.Need-loop-again-2 Inv-loop μ-loop
+loop-again-2 c =
+    let s = c .before .before .before .before .before .before .before .before .before .before in
+    onward-skip (s .args .points .now) (s .pre .0) (c .before .before .before .before .before .before .loop .inv) (c .before .before .before .before .before .loop-test .taken) (c .before .before .before .before .edge-at2 .ensures) (sym (c .before .still .ensures) ∙ c .if3 .taken)
+
+against-requires : tie.Need-against-requires Inv-loop μ-loop
+against-requires c κs =
+    let l = c .before .before .before .before .before .before in
+    let s = c .before .before .before .before .before .before .before .before .before .before in
+    next-short (s .args .points .now) (s .pre .0) (l .loop .inv .along) (l .loop .i) (c .before .before .before .before .edge-at2 .ensures)
+
+returns-2 : tie.Need-returns-2 Inv-loop μ-loop
+returns-2 c =
+    let s = c .before .before .before .before .before .before .before .before .before .before .before .before in
+    spike-met (s .args .points .now) (s .pre .0) (c .before .before .before .before .before .before .before .before .loop .inv) (c .before .before .before .before .before .before .before .loop-test .taken) (c .before .before .before .before .before .before .edge-at2 .ensures) (sym (c .before .before .before .before .before .parallel .ensures) ∙ not-false _ (c .before .before .before .before .if2 .left))
+    (sym (c .before .before .before .still .ensures) ∙ c .before .before .if3 .left) (sym (c .before .against .ensures) ∙ c .if4 .taken)
+
+add-kept-2 : tie.Need-add-kept-2 Inv-loop μ-loop
+add-kept-2 c = omega (arith, c .before .before .before .before .before .before .before .before .loop .inv .along .few, c .before .before .before .before .before .before .before .before .before .before .before .before .fits .n, c .before .before .before .before .before .before .before .loop-test .taken)
+
+add-i-4 : tie.Need-add-i-4 Inv-loop μ-loop
+add-i-4 c = omega (arith, c .before .before .before .before .before .before .before .before .before .before .before .before .fits .n, c .before .before .before .before .before .before .before .loop-test .taken)
+
+loop-less-3 : tie.Need-loop-less-3 Inv-loop μ-loop
+loop-less-3 c = omega (arith, c .before .before .before .before .before .before .before .loop-test .taken)
+
+loop-again-3 : tie.Need-loop-again-3 Inv-loop μ-loop
+loop-again-3 c =
+    let s = c .before .before .before .before .before .before .before .before .before .before .before .before in
+    onward-on (s .args .points .now) (s .pre .0) (c .before .before .before .before .before .before .before .before .loop .inv) (c .before .before .before .before .before .before .before .loop-test .taken) (c .before .before .before .before .before .before .edge-at2 .ensures) (sym (c .before .before .before .still .ensures) ∙ c .before .before .if3 .left) (sym (c .before .against .ensures) ∙ c .if4 .left)
+
+opposed-requires : tie.Need-opposed-requires Inv-loop μ-loop
+opposed-requires c κs =
+    let s = c .before .before .before .before .before .before in
+    let row = s .args .points .now in
+    let w = c .before .before .loop .inv .along in
+    next-short row (s .pre .0) w _ (closing-next row (s .pre .0) w (c .before .loop-test .left) _ (c .before .before .before .edge-at .ensures))
 
 returns-3 : tie.Need-returns-3 Inv-loop μ-loop
 returns-3 c =
-    let l = c .before .before in
-    let s = l .before .before .before .before .before .before in
-    few-kept (s .args .points .now) (s .pre .0) (l .loop .inv .1) (c .before .loop-test .left) (c .if3 .taken)
-
-turns-back-requires-2 : tie.Need-turns-back-requires-2 Inv-loop μ-loop
-turns-back-requires-2 c κs =
-    let l = c .before .before in
-    let s = l .before .before .before .before .before .before in
-    record {
-      a-on = l .loop .inv .1 .around .a-on;
-      b-on = l .loop .inv .1 .around .b-on;
-      c-on = rw (l .loop .inv .0) (at-on (s .args .points .now) _ (s .pre .0 .on));
-    }
+    let s = c .before .before .before .before .before .before .before in
+    onward-all (s .args .points .now) (s .pre .0) (c .before .before .before .loop .inv) (c .before .before .loop-test .left) (c .before .before .before .before .edge-at .ensures) (c .before .if5 .taken) (c .opposed .result) (c .opposed .ensures)
 
 returns-4 : tie.Need-returns-4 Inv-loop μ-loop
 returns-4 c =
-    let l = c .before .before .before in
-    let s = l .before .before .before .before .before .before in
-    onward-all (s .args .points .now) (s .pre .0) (l .loop .inv .1) (c .before .before .loop-test .left) (c .before .if3 .left) (c .turns-back2 .result) (c .turns-back2 .ensures)
+    let s = c .before .before .before .before .before .before in
+    lt-leb 3 _ (c .if5 .left) ∙ few-kept (s .args .points .now) (s .pre .0) (c .before .before .loop .inv) (c .before .loop-test .left) (c .if5 .left)
 
 pub none-back-spec : {M : Type 1} → statement M
 none-back-spec =
@@ -146,22 +132,29 @@ none-back-spec =
     (tie.spec
     Inv-loop
     μ-loop
-    sub-point-at
-    point-at-requires
-    next-other-requires
+    first-other-requires
     returns
-    point-at-requires-2
-    add-next-other
-    next-other-requires-2
+    sub-edge-at
+    edge-at-requires
+    add-i
     loop-holds
-    point-at-requires-3
-    turns-back-requires
-    returns-2
+    sub-edge-at-2
+    edge-at-requires-2
+    parallel-requires
     add-kept
-    add-next-other-2
-    next-other-requires-3
+    add-i-2
     loop-less
     loop-again
+    still-requires
+    add-i-3
+    loop-less-2
+    loop-again-2
+    against-requires
+    returns-2
+    add-kept-2
+    add-i-4
+    loop-less-3
+    loop-again-3
+    opposed-requires
     returns-3
-    turns-back-requires-2
     returns-4)
