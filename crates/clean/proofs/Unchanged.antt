@@ -179,7 +179,3 @@ module _ (row : List ℤ) (next prev mark : List ℕ) (out : List ℤ)
 
     pub unchanged-is-spike-free : o .answer .reply ≡ 0 → o .answer .points ≡ count row → (no-spikes (points row) ≡ true) × (distinct-neighbours (points row) ≡ points row)
     unchanged-is-spike-free z a = stands-spike-free (points row) many-points (all-kept-stands Spike row next prev mark out room many o is z a)
-
--- a contour of which no vertex would be despiked has no spikes
-pub untouched-free : (row : List ℤ) → Contour row (count row) → 3 ≤ count row → {k : ℕ} → Standing (goes Spike row) (count row) k → k ≡ count row → no-spikes (points row) ≡ true
-untouched-free row c many x all = stands-spike-free (points row) (omega (arith, points-count row)) (front-stands Spike row c (rw all at (x .stand))) .0

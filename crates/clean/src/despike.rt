@@ -45,8 +45,7 @@ fn none_back(points: &[i32], n: usize) -> bool
     3 <= kept && !grid::opposed(to, closing)
 }
 
-// Whether the contour has no spikes, equal neighbours aside. Mostly there are no equal neighbours either, and one quick
-// look along the edges tells it.
+// Whether the contour has no spikes, equal neighbours aside.
 pub fn has_no_spikes(points: &[i32]) -> Verdict
     ensures { λ r. ⌜ r ≡ spike-free (now (points .entry)) ⌝ }
 {
@@ -62,12 +61,6 @@ pub fn has_no_spikes(points: &[i32]) -> Verdict
         return Verdict {
             reply: grid::reply::DONE,
             yes: false,
-        };
-    }
-    if ring::standing(Rule::Spike, points, n) == n {
-        return Verdict {
-            reply: grid::reply::DONE,
-            yes: true,
         };
     }
     Verdict {

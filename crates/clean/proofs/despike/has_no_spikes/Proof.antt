@@ -1,12 +1,10 @@
 -- `clean::despike::has_no_spikes` meets its contract.
 use borrow.Author.Needs.{needs}
 use mathlib.Core.Path.{sym, _∙_}
-use native.Mathlib.Omega.{arith}
 use Rattle.grid.proofs.DomainLaws.{in-domain}
 use Rattle.grid.proofs.VerdictLaws.{verdict-refused, verdict-given}
 use Rattle.clean.specs.Verdicts.{spike-free}
 use Rattle.clean.proofs.VerdictLaws.{spikes-few, spikes-many}
-use Rattle.clean.proofs.Unchanged.{untouched-free}
 use Rattle.clean.proofs.despike.has_no_spikes.Statement.{statement}
 use Rattle.clean.proofs.despike.has_no_spikes.Tie as tie
 
@@ -21,30 +19,15 @@ returns-2 : tie.Need-returns-2
 unfolding spike-free
 returns-2 c = verdict-given _ _ _ (sym (c .before .before .domain .ensures) ∙ c .before .if1 .left) (spikes-few _ (c .if2 .taken))
 
-standing-requires : tie.Need-standing-requires
-standing-requires c κs = (in-domain _ (sym (c .before .before .domain .ensures) ∙ c .before .if1 .left), omega (arith, c .if2 .left))
+none-back-requires : tie.Need-none-back-requires
+none-back-requires c κs = (in-domain _ (sym (c .before .before .domain .ensures) ∙ c .before .if1 .left), c .if2 .left)
 
 returns-3 : tie.Need-returns-3
 unfolding spike-free
 returns-3 c =
-    let e = c .before .before in
-    let d = e .before in
-    let z = sym (d .before .domain .ensures) ∙ d .if1 .left in
-    verdict-given _ _ _ z (sym (untouched-free _ (in-domain _ z) (e .if2 .left) (c .before .standing .ensures) (c .if3 .taken)))
-
-none-back-requires : tie.Need-none-back-requires
-none-back-requires c κs =
-    let e = c .before .before in
-    (in-domain _ (sym (e .before .before .domain .ensures) ∙ e .before .if1 .left), e .if2 .left)
-
-returns-4 : tie.Need-returns-4
-unfolding spike-free
-returns-4 c =
-    let e = c .before .before .before in
+    let e = c .before in
     let d = e .before in
     verdict-given _ _ _ (sym (d .before .domain .ensures) ∙ d .if1 .left) (c .none-back .ensures ∙ spikes-many _ (e .if2 .left))
 
 pub has-no-spikes-spec : {M : Type 1} → statement M
-has-no-spikes-spec =
-    tie.close
-    (tie.spec domain-requires returns returns-2 standing-requires returns-3 none-back-requires returns-4)
+has-no-spikes-spec = tie.close (tie.spec domain-requires returns returns-2 none-back-requires returns-3)
