@@ -2,16 +2,9 @@
 use mathlib.Core.Path.{_≡_, sym, _∙_, ap}
 use mathlib.Core.Bool.{Bool, true, false, _||_, or-false, or-assoc}
 use mathlib.Core.List.{List, [], _∷_}
-use Prim.Native.Nat.{ℕ, _-_, _<_}
-use native.Mathlib.Omega.{arith}
-use lib.ListN.{drop}
-use lib.IntN.{ℤ}
 use Rattle.grid.specs.declared.Point.{Point}
-use Rattle.grid.specs.Points.{at, on, points}
+use Rattle.grid.specs.Points.{at, on}
 use Rattle.grid.specs.Corners.{Corner, corners-from, corners, some}
-use Rattle.grid.specs.Domain.{Contour}
-use Rattle.grid.proofs.RowLaws.{points-more}
-use Rattle.grid.proofs.CornerLaws.{last-from}
 
 abbrev pub corner : Point → Point → Point → Corner
 corner a b c = record { before = a; vertex = b; after = c }
@@ -35,11 +28,3 @@ module _ {t : Corner → Bool} {met : Bool} {l : List Point} {o a b : Point} whe
   pub tally-all : Tally t met l o a b [] → some t (corners l) ≡ (met || t (corner a b o))
   unfolding corners-from some
   tally-all x = x .is ∙ ap (λ (u : Bool). met || u) (or-false (t (corner a b o)))
-
-module _ (row : List ℤ) {n : ℕ} (c : Contour row n) where
-  -- all corners, equal neighbours and all
-  pub tally-whole : (t : Corner → Bool) → 0 < n → Tally t false (points row) (at row 0) (at row (n - 1)) (at row 0) (drop 1 (points row))
-  unfolding corners
-  tally-whole t h = record {
-    is = ap (some t) (ap corners (points-more c 0 h) ∙ ap (λ (p : Point). corners-from (at row 0) p (at row 0) (drop 1 (points row))) (last-from c (n - 1) 0 (omega arith)));
-  }

@@ -9,20 +9,16 @@ use lib.Signed.{ltZ}
 use borrow.Author.Tests.{ne-eqb}
 use Rattle.integers.specs.Equal.{eqZ}
 use Rattle.integers.specs.Polynomial.{#, num as const, _:*_}
-use Rattle.integers.specs.Linear.{at, num, _:-_, above, below}
 use Rattle.integers.proofs.Logic.{and-left, and-right}
 use Rattle.integers.proofs.Polynomial.{ring}
-use Rattle.integers.proofs.Ring.{⊖-eq}
-use Rattle.integers.proofs.Linear.{difference, same-parts}
+use Rattle.integers.proofs.Linear.{difference}
+use Rattle.integers.proofs.Polynomial.{no-difference}
 use Rattle.integers.proofs.Equal.{eqZ-true, eqZ-same}
 use Rattle.grid.specs.declared.Point.{Point}
 use Rattle.grid.specs.declared.Edge.{Edge}
 use Rattle.grid.specs.Points.{same, sign, dot, step, bend, turn, reverses, between, turn-along, still, parallel, opposed}
 use Rattle.grid.specs.Corners.{straight, back}
 use Rattle.grid.proofs.AroundLaws.{corner}
-
-equal-none : (x y : ℤ) → x -ℤ y ≡ pos 0 → x ≡ y
-equal-none x y e = difference x ∙ ⊖-eq (above x) (below x) (above y) (below y) (omega (arith, same-parts (at x :- at y) (num 0) e)) ∙ sym (difference y)
 
 -- equal numbers, whichever of them comes first
 eqZ-swap : (x y : ℤ) → eqZ x y ≡ eqZ y x
@@ -45,7 +41,7 @@ eqZ-difference x y = go (eqZ x y) (eqZ (x -ℤ y) (pos 0)) refl refl
     go true true e f = e ∙ sym f
     go false false e f = e ∙ sym f
     go true false e f = absurd (true≢false (sym (none (eqZ-true x y e)) ∙ f))
-    go false true e f = absurd (true≢false (sym (eqZ-same x) ∙ ap (eqZ x) (equal-none x y (eqZ-true (x -ℤ y) (pos 0) f)) ∙ e))
+    go false true e f = absurd (true≢false (sym (eqZ-same x) ∙ ap (eqZ x) (no-difference x y (eqZ-true (x -ℤ y) (pos 0) f)) ∙ e))
 
 -- only 0 has the sign 0
 sign-none-test : (z : ℤ) → eqZ (sign z) (pos 0) ≡ eqZ z (pos 0)
