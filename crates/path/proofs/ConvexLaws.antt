@@ -28,10 +28,11 @@ use Rattle.path.specs.declared.Seen.{Seen}
 use Rattle.path.specs.Convex.{one-way, convex-left, is-convex}
 use Rattle.path.specs.Inside.{looked, one-sided}
 
--- one corner more
+-- the cross of two edges
 abbrev turned : Edge → Edge → ℤ
 turned u v = u .dx *ℤ v .dy -ℤ u .dy *ℤ v .dx
 
+-- one corner more
 module _ (s : Seen) (u v : Edge) where
   looked-left : ltZ (pos 0) (turn-along u v) ≡ true → record { left = true; right = s .right; back = s .back } ≡ looked s u v
   looked-left t = simp (parallel-turn u v, sign-left (turned u v) t, or-true, or-false)
