@@ -56,18 +56,30 @@ parallel-turn u v = eqZ-difference (u .dx *ℤ v .dy) (u .dy *ℤ v .dx) ∙ sym
 times-none : (z : ℤ) → z *ℤ pos 0 ≡ pos 0
 times-none z = ring (# 0 :* const (pos 0)) (const (pos 0)) (z ∷ []) refl
 
--- where the way turns, the next edge is not still
+none-times : (z : ℤ) → pos 0 *ℤ z ≡ pos 0
+none-times z = ring (const (pos 0) :* # 0) (const (pos 0)) (z ∷ []) refl
+
+-- an edge that is still goes nowhere
+still-none : (u : Edge) → still u ≡ true → (u .dx ≡ pos 0) × (u .dy ≡ pos 0)
+still-none u e = (
+  eqZ-true (u .dx) (pos 0) (and-left (eqZ (u .dx) (pos 0)) (eqZ (u .dy) (pos 0)) e),
+  eqZ-true (u .dy) (pos 0) (and-right (eqZ (u .dx) (pos 0)) (eqZ (u .dy) (pos 0)) e),
+)
+
+-- where the way turns, neither edge is still
+unless : (t p : Bool) → (t ≡ true → p ≡ true) → p ≡ false → t ≡ false
+unless false p h n = refl
+unless true p h n = absurd (true≢false (sym (h refl) ∙ n))
+
+pub moving-before : (u v : Edge) → parallel u v ≡ false → still u ≡ false
+unfolding parallel
+moving-before u v = unless (still u) _ λ e.
+    ap₂ eqZ (ap (λ (z : ℤ). z *ℤ v .dy) (still-none u e .0) ∙ none-times (v .dy)) (ap (λ (z : ℤ). z *ℤ v .dx) (still-none u e .1) ∙ none-times (v .dx))
+
 pub moving : (u v : Edge) → parallel u v ≡ false → still v ≡ false
 unfolding parallel
-moving u v n = go (still v) refl
-  where
-    go : (t : Bool) → still v ≡ t → still v ≡ false
-    go false f = f
-    go true f =
-        let xs = eqZ-true (v .dx) (pos 0) (and-left (eqZ (v .dx) (pos 0)) (eqZ (v .dy) (pos 0)) f) in
-        let ys = eqZ-true (v .dy) (pos 0) (and-right (eqZ (v .dx) (pos 0)) (eqZ (v .dy) (pos 0)) f) in
-        let e : parallel u v ≡ true = ap₂ eqZ (ap (λ (z : ℤ). u .dx *ℤ z) ys ∙ times-none (u .dx)) (ap (λ (z : ℤ). u .dy *ℤ z) xs ∙ times-none (u .dy)) in
-        absurd (true≢false (sym e ∙ n))
+moving u v = unless (still v) _ λ e.
+    ap₂ eqZ (ap (λ (z : ℤ). u .dx *ℤ z) (still-none v e .1) ∙ times-none (u .dx)) (ap (λ (z : ℤ). u .dy *ℤ z) (still-none v e .0) ∙ times-none (u .dy))
 
 module _ (a b c : Point) where
   pub turn-edges : turn a b c ≡ turn-along (between a b) (between b c)

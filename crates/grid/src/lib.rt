@@ -9,7 +9,6 @@ ghost use lib.IntN.{_+ℤ_, _-ℤ_, _*ℤ_};
 ghost use Rattle.grid.specs.Limits.{limit, on-grid, all-on-grid};
 ghost use Rattle.grid.specs.Points.{at, on, same as same-point, sign as sign-of, turn as turn-of, Short, AllOn, between as between-of, turn-along as turn-along-of, against as against-of, parallel as parallel-of, opposed as opposed-of, still as still-of};
 ghost use Rattle.grid.specs.Ladder.{first-of};
-ghost use Rattle.grid.specs.Corners.{straight as straight-at, back as back-at};
 ghost use Rattle.grid.specs.Domain.{domain as domain-of, Contour};
 ghost use Rattle.grid.specs.Inside.{raised as raised-of, First};
 
@@ -114,7 +113,7 @@ pub fn point_at(points: &[i32], i: usize) -> Point
     }
 }
 
-pub fn same(a: Point, b: Point) -> bool
+fn same(a: Point, b: Point) -> bool
     ensures { λ r. ⌜ r ≡ same-point a b ⌝ }
 {
     a.x == b.x && a.y == b.y
@@ -227,22 +226,6 @@ pub fn turn(a: Point, b: Point, c: Point) -> i32
     ensures { λ r. ⌜ r ≡ turn-of a b c ⌝ }
 {
     turn_along(between(a, b), between(b, c))
-}
-
-// Whether the two edges at b, on the way from a to c, have cross 0.
-pub fn straight(a: Point, b: Point, c: Point) -> bool
-    requires { ⌜ AllOn a b c ⌝ }
-    ensures { λ r. ⌜ r ≡ straight-at (record { before = a; vertex = b; after = c }) ⌝ }
-{
-    parallel(between(a, b), between(b, c))
-}
-
-// Whether the way from a to c turns back at b: cross 0 with dot below 0.
-pub fn turns_back(a: Point, b: Point, c: Point) -> bool
-    requires { ⌜ AllOn a b c ⌝ }
-    ensures { λ r. ⌜ r ≡ back-at (record { before = a; vertex = b; after = c }) ⌝ }
-{
-    opposed(between(a, b), between(b, c))
 }
 
 // The first position whose point differs from the last point; n where all are equal.

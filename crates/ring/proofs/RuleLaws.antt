@@ -1,5 +1,5 @@
 -- What either rule says of a vertex, test by test; and a vertex that goes has cross 0.
-use mathlib.Core.Path.{_≡_, refl, _∙_, ap, ap₂}
+use mathlib.Core.Path.{_≡_, refl, sym, _∙_, ap, ap₂}
 use mathlib.Core.Bool.{Bool, true, false, _||_}
 use mathlib.Core.List.{[], _∷_}
 use Prim.Native.Nat.{ℕ, zero, suc}
@@ -11,37 +11,33 @@ use Rattle.integers.proofs.Logic.{and-left}
 use Rattle.integers.proofs.Polynomial.{ring}
 use Rattle.grid.specs.declared.Point.{Point}
 use Rattle.grid.specs.declared.Edge.{Edge}
-use Rattle.grid.specs.Points.{same, sign, bend, reverses, between, still, parallel, opposed}
+use Rattle.grid.specs.Points.{same, sign, bend, reverses, between, still, parallel, against}
 use Rattle.grid.specs.Corners.{Corner, straight, back}
 use Rattle.grid.proofs.CornerLaws.{same-is}
 use Rattle.grid.proofs.AroundLaws.{corner}
-use Rattle.grid.proofs.EdgeLaws.{straight-edges, back-edges, same-before, same-after}
+use Rattle.grid.proofs.EdgeLaws.{moving, moving-before, straight-edges, back-edges, same-before, same-after}
 use Rattle.ring.specs.declared.Rule.{Rule}
 use Rattle.ring.specs.declared.Rule.the-variants.{Collinear, Spike}
 use Rattle.ring.specs.Rule.{goes-at, goes-along}
 
-module _ (rule : Rule) (k : Corner) where
-  pub goes-straight : (r : Bool) → rule ≡ Collinear → r ≡ straight k → r ≡ goes-at rule k
-  unfolding goes-at
-  goes-straight r e h = rw e h
-
-  pub goes-before : rule ≡ Spike → same (k .vertex) (k .before) ≡ true → true ≡ goes-at rule k
-  unfolding goes-at
-  goes-before e h = rw (e, h)
-
-  pub goes-after : rule ≡ Spike → same (k .vertex) (k .before) ≡ false → same (k .vertex) (k .after) ≡ true → true ≡ goes-at rule k
-  unfolding goes-at
-  goes-after e h i = rw (e, h, i)
-
-  pub goes-back : (r : Bool) → rule ≡ Spike → same (k .vertex) (k .before) ≡ false → same (k .vertex) (k .after) ≡ false → r ≡ back k → r ≡ goes-at rule k
-  unfolding goes-at
-  goes-back r e h i t = rw (e, h, i) t
-
--- and of two edges
 module _ (rule : Rule) (u v : Edge) where
-  pub along-parallel : (r : Bool) → rule ≡ Collinear → r ≡ parallel u v → r ≡ goes-along rule u v
+  -- where the way turns the vertex stays
+  pub along-turning : parallel u v ≡ false → false ≡ goes-along rule u v
   unfolding goes-along
-  along-parallel r e h = rw e h
+  along-turning p = go rule
+    where
+      go : (r : Rule) → false ≡ goes-along r u v
+      go Collinear = sym p
+      go Spike = rw (moving-before u v p, moving u v p, p)
+
+  module _ (p : parallel u v ≡ true) where
+    pub along-straight : rule ≡ Collinear → true ≡ goes-along rule u v
+    unfolding goes-along
+    along-straight e = rw e (sym p)
+
+    pub along-against : (r : Bool) → rule ≡ Spike → still u ≡ false → still v ≡ false → r ≡ against u v → r ≡ goes-along rule u v
+    unfolding goes-along
+    along-against r e h i t = rw (e, h, i, p) t
 
   pub along-to : rule ≡ Spike → still u ≡ true → true ≡ goes-along rule u v
   unfolding goes-along
@@ -50,10 +46,6 @@ module _ (rule : Rule) (u v : Edge) where
   pub along-from : rule ≡ Spike → still u ≡ false → still v ≡ true → true ≡ goes-along rule u v
   unfolding goes-along
   along-from e h i = rw (e, h, i)
-
-  pub along-opposed : (r : Bool) → rule ≡ Spike → still u ≡ false → still v ≡ false → r ≡ opposed u v → r ≡ goes-along rule u v
-  unfolding goes-along
-  along-opposed r e h i t = rw (e, h, i) t
 
 -- the edges of a corner tell the same as the corner
 pub goes-edges : (rule : Rule) (a b c : Point) → goes-at rule (corner a b c) ≡ goes-along rule (between a b) (between b c)

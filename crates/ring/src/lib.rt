@@ -110,35 +110,17 @@ pub enum Rule {
     Spike,
 }
 
-// Whether the vertex at a position is to go, with these neighbours.
-pub fn goes(rule: Rule, points: &[i32], before: usize, at: usize, after: usize) -> bool
-    requires { ⌜ Vertices (now points) before at after ⌝ }
-    ensures { λ r. ⌜ r ≡ goes-by rule (now (points .entry)) before at after ⌝ }
-{
-    let a = grid::point_at(points, before);
-    let b = grid::point_at(points, at);
-    let c = grid::point_at(points, after);
-    match rule {
-        Rule::Collinear => grid::straight(a, b, c),
-        Rule::Spike => {
-            if grid::same(b, a) {
-                return true;
-            }
-            if grid::same(b, c) {
-                return true;
-            }
-            grid::turns_back(a, b, c)
-        }
-    }
-}
-
-// The same by the edges to a vertex and from it, for a way along the contour that reads each edge once.
+// Whether a vertex is to go, by the edges to it and from it. With a cross that is not 0 it stays by either rule, and
+// neither edge leads to an equal point.
 fn goes_along(rule: Rule, to: Edge, from: Edge) -> bool
     requires { ⌜ Short (to .dx) (to .dy) (from .dx) (from .dy) ⌝ }
     ensures { λ r. ⌜ r ≡ goes-along-by rule to from ⌝ }
 {
+    if !grid::parallel(to, from) {
+        return false;
+    }
     match rule {
-        Rule::Collinear => grid::parallel(to, from),
+        Rule::Collinear => true,
         Rule::Spike => {
             if grid::still(to) {
                 return true;
@@ -146,9 +128,19 @@ fn goes_along(rule: Rule, to: Edge, from: Edge) -> bool
             if grid::still(from) {
                 return true;
             }
-            grid::opposed(to, from)
+            grid::against(to, from)
         }
     }
+}
+
+// Whether the vertex at a position is to go, with these neighbours.
+pub fn goes(rule: Rule, points: &[i32], before: usize, at: usize, after: usize) -> bool
+    requires { ⌜ Vertices (now points) before at after ⌝ }
+    ensures { λ r. ⌜ r ≡ goes-by rule (now (points .entry)) before at after ⌝ }
+{
+    let to = grid::edge_at(points, before, at);
+    let from = grid::edge_at(points, at, after);
+    goes_along(rule, to, from)
 }
 
 // How many vertices stand from the front of a contour: the position of the first that is to go with its neighbours
