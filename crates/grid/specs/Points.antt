@@ -73,6 +73,10 @@ bend a b c = cross (step a b) (step b c)
 abbrev pub turn : Point → Point → Point → ℤ
 turn a b c = sign (bend a b c)
 
+-- the way from a to c turns left at b
+unfoldable pub turns-left : Point → Point → Point → Bool
+turns-left a b c = ltZ (pos 0) (bend a b c)
+
 -- the two edges at b point against each other
 unfoldable pub reverses : Point → Point → Point → Bool
 reverses a b c = ltZ (dot (step a b) (step b c)) (pos 0)

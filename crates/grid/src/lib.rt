@@ -7,7 +7,7 @@ ghost use Prim.Native.Nat.{_+_, _*_, _<_};
 ghost use lib.ListN.{length};
 ghost use lib.IntN.{_+ℤ_, _-ℤ_, _*ℤ_};
 ghost use Rattle.grid.specs.Limits.{limit, on-grid, all-on-grid};
-ghost use Rattle.grid.specs.Points.{at, on, same as same-point, sign as sign-of, turn as turn-of, Short, AllOn, between as between-of, turn-along as turn-along-of, against as against-of, parallel as parallel-of, opposed as opposed-of, still as still-of};
+ghost use Rattle.grid.specs.Points.{at, on, same as same-point, sign as sign-of, turn as turn-of, Short, AllOn, between as between-of, turn-along as turn-along-of, against as against-of, turns-left as turns-left-of, parallel as parallel-of, opposed as opposed-of, still as still-of};
 ghost use Rattle.grid.specs.Ladder.{first-of};
 ghost use Rattle.grid.specs.Domain.{domain as domain-of, Contour};
 ghost use Rattle.grid.specs.Inside.{raised as raised-of, First};
@@ -210,6 +210,15 @@ pub fn parallel(u: Edge, v: Edge) -> bool
     ensures { λ r. ⌜ r ≡ parallel-of u v ⌝ }
 {
     u.dx * v.dy == u.dy * v.dx
+}
+
+// Whether the way from a to c turns left at b.
+pub fn turns_left(a: Point, b: Point, c: Point) -> bool
+    requires { ⌜ AllOn a b c ⌝ }
+    ensures { λ r. ⌜ r ≡ turns-left-of a b c ⌝ }
+{
+    let e = edges(a, b, c);
+    e.uy * e.vx < e.ux * e.vy
 }
 
 // Whether two edges have cross 0 and point against each other.

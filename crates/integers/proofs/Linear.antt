@@ -8,7 +8,7 @@ use native.Mathlib.Decide.{decLe}
 use lib.IntN.{ℤ, pos, negsuc, negℤ, natAbs, _+ℤ_, _-ℤ_, _*ℤ_, pos-ne-negsuc}
 use lib.Dec.{leb, ltb}
 use lib.Signed.{mag, leZ, ltZ}
-use borrow.Author.Tests.{leb-true, ltb-true, le-leb, lt-leb, lt-ltb, le-ltb}
+use borrow.Author.Tests.{leb-true, ltb-true, ltb-false, le-leb, lt-leb, lt-ltb, le-ltb}
 use Rattle.integers.specs.Linear.{Ex, at, num, _:+_, _:-_, _:*_, :neg, value, up, dn, above, below}
 use Rattle.integers.proofs.Ring.{_⊖_, ⊖-add, ⊖-neg, ⊖-pos, ⊖-mul, ⊖-eq, ⊖-negsuc}
 
@@ -111,9 +111,15 @@ le-holds e f h = leZ-is e f ∙ le-leb (up e + dn f) (up f + dn e) h
 pub lt-fails : (e f : Ex) → up f + dn e ≤ up e + dn f → ltZ (value e) (value f) ≡ false
 lt-fails e f h = ltZ-is e f ∙ le-ltb (up e + dn f) (up f + dn e) h
 
+pub lt-holds : (e f : Ex) → up e + dn f < up f + dn e → ltZ (value e) (value f) ≡ true
+lt-holds e f h = ltZ-is e f ∙ lt-ltb (up e + dn f) (up f + dn e) h
+
 -- to use it
 pub le-means : (e f : Ex) → leZ (value e) (value f) ≡ true → up e + dn f ≤ up f + dn e
 le-means e f h = leb-true (up e + dn f) (up f + dn e) (sym (leZ-is e f) ∙ h)
 
 pub lt-means : (e f : Ex) → ltZ (value e) (value f) ≡ true → up e + dn f < up f + dn e
 lt-means e f h = ltb-true (up e + dn f) (up f + dn e) (sym (ltZ-is e f) ∙ h)
+
+pub lt-denies : (e f : Ex) → ltZ (value e) (value f) ≡ false → up f + dn e ≤ up e + dn f
+lt-denies e f h = ltb-false (up e + dn f) (up f + dn e) (sym (ltZ-is e f) ∙ h)

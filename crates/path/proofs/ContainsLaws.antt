@@ -1,63 +1,63 @@
 -- Which edges count, and their parity along a contour.
-use mathlib.Core.Path.{_≡_, refl, sym, _∙_, ap, ap₂}
-use mathlib.Core.Bool.{Bool, true, false, not, xor, Bool·beq}
+use mathlib.Core.Path.{_≡_, refl, sym, _∙_, ap}
+use mathlib.Core.Bool.{Bool, true, false, not, xor}
 use mathlib.Core.List.{List, [], _∷_}
-use Prim.Native.Nat.{ℕ, _+_, _-_, _<_, _≤_}
+use Prim.Native.Nat.{ℕ, zero, suc, _+_, _-_, _<_, _≤_}
 use native.Mathlib.Omega.{arith}
+use native.Mathlib.Decide.{decLt}
 use lib.ListN.{length, drop}
 use lib.IntN.{ℤ, pos, _-ℤ_, _*ℤ_}
 use lib.Signed.{ltZ}
-use mir.Syntax.{w32}
-use mir.Val.{toZ, ofZ}
 use Rattle.integers.specs.Polynomial.{#, _:-_, _:*_}
-use Rattle.integers.proofs.Linear.{ltZ-difference}
+use Rattle.integers.specs.Linear.{at as of}
+use Rattle.integers.proofs.Linear.{ltZ-difference, lt-holds, lt-fails, lt-means, lt-denies}
 use Rattle.integers.proofs.Polynomial.{ring}
 use Rattle.grid.specs.declared.Point.{Point}
-use Rattle.grid.specs.Points.{at, on, points, bend, turn, AllOn}
+use Rattle.grid.specs.Points.{at, on, points, bend, turns-left}
 use Rattle.grid.specs.Domain.{count, domain, Contour}
 use Rattle.grid.specs.Ladder.{first-of}
-use Rattle.grid.proofs.LimitLaws.{on-grid-back}
-use Rattle.grid.proofs.PointLaws.{at-on, y-on, sign-test}
+use Rattle.grid.proofs.PointLaws.{at-on}
 use Rattle.grid.proofs.RowLaws.{points-count, points-more, points-done}
 use Rattle.grid.proofs.LadderLaws.{first-is, stopped, onward}
 use Rattle.grid.proofs.LadderLaws.First.{here, past, foot}
 use Rattle.grid.proofs.VerdictLaws.{verdict-refused, verdict-given}
 use Rattle.grid.proofs.CornerLaws.{last-from}
-use Rattle.path.specs.Contains.{above, meets-right, crosses, odd, contained, refusals, contains}
+use Rattle.path.specs.Contains.{above, meets-right, crosses, odd, contained, refusals, contains, Across, before, Changing}
 
 -- the edge is met to the right of p where the way along it and on to p turns left
-meets-is : (p l h : Point) → meets-right p l h ≡ ltZ (pos 0) (turn l h p)
-unfolding bend
+meets-is : (p l h : Point) → turns-left l h p ≡ meets-right p l h
+unfolding turns-left bend
 meets-is p l h =
-    ltZ-difference ((p .x -ℤ l .x) *ℤ (h .y -ℤ l .y)) ((p .y -ℤ l .y) *ℤ (h .x -ℤ l .x))
+    sym
+    (ltZ-difference ((p .x -ℤ l .x) *ℤ (h .y -ℤ l .y)) ((p .y -ℤ l .y) *ℤ (h .x -ℤ l .x))
     ∙ ap (ltZ (pos 0))
     (ring
     ((# 5 :- # 1) :* (# 2 :- # 0) :- (# 4 :- # 0) :* (# 3 :- # 1))
     ((# 2 :- # 0) :* (# 5 :- # 3) :- (# 3 :- # 1) :* (# 4 :- # 2))
-    (l .x ∷ l .y ∷ h .x ∷ h .y ∷ p .x ∷ p .y ∷ []) refl)
-    ∙ sym (sign-test (bend l h p))
+    (l .x ∷ l .y ∷ h .x ∷ h .y ∷ p .x ∷ p .y ∷ []) refl))
 
--- the tests of two ordinates, as they are made on bits
-pub below-is : (a b : Point) → on a ≡ true → on b ≡ true → ltZ (toZ w32 (ofZ w32 (a .y))) (toZ w32 (ofZ w32 (b .y))) ≡ ltZ (a .y) (b .y)
-below-is a b p q = ap₂ ltZ (on-grid-back (a .y) (y-on a p)) (on-grid-back (b .y) (y-on b q))
-
-pub sides-are : {p a b : Point} → AllOn p a b
-    → Bool·beq (ltZ (toZ w32 (ofZ w32 (p .y))) (toZ w32 (ofZ w32 (a .y)))) (ltZ (toZ w32 (ofZ w32 (p .y))) (toZ w32 (ofZ w32 (b .y)))) ≡ Bool·beq (above p a) (above p b)
-sides-are {p} {a} {b} k = ap₂ Bool·beq (below-is p a (k .a-on) (k .b-on)) (below-is p b (k .a-on) (k .c-on))
+xor-self : (t : Bool) → xor t t ≡ false
+unfolding xor
+xor-self true = refl
+xor-self false = refl
 
 module _ (p a b : Point) where
-  pub crosses-not : Bool·beq (above p a) (above p b) ≡ true → false ≡ crosses p a b
+  crosses-not : above p a ≡ above p b → crosses p a b ≡ false
+  unfolding crosses
+  crosses-not e = rw (e, xor-self (above p b))
+
+  -- an edge that rises over p's horizontal, and one that falls below it
+  pub crosses-up : above p a ≡ false → above p b ≡ true → turns-left a b p ≡ crosses p a b
   unfolding crosses xor
-  crosses-not e = rw e
+  crosses-up e f =
+      let t : ltZ (a .y) (b .y) ≡ true = lt-holds (of (a .y)) (of (b .y)) (omega (arith, lt-denies (of (p .y)) (of (a .y)) e, lt-means (of (p .y)) (of (b .y)) f)) in
+      meets-is p a b ∙ rw (e, f, t)
 
-  module _ (e : Bool·beq (above p a) (above p b) ≡ false) where
-    pub crosses-up : ltZ (a .y) (b .y) ≡ true → ltZ (pos 0) (turn a b p) ≡ crosses p a b
-    unfolding crosses xor
-    crosses-up t = rw (e, t) (sym (meets-is p a b))
-
-    pub crosses-down : ltZ (a .y) (b .y) ≡ false → ltZ (pos 0) (turn b a p) ≡ crosses p a b
-    unfolding crosses xor
-    crosses-down t = rw (e, t) (sym (meets-is p b a))
+  pub crosses-down : above p a ≡ true → above p b ≡ false → turns-left b a p ≡ crosses p a b
+  unfolding crosses xor
+  crosses-down e f =
+      let t : ltZ (a .y) (b .y) ≡ false = lt-fails (of (a .y)) (of (b .y)) (omega (arith, lt-means (of (p .y)) (of (a .y)) e, lt-denies (of (p .y)) (of (b .y)) f)) in
+      meets-is p b a ∙ rw (e, f, t)
 
 xor-assoc : (a b c : Bool) → xor (xor a b) c ≡ xor a (xor b c)
 unfolding xor
@@ -114,42 +114,79 @@ module _ (row : List ℤ) (p : Point) where
           let e : i ≡ n = omega (arith, k .within) in
           sym (k .is ∙ ap (λ (l : List Point). xor sofar (odd p a l)) (points-done c i e) ∙ xor-false sofar)
 
-beq-is : (a b : Bool) → Bool·beq a b ≡ true → a ≡ b
-beq-is true true e = refl
-beq-is true false e = sym e
-beq-is false true e = e
-beq-is false false e = refl
+module _ (row : List ℤ) (p : Point) {n : ℕ} (c : Contour row n) where
+  -- a point on the same side
+  beside : {sofar : Bool} {a : Point} {i : ℕ} → Counted row p n sofar a i → i < n → above p a ≡ above p (at row i) → Counted row p n sofar (at row i) (i + 1)
+  beside {sofar} {a} {i} k h e = rw (xor-false sofar) at (rw (crosses-not p a (at row i) e) at (counted-more row p c k h))
 
-module _ (row : List ℤ) (p : Point) where
-  -- the loop, with the side of p's horizontal on which the last point lies
-  pub record Sided (n : ℕ) (sofar up : Bool) (i : ℕ) : Type 0 where
-    pub low : 1 ≤ i
-    pub counted : Counted row p n sofar (at row (i - 1)) i
-    pub side : up ≡ above p (at row (i - 1))
+  -- a run of points on the same side
+  run : {sofar up : Bool} (k i : ℕ) → Counted row p n sofar (at row i) (i + 1) → above p (at row i) ≡ up → i + 1 + k ≤ n
+      → ((j : ℕ) → i + 1 ≤ j → j < i + 1 + k → above p (at row j) ≡ up) → Counted row p n sofar (at row (i + k)) (i + k + 1) × (above p (at row (i + k)) ≡ up)
+  run zero i x e h s = let f : i + 0 ≡ i = omega arith in rw f (x, e)
+  run (suc k) i x e h s =
+      let f : i + 1 + k ≡ i + suc k = omega arith in
+      let next = s (i + 1) (omega arith) (omega arith) in
+      rw f at (run k (i + 1) (beside x (omega arith) (e ∙ sym next)) next (omega arith) (λ j l m. s j (omega arith) (omega arith)))
 
-  module _ {n : ℕ} (c : Contour row n) where
-    pub sided-first : 0 < n → (sofar up : Bool) → sofar ≡ crosses p (at row (n - 1)) (at row 0) → up ≡ above p (at row 0) → Sided n sofar up 1
-    sided-first h sofar up e f = record {
-      low = omega arith;
-      counted = rw e (rw (false-xor (crosses p (at row (n - 1)) (at row 0))) at (counted-more row p c (counted-none row p c h) h));
-      side = f;
-    }
+  -- on to the next edge that changes side
+  reaching : {sofar up : Bool} {r : ℕ} (i : ℕ) → Counted row p n sofar (at row i) (i + 1) → above p (at row i) ≡ up → Across row n (i + 1) p up r → Changing row n p sofar (r - 1) r
+  reaching {sofar} {up} {r} i x e y =
+      let k = r - (i + 1) in
+      let f : i + k ≡ r - 1 = omega (arith, y .from) in
+      let g : r - 1 + 1 ≡ r = omega (arith, y .from) in
+      let z = run k i x e (omega (arith, y .from, y .within)) (λ j l m. y .skipped j l (omega (arith, y .from))) in
+      record {
+        a-in = omega (arith, y .from, y .within);
+        within = y .within;
+        changes = λ h. y .changed h ∙ ap not (sym (rw f at (z .1)));
+        is = rw g at (rw f at (z .0 .is));
+      }
 
-    module _ {sofar up : Bool} {i : ℕ} (k : Sided n sofar up i) (h : i < n) (next : Bool) (f : next ≡ above p (at row i)) where
-      more : (t : Bool) → t ≡ crosses p (at row (i - 1)) (at row i) → Counted row p n (xor sofar t) (at row i) (i + 1)
-      more t e = rw e (counted-more row p c (k .counted) h)
+  pub changing-first : 0 < n → (r : ℕ) → Across row n 0 p (above p (at row (n - 1))) r → Changing row n p false (before n r) r
+  unfolding before
+  changing-first h zero y = record { a-in = omega arith; within = y .within; changes = y .changed; is = counted-none row p c h .is }
+  changing-first h (suc k) y =
+      let first = y .skipped 0 (omega arith) (omega arith) in
+      let e : suc k - 1 ≡ k = omega arith in
+      rw e at
+      (reaching 0 (beside (counted-none row p c h) h (sym first)) first
+      (record { from = omega arith; within = y .within; skipped = λ j l m. y .skipped j (omega arith) m; changed = y .changed }))
 
-      pub sided-same : Bool·beq up next ≡ true → Sided n sofar up (i + 1)
-      sided-same e =
-          let back : i + 1 - 1 ≡ i = omega arith in
-          record {
-            low = omega arith;
-            counted = rw back (rw (xor-false sofar) at (more false (crosses-not p (at row (i - 1)) (at row i) (ap₂ Bool·beq (sym (k .side)) (sym f) ∙ e))));
-            side = rw back (beq-is up next e ∙ f);
-          }
+  module _ {sofar : Bool} {a i : ℕ} (x : Changing row n p sofar a i) where
+    counted : Counted row p n sofar (at row a) i
+    counted = record { within = x .within; a-on = at-on row a (c .on); is = x .is }
 
-      pub sided-other : (t : Bool) → t ≡ crosses p (at row (i - 1)) (at row i) → Sided n (xor sofar t) next (i + 1)
-      sided-other t e = let back : i + 1 - 1 ≡ i = omega arith in record { low = omega arith; counted = rw back (more t e); side = rw back f }
+    pub changing-next : {t up : Bool} {r : ℕ} → i < n → t ≡ crosses p (at row a) (at row i) → above p (at row i) ≡ up → Across row n (i + 1) p up r → Changing row n p (xor sofar t) (r - 1) r
+    changing-next h e f y = reaching i (rw (sym e) at (counted-more row p c counted h)) f y
+
+    pub changing-done : n ≤ i → sofar ≡ contained p (points row)
+    changing-done h = counted-all row p c counted h
+
+module _ (row : List ℤ) (n i : ℕ) (p : Point) (up : Bool) where
+  -- a loop that looks for a point on the other side
+  pub record Passing (here : ℕ) : Type 0 where
+    pub from : i ≤ here
+    pub within : here ≤ n
+    pub skipped : (j : ℕ) → i ≤ j → j < here → above p (at row j) ≡ up
+
+  pub passing-none : i ≤ n → Passing i
+  passing-none h = record { from = omega arith; within = h; skipped = λ j l m. absurd (omega arith) }
+
+  module _ {here : ℕ} (x : Passing here) where
+    pub passing-more : here < n → above p (at row here) ≡ up → Passing (here + 1)
+    passing-more h e = record { from = omega (arith, x .from); within = omega arith; skipped = λ j l m. go j l m (decLt j here) }
+      where
+        go : (j : ℕ) → i ≤ j → j < here + 1 → Dec (j < here) → above p (at row j) ≡ up
+        go j l m (yes k) = x .skipped j l k
+        go j l m (no k) = let f : j ≡ here = omega arith in rw f e
+
+    pub passing-found : above p (at row here) ≡ not up → Across row n i p up here
+    passing-found e = record { from = x .from; within = x .within; skipped = x .skipped; changed = λ h. e }
+
+    pub passing-out : n ≤ here → Across row n i p up n
+    passing-out h =
+        let e : here ≡ n = omega (arith, x .within) in
+        record { from = omega (arith, x .from); within = omega arith; skipped = λ j l m. x .skipped j l (omega arith); changed = λ k. absurd (omega arith) }
 
 -- the question as a whole
 module _ (row : List ℤ) (x y : ℤ) where

@@ -1,15 +1,15 @@
 // Whether a contour is convex, wound clockwise, or contains a point.
 ghost use mathlib.Core.Path.{_≡_};
-ghost use mathlib.Core.Bool.{true};
-ghost use Prim.Native.Nat.{_<_};
-ghost use Rattle.grid.specs.Points.{AllOn, Short, on, points as points-of};
+ghost use mathlib.Core.Bool.{true, false};
+ghost use Prim.Native.Nat.{_-_, _<_, _≤_};
+ghost use Rattle.grid.specs.Points.{AllOn, Short, at, on, points as points-of};
 ghost use Rattle.grid.specs.Corners.{distinct-neighbours};
 ghost use Rattle.grid.specs.Domain.{Contour};
 ghost use Rattle.grid.specs.Inside.{First};
 ghost use Rattle.path.specs.Convex.{convex-left, convex as convex-verdict};
 ghost use Rattle.path.specs.Inside.{looked, one-sided};
 ghost use Rattle.path.specs.Clockwise.{clockwise};
-ghost use Rattle.path.specs.Contains.{above, crosses as crosses-at, contained, contains as contains-verdict};
+ghost use Rattle.path.specs.Contains.{above, contained, contains as contains-verdict, Across, Changing, before as before-of};
 use grid::Edge;
 use grid::Point;
 pub use grid::Verdict;
@@ -125,21 +125,6 @@ pub fn is_clockwise_ordered(points: &[i32]) -> Verdict
     }
 }
 
-// Whether the edge a-b has one end above p's horizontal and one not, and meets it strictly to the right of p.
-fn crosses(p: Point, a: Point, b: Point) -> bool
-    requires { ⌜ AllOn p a b ⌝ }
-    ensures { λ r. ⌜ r ≡ crosses-at p a b ⌝ }
-{
-    if (p.y < a.y) == (p.y < b.y) {
-        return false;
-    }
-    if a.y < b.y {
-        grid::turn(a, b, p) > 0
-    } else {
-        grid::turn(b, a, p) > 0
-    }
-}
-
 // Whether a lies above p's horizontal.
 fn lies_above(p: Point, a: Point) -> bool
     requires { ⌜ (on p ≡ true) × (on a ≡ true) ⌝ }
@@ -148,27 +133,91 @@ fn lies_above(p: Point, a: Point) -> bool
     p.y < a.y
 }
 
+// The first position from i on whose point lies above p's horizontal; n where there is none.
+fn next_above(points: &[i32], n: usize, i: usize, p: Point) -> usize
+    requires { ⌜ Contour (now points) n × (i ≤ n) × (on p ≡ true) ⌝ }
+    ensures { λ r. ⌜ Across (now (points .entry)) n i p false r ⌝ }
+{
+    let mut here = i;
+    while here < n {
+        if lies_above(p, grid::point_at(points, here)) {
+            return here;
+        }
+        here += 1;
+    }
+    n
+}
+
+// The first position from i on whose point does not lie above p's horizontal; n where there is none.
+fn next_not_above(points: &[i32], n: usize, i: usize, p: Point) -> usize
+    requires { ⌜ Contour (now points) n × (i ≤ n) × (on p ≡ true) ⌝ }
+    ensures { λ r. ⌜ Across (now (points .entry)) n i p true r ⌝ }
+{
+    let mut here = i;
+    while here < n {
+        if !lies_above(p, grid::point_at(points, here)) {
+            return here;
+        }
+        here += 1;
+    }
+    n
+}
+
+// The first position whose point lies on another side of p's horizontal than the last point; n where there is none.
+fn first_across(points: &[i32], n: usize, p: Point) -> usize
+    requires { ⌜ Contour (now points) n × (0 < n) × (on p ≡ true) ⌝ }
+    ensures { λ r. ⌜ Across (now (points .entry)) n 0 p (above p (at (now (points .entry)) (n - 1))) r ⌝ }
+{
+    if lies_above(p, grid::point_at(points, n - 1)) {
+        next_not_above(points, n, 0, p)
+    } else {
+        next_above(points, n, 0, p)
+    }
+}
+
+// The position before i, around the contour.
+fn before(n: usize, i: usize) -> usize
+    requires { ⌜ 0 < n ⌝ }
+    ensures { λ r. ⌜ r ≡ before-of n i ⌝ }
+{
+    if i == 0 { n - 1 } else { i - 1 }
+}
+
+// Whether an odd number of edges crosses p's horizontal to the right of p; the first that changes side leads from `from` to `to`.
+fn parity_from(points: &[i32], n: usize, p: Point, from: usize, to: usize) -> bool
+    requires { ⌜ Contour (now points) n × (on p ≡ true) × Changing (now points) n p false from to ⌝ }
+    ensures { λ r. ⌜ r ≡ contained p (points-of (now (points .entry))) ⌝ }
+{
+    let mut odd = false;
+    let mut a = from;
+    let mut i = to;
+    while i < n {
+        let start = grid::point_at(points, a);
+        let end = grid::point_at(points, i);
+        if lies_above(p, end) {
+            odd = odd != grid::turns_left(start, end, p);
+            i = next_not_above(points, n, i + 1, p);
+            a = i - 1;
+        } else {
+            odd = odd != grid::turns_left(end, start, p);
+            i = next_above(points, n, i + 1, p);
+            a = i - 1;
+        }
+    }
+    odd
+}
+
 // Whether an odd number of the closed contour's edges crosses p's horizontal to the right of p.
 fn parity(points: &[i32], n: usize, p: Point) -> bool
     requires { ⌜ Contour (now points) n × (0 < n) × (on p ≡ true) ⌝ }
     ensures { λ r. ⌜ r ≡ contained p (points-of (now (points .entry))) ⌝ }
 {
-    let first = grid::point_at(points, 0);
-    let mut odd = crosses(p, grid::point_at(points, n - 1), first);
-    let mut up = lies_above(p, first);
-    let mut i: usize = 1;
-    while i < n {
-        let b = grid::point_at(points, i);
-        let next = lies_above(p, b);
-        if up == next {
-            i += 1;
-        } else {
-            odd = odd != crosses(p, grid::point_at(points, i - 1), b);
-            up = next;
-            i += 1;
-        }
+    let first = first_across(points, n, p);
+    if first < n {
+        parity_from(points, n, p, before(n, first), first)
+    } else {
+        false
     }
-    odd
 }
 
 // Whether the contour contains the point x, y.
