@@ -11,12 +11,12 @@ use Rattle.integers.specs.Equal.{eqZ}
 use Rattle.integers.specs.Polynomial.{#, num as const, _:*_}
 use Rattle.integers.proofs.Logic.{and-left, and-right}
 use Rattle.integers.proofs.Polynomial.{ring}
-use Rattle.integers.proofs.Linear.{difference}
+use Rattle.integers.proofs.Linear.{ltZ-difference}
 use Rattle.integers.proofs.Polynomial.{no-difference}
 use Rattle.integers.proofs.Equal.{eqZ-true, eqZ-same}
 use Rattle.grid.specs.declared.Point.{Point}
 use Rattle.grid.specs.declared.Edge.{Edge}
-use Rattle.grid.specs.Points.{same, sign, dot, step, bend, turn, reverses, between, turn-along, still, parallel, opposed}
+use Rattle.grid.specs.Points.{same, sign, dot, step, bend, reverses, between, turns-left, left-along, turn-along, still, parallel, opposed}
 use Rattle.grid.specs.Corners.{straight, back}
 use Rattle.grid.proofs.AroundLaws.{corner}
 
@@ -82,9 +82,9 @@ moving u v = unless (still v) _ λ e.
     ap₂ eqZ (ap (λ (z : ℤ). u .dx *ℤ z) (still-none v e .1) ∙ times-none (u .dx)) (ap (λ (z : ℤ). u .dy *ℤ z) (still-none v e .0) ∙ times-none (u .dy))
 
 module _ (a b c : Point) where
-  pub turn-edges : turn a b c ≡ turn-along (between a b) (between b c)
-  unfolding bend
-  turn-edges = refl
+  pub left-edges : turns-left a b c ≡ left-along (between a b) (between b c)
+  unfolding bend turns-left left-along
+  left-edges = sym (ltZ-difference ((b .y -ℤ a .y) *ℤ (c .x -ℤ b .x)) ((b .x -ℤ a .x) *ℤ (c .y -ℤ b .y)))
 
   pub straight-edges : straight (corner a b c) ≡ parallel (between a b) (between b c)
   unfolding bend

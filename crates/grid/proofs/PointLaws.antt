@@ -9,7 +9,7 @@ use lib.IntN.{ℤ, pos, negsuc, _-ℤ_}
 use lib.Signed.{ltZ}
 use mir.Syntax.{w32}
 use mir.Val.{toZ, ofZ}
-use borrow.Author.Tests.{ltb-true, lt-ltb}
+use borrow.Author.Tests.{ltb-true}
 use Rattle.integers.specs.Bound.{In}
 use Rattle.integers.proofs.Bound.{in-sub, in-add, in-mul}
 use Rattle.integers.proofs.Logic.{and-left, and-right}
@@ -89,7 +89,3 @@ sign-none (pos (suc n)) e f = absurd (subst T e tt)
 sign-none (negsuc n) e f = absurd (subst T f tt)
 
 -- a sign has the sign
-pub sign-test : (z : ℤ) → ltZ (pos 0) (sign z) ≡ ltZ (pos 0) z
-sign-test (pos zero) = refl
-sign-test (pos (suc n)) = sym (lt-ltb 0 (suc n) (omega arith))
-sign-test (negsuc n) = refl

@@ -97,6 +97,10 @@ turn-along u v = sign (u .dx *ℤ v .dy -ℤ u .dy *ℤ v .dx)
 abbrev pub against : Edge → Edge → Bool
 against u v = ltZ (u .dx *ℤ v .dx +ℤ u .dy *ℤ v .dy) (pos 0)
 
+-- the way turns left from one edge to the next
+unfoldable pub left-along : Edge → Edge → Bool
+left-along u v = ltZ (u .dy *ℤ v .dx) (u .dx *ℤ v .dy)
+
 -- two edges have cross 0
 unfoldable pub parallel : Edge → Edge → Bool
 parallel u v = eqZ (u .dx *ℤ v .dy) (u .dy *ℤ v .dx)

@@ -7,7 +7,7 @@ ghost use Prim.Native.Nat.{_+_, _*_, _<_};
 ghost use lib.ListN.{length};
 ghost use lib.IntN.{_+ℤ_, _-ℤ_, _*ℤ_};
 ghost use Rattle.grid.specs.Limits.{limit, on-grid, all-on-grid};
-ghost use Rattle.grid.specs.Points.{at, on, same as same-point, sign as sign-of, turn as turn-of, Short, AllOn, between as between-of, turn-along as turn-along-of, against as against-of, turns-left as turns-left-of, parallel as parallel-of, opposed as opposed-of, still as still-of};
+ghost use Rattle.grid.specs.Points.{at, on, same as same-point, sign as sign-of, Short, AllOn, between as between-of, turn-along as turn-along-of, against as against-of, turns-left as turns-left-of, left-along as left-along-of, parallel as parallel-of, opposed as opposed-of, still as still-of};
 ghost use Rattle.grid.specs.Ladder.{first-of};
 ghost use Rattle.grid.specs.Domain.{domain as domain-of, Contour};
 ghost use Rattle.grid.specs.Inside.{raised as raised-of, First};
@@ -212,13 +212,12 @@ pub fn parallel(u: Edge, v: Edge) -> bool
     u.dx * v.dy == u.dy * v.dx
 }
 
-// Whether the way from a to c turns left at b.
-pub fn turns_left(a: Point, b: Point, c: Point) -> bool
-    requires { ⌜ AllOn a b c ⌝ }
-    ensures { λ r. ⌜ r ≡ turns-left-of a b c ⌝ }
+// Whether the way turns left from one edge to the next.
+fn left_along(u: Edge, v: Edge) -> bool
+    requires { ⌜ Short (u .dx) (u .dy) (v .dx) (v .dy) ⌝ }
+    ensures { λ r. ⌜ r ≡ left-along-of u v ⌝ }
 {
-    let e = edges(a, b, c);
-    e.uy * e.vx < e.ux * e.vy
+    u.dy * v.dx < u.dx * v.dy
 }
 
 // Whether two edges have cross 0 and point against each other.
@@ -229,12 +228,12 @@ pub fn opposed(u: Edge, v: Edge) -> bool
     if parallel(u, v) { against(u, v) } else { false }
 }
 
-// How the way from a to c turns at b: 1 left, 0 straight on or back, -1 right.
-pub fn turn(a: Point, b: Point, c: Point) -> i32
+// Whether the way from a to c turns left at b.
+pub fn turns_left(a: Point, b: Point, c: Point) -> bool
     requires { ⌜ AllOn a b c ⌝ }
-    ensures { λ r. ⌜ r ≡ turn-of a b c ⌝ }
+    ensures { λ r. ⌜ r ≡ turns-left-of a b c ⌝ }
 {
-    turn_along(between(a, b), between(b, c))
+    left_along(between(a, b), between(b, c))
 }
 
 // The first position whose point differs from the last point; n where all are equal.

@@ -1,6 +1,6 @@
 -- Which edges count, and their parity along a contour.
 use mathlib.Core.Path.{_≡_, refl, sym, _∙_, ap}
-use mathlib.Core.Bool.{Bool, true, false, not, xor}
+use mathlib.Core.Bool.{Bool, true, false, not, xor, Bool·beq, true≢false}
 use mathlib.Core.List.{List, [], _∷_}
 use Prim.Native.Nat.{ℕ, zero, suc, _+_, _-_, _<_, _≤_}
 use native.Mathlib.Omega.{arith}
@@ -22,7 +22,8 @@ use Rattle.grid.proofs.LadderLaws.{first-is, stopped, onward}
 use Rattle.grid.proofs.LadderLaws.First.{here, past, foot}
 use Rattle.grid.proofs.VerdictLaws.{verdict-refused, verdict-given}
 use Rattle.grid.proofs.CornerLaws.{last-from}
-use Rattle.path.specs.Contains.{above, meets-right, crosses, odd, contained, refusals, contains, Across, before, Changing}
+use Rattle.path.specs.Contains.{above, meets-right, crosses, odd, contained, refusals, contains}
+use Rattle.path.specs.Inside.{Across, Changing, before}
 
 -- the edge is met to the right of p where the way along it and on to p turns left
 meets-is : (p l h : Point) → turns-left l h p ≡ meets-right p l h
@@ -161,6 +162,19 @@ module _ (row : List ℤ) (p : Point) {n : ℕ} (c : Contour row n) where
 
     pub changing-done : n ≤ i → sofar ≡ contained p (points row)
     changing-done h = counted-all row p c counted h
+
+-- one side, or the other
+pub one-side : (t up : Bool) → Bool·beq t up ≡ true → t ≡ up
+one-side true true e = refl
+one-side false false e = refl
+one-side true false e = absurd (true≢false (sym e))
+one-side false true e = absurd (true≢false (sym e))
+
+pub other-side : (t up : Bool) → Bool·beq t up ≡ false → t ≡ not up
+other-side true false e = refl
+other-side false true e = refl
+other-side true true e = absurd (true≢false e)
+other-side false false e = absurd (true≢false e)
 
 module _ (row : List ℤ) (n i : ℕ) (p : Point) (up : Bool) where
   -- a loop that looks for a point on the other side

@@ -1,14 +1,12 @@
 -- Whether a contour contains a point.
-use mathlib.Core.Path.{_≡_}
 use mathlib.Core.Bool.{Bool, true, false, not, xor, _&&_}
 use mathlib.Core.List.{List, [], _∷_, _++_}
-use Prim.Native.Nat.{ℕ, zero, suc, _-_, _<_, _≤_}
-use lib.ListN.{drop}
+use Prim.Native.Nat.{_-_, _<_}
 use lib.IntN.{ℤ, _-ℤ_, _*ℤ_}
 use lib.Signed.{ltZ}
 use Rattle.grid.specs.declared.Point.{Point}
 use Rattle.grid.specs.declared.Verdict.{Verdict}
-use Rattle.grid.specs.Points.{at, on, points}
+use Rattle.grid.specs.Points.{on, points}
 use Rattle.grid.specs.Corners.{last}
 use Rattle.grid.specs.Ladder.{Rung, first-of}
 use Rattle.grid.specs.Domain.{domain}
@@ -36,25 +34,6 @@ odd p a (b ∷ l) = xor (crosses p a b) (odd p b l)
 unfoldable pub contained : Point → List Point → Bool
 contained p [] = false
 contained p (o ∷ l) = odd p (last o l) (o ∷ l)
-
--- from position i up to r all points lie on one side of p's horizontal, and the one at r, if r is a position of the n, on the other
-pub record Across (row : List ℤ) (n i : ℕ) (p : Point) (up : Bool) (r : ℕ) : Type 0 where
-  pub from : i ≤ r
-  pub within : r ≤ n
-  pub skipped : (j : ℕ) → i ≤ j → j < r → above p (at row j) ≡ up
-  pub changed : r < n → above p (at row r) ≡ not up
-
--- the position before i of n, around the contour
-unfoldable pub before : ℕ → ℕ → ℕ
-before n zero = n - 1
-before n (suc i) = i
-
--- the parity of the edges up to position a is known, and the one from a to i, if i is a position of the n, changes side
-pub record Changing (row : List ℤ) (n : ℕ) (p : Point) (sofar : Bool) (a i : ℕ) : Type 0 where
-  pub a-in : a < n
-  pub within : i ≤ n
-  pub changes : i < n → above p (at row i) ≡ not (above p (at row a))
-  pub is : contained p (points row) ≡ xor sofar (odd p (at row a) (drop i (points row)))
 
 -- the refusals: 3 also for an asked point off the grid
 abbrev pub refusals : Point → List ℤ → List Rung

@@ -1,9 +1,15 @@
 -- What the inner functions say to each other.
-use mathlib.Core.Bool.{Bool, not, _&&_, _||_}
-use lib.IntN.{pos, negsuc}
+use mathlib.Core.Path.{_≡_}
+use mathlib.Core.List.{List}
+use Prim.Native.Nat.{ℕ, zero, suc, _-_, _<_, _≤_}
+use lib.ListN.{drop}
+use lib.IntN.{ℤ, pos, negsuc}
+use Rattle.grid.specs.declared.Point.{Point}
+use Rattle.path.specs.Contains.{above, odd, contained}
+use mathlib.Core.Bool.{Bool, not, xor, _&&_, _||_}
 use Rattle.integers.specs.Equal.{eqZ}
 use Rattle.grid.specs.declared.Edge.{Edge}
-use Rattle.grid.specs.Points.{turn-along, opposed}
+use Rattle.grid.specs.Points.{at, points, turn-along, opposed}
 use Rattle.path.specs.declared.Seen.{Seen}
 
 -- what is seen with the corner between two edges
@@ -13,3 +19,22 @@ looked s u v = record { left = s .left || eqZ (turn-along u v) (pos 1); right = 
 -- not both ways were seen, and no edge that reverses
 abbrev pub one-sided : Seen → Bool
 one-sided s = not (s .left && s .right) && not (s .back)
+
+-- from position i up to r all points lie on one side of p's horizontal, and the one at r, if r is a position of the n, on the other
+pub record Across (row : List ℤ) (n i : ℕ) (p : Point) (up : Bool) (r : ℕ) : Type 0 where
+  pub from : i ≤ r
+  pub within : r ≤ n
+  pub skipped : (j : ℕ) → i ≤ j → j < r → above p (at row j) ≡ up
+  pub changed : r < n → above p (at row r) ≡ not up
+
+-- the position before i of n, around the contour
+unfoldable pub before : ℕ → ℕ → ℕ
+before n zero = n - 1
+before n (suc i) = i
+
+-- the parity of the edges up to position a is known, and the one from a to i, if i is a position of the n, changes side
+pub record Changing (row : List ℤ) (n : ℕ) (p : Point) (sofar : Bool) (a i : ℕ) : Type 0 where
+  pub a-in : a < n
+  pub within : i ≤ n
+  pub changes : i < n → above p (at row i) ≡ not (above p (at row a))
+  pub is : contained p (points row) ≡ xor sofar (odd p (at row a) (drop i (points row)))

@@ -2,14 +2,14 @@
 ghost use mathlib.Core.Path.{_≡_};
 ghost use mathlib.Core.Bool.{true, false};
 ghost use Prim.Native.Nat.{_-_, _<_, _≤_};
-ghost use Rattle.grid.specs.Points.{AllOn, Short, at, on, points as points-of};
+ghost use Rattle.grid.specs.Points.{Short, at, on, points as points-of};
 ghost use Rattle.grid.specs.Corners.{distinct-neighbours};
 ghost use Rattle.grid.specs.Domain.{Contour};
 ghost use Rattle.grid.specs.Inside.{First};
 ghost use Rattle.path.specs.Convex.{convex-left, convex as convex-verdict};
-ghost use Rattle.path.specs.Inside.{looked, one-sided};
+ghost use Rattle.path.specs.Inside.{looked, one-sided, Across, Changing, before as before-of};
 ghost use Rattle.path.specs.Clockwise.{clockwise};
-ghost use Rattle.path.specs.Contains.{above, contained, contains as contains-verdict, Across, Changing, before as before-of};
+ghost use Rattle.path.specs.Contains.{above, contained, contains as contains-verdict};
 use grid::Edge;
 use grid::Point;
 pub use grid::Verdict;
@@ -133,46 +133,20 @@ fn lies_above(p: Point, a: Point) -> bool
     p.y < a.y
 }
 
-// The first position from i on whose point lies above p's horizontal; n where there is none.
-fn next_above(points: &[i32], n: usize, i: usize, p: Point) -> usize
+// The first position from i on whose point lies on the other side of p's horizontal than `up` says; n where there is none.
+fn next_across(points: &[i32], n: usize, i: usize, p: Point, up: bool) -> usize
     requires { ⌜ Contour (now points) n × (i ≤ n) × (on p ≡ true) ⌝ }
-    ensures { λ r. ⌜ Across (now (points .entry)) n i p false r ⌝ }
+    ensures { λ r. ⌜ Across (now (points .entry)) n i p up r ⌝ }
 {
     let mut here = i;
     while here < n {
-        if lies_above(p, grid::point_at(points, here)) {
+        if lies_above(p, grid::point_at(points, here)) == up {
+            here += 1;
+        } else {
             return here;
         }
-        here += 1;
     }
     n
-}
-
-// The first position from i on whose point does not lie above p's horizontal; n where there is none.
-fn next_not_above(points: &[i32], n: usize, i: usize, p: Point) -> usize
-    requires { ⌜ Contour (now points) n × (i ≤ n) × (on p ≡ true) ⌝ }
-    ensures { λ r. ⌜ Across (now (points .entry)) n i p true r ⌝ }
-{
-    let mut here = i;
-    while here < n {
-        if !lies_above(p, grid::point_at(points, here)) {
-            return here;
-        }
-        here += 1;
-    }
-    n
-}
-
-// The first position whose point lies on another side of p's horizontal than the last point; n where there is none.
-fn first_across(points: &[i32], n: usize, p: Point) -> usize
-    requires { ⌜ Contour (now points) n × (0 < n) × (on p ≡ true) ⌝ }
-    ensures { λ r. ⌜ Across (now (points .entry)) n 0 p (above p (at (now (points .entry)) (n - 1))) r ⌝ }
-{
-    if lies_above(p, grid::point_at(points, n - 1)) {
-        next_not_above(points, n, 0, p)
-    } else {
-        next_above(points, n, 0, p)
-    }
 }
 
 // The position before i, around the contour.
@@ -196,11 +170,11 @@ fn parity_from(points: &[i32], n: usize, p: Point, from: usize, to: usize) -> bo
         let end = grid::point_at(points, i);
         if lies_above(p, end) {
             odd = odd != grid::turns_left(start, end, p);
-            i = next_not_above(points, n, i + 1, p);
+            i = next_across(points, n, i + 1, p, true);
             a = i - 1;
         } else {
             odd = odd != grid::turns_left(end, start, p);
-            i = next_above(points, n, i + 1, p);
+            i = next_across(points, n, i + 1, p, false);
             a = i - 1;
         }
     }
@@ -212,7 +186,8 @@ fn parity(points: &[i32], n: usize, p: Point) -> bool
     requires { ⌜ Contour (now points) n × (0 < n) × (on p ≡ true) ⌝ }
     ensures { λ r. ⌜ r ≡ contained p (points-of (now (points .entry))) ⌝ }
 {
-    let first = first_across(points, n, p);
+    let up = lies_above(p, grid::point_at(points, n - 1));
+    let first = next_across(points, n, 0, p, up);
     if first < n {
         parity_from(points, n, p, before(n, first), first)
     } else {

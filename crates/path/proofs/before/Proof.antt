@@ -3,7 +3,7 @@ use borrow.Author.Needs.{needs}
 use mathlib.Core.Path.{_≡_, refl}
 use Prim.Native.Nat.{ℕ, zero, suc, _-_}
 use native.Mathlib.Omega.{arith}
-use Rattle.path.specs.Contains.{before}
+use Rattle.path.specs.Inside.{before}
 use Rattle.path.proofs.before.Statement.{statement}
 use Rattle.path.proofs.before.Tie as tie
 

@@ -7,7 +7,8 @@ use borrow.Author.Tests.{not-true, not-false}
 use Rattle.grid.specs.declared.Point.{Point}
 use Rattle.grid.specs.Points.{at, turns-left}
 use Rattle.grid.proofs.PointLaws.{at-on}
-use Rattle.path.specs.Contains.{above, Changing}
+use Rattle.path.specs.Contains.{above}
+use Rattle.path.specs.Inside.{Changing}
 use Rattle.path.proofs.ContainsLaws.{crosses-up, crosses-down, changing-next, changing-done}
 use Rattle.path.proofs.parity_from.Statement.{statement}
 use Rattle.path.proofs.parity_from.Tie as tie
@@ -55,17 +56,17 @@ turns-left-requires c κs =
       c-on = s .pre .1;
     }
 
-add-next-not-above : tie.Need-add-next-not-above Inv-loop μ-loop
-add-next-not-above c = omega (arith, c .before .before .before .before .before .loop-test .taken, c .before .before .before .before .before .before .before .fits .n)
+add-next-across : tie.Need-add-next-across Inv-loop μ-loop
+add-next-across c = omega (arith, c .before .before .before .before .before .loop-test .taken, c .before .before .before .before .before .before .before .fits .n)
 
-next-not-above-requires : tie.Need-next-not-above-requires Inv-loop μ-loop
-next-not-above-requires c κs = let s = c .before .before .before .before .before .before .before in (s .pre .0, omega (arith, c .before .before .before .before .before .loop-test .taken), s .pre .1)
+next-across-requires : tie.Need-next-across-requires Inv-loop μ-loop
+next-across-requires c κs = let s = c .before .before .before .before .before .before .before in (s .pre .0, omega (arith, c .before .before .before .before .before .loop-test .taken), s .pre .1)
 
 sub-a : tie.Need-sub-a Inv-loop μ-loop
-sub-a c = omega (arith, c .next-not-above .ensures .from)
+sub-a c = omega (arith, c .next-across .ensures .from)
 
 loop-less : tie.Need-loop-less Inv-loop μ-loop
-loop-less c = omega (arith, c .next-not-above .ensures .from, c .before .before .before .before .before .before .loop-test .taken)
+loop-less c = omega (arith, c .next-across .ensures .from, c .before .before .before .before .before .before .loop-test .taken)
 
 loop-again : tie.Need-loop-again Inv-loop μ-loop
 unfolding xor
@@ -80,7 +81,7 @@ loop-again c =
     changing-next row p (s .pre .0) (l .loop .inv) (v .before .before .before .loop-test .taken)
     (t .turns-left .ensures ∙ ap₂ (λ (a b : Point). turns-left a b p) (v .before .before .point-at .ensures) (v .before .point-at2 .ensures)
     ∙ crosses-up p (at row (l .loop .a)) (at row (l .loop .i)) (not-true _ (sym (other v) ∙ i .if1 .taken)) (sym (told v) ∙ i .if1 .taken))
-    (sym (told v) ∙ i .if1 .taken) (c .next-not-above .ensures)
+    (sym (told v) ∙ i .if1 .taken) (c .next-across .ensures)
 
 turns-left-requires-2 : tie.Need-turns-left-requires-2 Inv-loop μ-loop
 turns-left-requires-2 c κs =
@@ -94,17 +95,17 @@ turns-left-requires-2 c κs =
       c-on = s .pre .1;
     }
 
-add-next-above : tie.Need-add-next-above Inv-loop μ-loop
-add-next-above c = omega (arith, c .before .before .before .before .before .loop-test .taken, c .before .before .before .before .before .before .before .fits .n)
+add-next-across-2 : tie.Need-add-next-across-2 Inv-loop μ-loop
+add-next-across-2 c = omega (arith, c .before .before .before .before .before .loop-test .taken, c .before .before .before .before .before .before .before .fits .n)
 
-next-above-requires : tie.Need-next-above-requires Inv-loop μ-loop
-next-above-requires c κs = let s = c .before .before .before .before .before .before .before in (s .pre .0, omega (arith, c .before .before .before .before .before .loop-test .taken), s .pre .1)
+next-across-requires-2 : tie.Need-next-across-requires-2 Inv-loop μ-loop
+next-across-requires-2 c κs = let s = c .before .before .before .before .before .before .before in (s .pre .0, omega (arith, c .before .before .before .before .before .loop-test .taken), s .pre .1)
 
 sub-a-2 : tie.Need-sub-a-2 Inv-loop μ-loop
-sub-a-2 c = omega (arith, c .next-above .ensures .from)
+sub-a-2 c = omega (arith, c .next-across2 .ensures .from)
 
 loop-less-2 : tie.Need-loop-less-2 Inv-loop μ-loop
-loop-less-2 c = omega (arith, c .next-above .ensures .from, c .before .before .before .before .before .before .loop-test .taken)
+loop-less-2 c = omega (arith, c .next-across2 .ensures .from, c .before .before .before .before .before .before .loop-test .taken)
 
 loop-again-2 : tie.Need-loop-again-2 Inv-loop μ-loop
 unfolding xor
@@ -119,7 +120,7 @@ loop-again-2 c =
     changing-next row p (s .pre .0) (l .loop .inv) (v .before .before .before .loop-test .taken)
     (t .turns-left2 .ensures ∙ ap₂ (λ (a b : Point). turns-left a b p) (v .before .point-at2 .ensures) (v .before .before .point-at .ensures)
     ∙ crosses-down p (at row (l .loop .a)) (at row (l .loop .i)) (not-false _ (sym (other v) ∙ i .if1 .left)) (sym (told v) ∙ i .if1 .left))
-    (sym (told v) ∙ i .if1 .left) (c .next-above .ensures)
+    (sym (told v) ∙ i .if1 .left) (c .next-across2 .ensures)
 
 returns : tie.Need-returns Inv-loop μ-loop
 returns c = let s = c .before .before in changing-done (s .args .points .now) (s .args .p) (s .pre .0) (c .before .loop .inv) (c .loop-test .left)
@@ -135,14 +136,14 @@ parity-from-spec =
     point-at-requires-2
     lies-above-requires
     turns-left-requires
-    add-next-not-above
-    next-not-above-requires
+    add-next-across
+    next-across-requires
     sub-a
     loop-less
     loop-again
     turns-left-requires-2
-    add-next-above
-    next-above-requires
+    add-next-across-2
+    next-across-requires-2
     sub-a-2
     loop-less-2
     loop-again-2

@@ -1,22 +1,20 @@
--- `path::next_not_above` meets its contract: all points passed lie above.
+-- `path::next_across` meets its contract: all points passed lie on one side.
 use borrow.Author.Needs.{needs}
-use borrow.Author.Tests.{not-true, not-false}
 use mathlib.Core.Path.{_≡_, sym, _∙_, ap}
-use mathlib.Core.Bool.{true}
 use Prim.Native.Nat.{_-_}
 use native.Mathlib.Omega.{arith}
 use Rattle.grid.specs.Points.{at}
 use Rattle.grid.proofs.PointLaws.{at-on}
 use Rattle.path.specs.Contains.{above}
-use Rattle.path.proofs.ContainsLaws.{Passing, passing-none, passing-more, passing-found, passing-out}
-use Rattle.path.proofs.next_not_above.Statement.{statement}
-use Rattle.path.proofs.next_not_above.Tie as tie
+use Rattle.path.proofs.ContainsLaws.{Passing, passing-none, passing-more, passing-found, passing-out, one-side, other-side}
+use Rattle.path.proofs.next_across.Statement.{statement}
+use Rattle.path.proofs.next_across.Tie as tie
 
 abbrev Inv-loop : tie.InvT-loop
-Inv-loop row n i p here₀ here = Passing row n i p true here
+Inv-loop row n i p up here₀ here = Passing row n i p up here
 
 abbrev μ-loop : tie.MeasureT-loop
-μ-loop row n i p here₀ here = n - here
+μ-loop row n i p up here₀ here = n - here
 
 -- the side of the point looked at
 told : (c : tie.After-lies-above Inv-loop μ-loop) → let l = c .before .before .before in
@@ -35,9 +33,6 @@ lies-above-requires c κs =
     let s = l .before in
     (s .pre .2, rw (c .point-at .ensures) (at-on (s .args .points .now) (l .loop .here) (s .pre .0 .on)))
 
-returns : tie.Need-returns Inv-loop μ-loop
-returns c = passing-found _ _ _ _ _ (c .before .before .before .before .loop .inv) (sym (told (c .before)) ∙ not-true _ (c .if1 .taken))
-
 add-here : tie.Need-add-here Inv-loop μ-loop
 add-here c = search needs
 
@@ -47,13 +42,16 @@ loop-less c = search needs
 loop-again : tie.Need-loop-again Inv-loop μ-loop
 loop-again c =
     let t = c .before .before .before in
-    passing-more _ _ _ _ _ (t .before .loop .inv) (t .loop-test .taken) (sym (told (c .before)) ∙ not-false _ (c .if1 .left))
+    passing-more _ _ _ _ _ (t .before .loop .inv) (t .loop-test .taken) (sym (told (c .before)) ∙ one-side _ _ (c .if1 .taken))
+
+returns : tie.Need-returns Inv-loop μ-loop
+returns c = passing-found _ _ _ _ _ (c .before .before .before .before .loop .inv) (sym (told (c .before)) ∙ other-side _ _ (c .if1 .left))
 
 returns-2 : tie.Need-returns-2 Inv-loop μ-loop
 returns-2 c = passing-out _ _ _ _ _ (c .before .loop .inv) (c .loop-test .left)
 
-pub next-not-above-spec : {M : Type 1} → statement M
-next-not-above-spec =
+pub next-across-spec : {M : Type 1} → statement M
+next-across-spec =
     tie.close
     (tie.spec
     Inv-loop
@@ -61,8 +59,8 @@ next-not-above-spec =
     loop-holds
     point-at-requires
     lies-above-requires
-    returns
     add-here
     loop-less
     loop-again
+    returns
     returns-2)
