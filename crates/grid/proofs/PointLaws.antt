@@ -87,5 +87,3 @@ pub sign-none : (z : ℤ) → ltZ (pos 0) (sign z) ≡ false → ltZ (sign z) (p
 sign-none (pos zero) e f = refl
 sign-none (pos (suc n)) e f = absurd (subst T e tt)
 sign-none (negsuc n) e f = absurd (subst T f tt)
-
--- a sign has the sign
