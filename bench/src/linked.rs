@@ -1,18 +1,36 @@
 //! The functions of the library that are measured, in the order of `original` and with the same answers.
 
+#[path = "../../compare/scale/src/library/answer.rs"]
+#[allow(dead_code)]
+mod answer;
+#[path = "../../bindings/rust/src/library/raw.rs"]
+#[allow(dead_code)]
+mod raw;
+
 use crate::inputs::ASKED;
+
+/// A start and an end.
+type Range = [usize; 2];
+
+/// Calls a function with the row that it reads, the rows that it is lent, and plain numbers.
+macro_rules! call {
+    ($name:ident($read:ident; $($lent:ident),*; $($number:expr),*)) => {
+        // SAFETY: each row is a slice or a vector, and no lent row overlaps another.
+        unsafe { raw::$name($read.as_ptr(), $read.len(), $($lent.as_mut_ptr(), $lent.len(),)* $($number),*) }
+    };
+}
 
 pub type Function = fn(&[i32], &mut Rows) -> i64;
 
 pub const FUNCTIONS: [(&str, Function); 8] = [
-    ("simplified", |p, rows| clean(ukm_simplified, p, rows)),
-    ("despiked", |p, rows| clean(ukm_despiked, p, rows)),
-    ("is_simple", |p, _| unsafe { ukm_is_simple(p.as_ptr(), p.len()).yes as i64 }),
-    ("has_no_spikes", |p, _| unsafe { ukm_has_no_spikes(p.as_ptr(), p.len()).yes as i64 }),
-    ("is_convex", |p, _| unsafe { ukm_is_convex(p.as_ptr(), p.len()).yes as i64 }),
-    ("area_two", |p, _| unsafe { ukm_area_two(p.as_ptr(), p.len()).value }),
-    ("is_clockwise", |p, _| unsafe { ukm_is_clockwise(p.as_ptr(), p.len()).yes as i64 }),
-    ("contains", |p, _| unsafe { ukm_contains(p.as_ptr(), p.len(), ASKED.0, ASKED.1).yes as i64 }),
+    ("simplified", |p, Rows { next, prev, mark, out }| call!(ukm_simplified(p; next, prev, mark, out;)).points as i64),
+    ("despiked", |p, Rows { next, prev, mark, out }| call!(ukm_despiked(p; next, prev, mark, out;)).points as i64),
+    ("is_simple", |p, _| call!(ukm_is_simple(p; ;)).yes as i64),
+    ("has_no_spikes", |p, _| call!(ukm_has_no_spikes(p; ;)).yes as i64),
+    ("is_convex", |p, _| call!(ukm_is_convex(p; ;)).yes as i64),
+    ("area_two", |p, _| call!(ukm_area_two(p; ;)).value),
+    ("is_clockwise", |p, _| call!(ukm_is_clockwise(p; ;)).yes as i64),
+    ("contains", |p, _| call!(ukm_contains(p; ; ASKED.0, ASKED.1)).yes as i64),
 ];
 
 /// The rows that a cleaner is lent.
@@ -33,68 +51,4 @@ impl Rows {
             out: vec![0; 2 * points],
         }
     }
-}
-
-#[repr(C)]
-struct Area {
-    reply: u32,
-    value: i64,
-}
-
-#[repr(C)]
-struct Verdict {
-    reply: u32,
-    yes: bool,
-}
-
-#[repr(C)]
-struct Cleaned {
-    reply: u32,
-    points: usize,
-    decisions: usize,
-}
-
-type Cleaner = unsafe extern "C" fn(
-    points: *const i32,
-    len: usize,
-    next: *mut u32,
-    next_len: usize,
-    prev: *mut u32,
-    prev_len: usize,
-    mark: *mut u8,
-    mark_len: usize,
-    out: *mut i32,
-    out_len: usize,
-) -> Cleaned;
-
-#[rustfmt::skip]
-extern "C" {
-    fn ukm_area_two(points: *const i32, len: usize) -> Area;
-    fn ukm_is_convex(points: *const i32, len: usize) -> Verdict;
-    fn ukm_is_clockwise(points: *const i32, len: usize) -> Verdict;
-    fn ukm_is_simple(points: *const i32, len: usize) -> Verdict;
-    fn ukm_has_no_spikes(points: *const i32, len: usize) -> Verdict;
-    fn ukm_contains(points: *const i32, len: usize, x: i32, y: i32) -> Verdict;
-    fn ukm_simplified(points: *const i32, len: usize, next: *mut u32, next_len: usize, prev: *mut u32, prev_len: usize,
-        mark: *mut u8, mark_len: usize, out: *mut i32, out_len: usize) -> Cleaned;
-    fn ukm_despiked(points: *const i32, len: usize, next: *mut u32, next_len: usize, prev: *mut u32, prev_len: usize,
-        mark: *mut u8, mark_len: usize, out: *mut i32, out_len: usize) -> Cleaned;
-}
-
-fn clean(cleaner: Cleaner, points: &[i32], rows: &mut Rows) -> i64 {
-    let cleaned = unsafe {
-        cleaner(
-            points.as_ptr(),
-            points.len(),
-            rows.next.as_mut_ptr(),
-            rows.next.len(),
-            rows.prev.as_mut_ptr(),
-            rows.prev.len(),
-            rows.mark.as_mut_ptr(),
-            rows.mark.len(),
-            rows.out.as_mut_ptr(),
-            rows.out.len(),
-        )
-    };
-    cleaned.points as i64
 }

@@ -1,7 +1,5 @@
 //! The answers of the library, field by field.
 
-use cases::reply::Reply;
-
 #[repr(C)]
 #[derive(Debug, PartialEq, Eq)]
 pub struct Verdict {
@@ -48,26 +46,4 @@ pub struct Packed {
 pub struct Written {
     pub reply: u32,
     pub bytes: usize,
-}
-
-/// A refusal has nothing else to say.
-impl From<Reply<bool>> for Verdict {
-    fn from(reply: Reply<bool>) -> Verdict {
-        let (reply, yes) = said(reply);
-        Verdict { reply, yes }
-    }
-}
-
-impl From<Reply<i64>> for Area {
-    fn from(reply: Reply<i64>) -> Area {
-        let (reply, value) = said(reply);
-        Area { reply, value }
-    }
-}
-
-fn said<T: Default>(reply: Reply<T>) -> (u32, T) {
-    match reply {
-        Ok(value) => (0, value),
-        Err(refusal) => (refusal.into(), T::default()),
-    }
 }

@@ -1,6 +1,7 @@
 //! The functions of libukmerelt.a, called with slices. An empty row that is read is passed as null.
 
 pub mod answer;
+mod expected;
 mod lent;
 #[path = "../../../../bindings/rust/src/library/raw.rs"]
 mod raw;

@@ -1,0 +1,26 @@
+//! What the library must answer, by the original's reply.
+
+use super::answer::{Area, Verdict};
+use cases::reply::Reply;
+
+/// A refusal has nothing else to say.
+impl From<Reply<bool>> for Verdict {
+    fn from(reply: Reply<bool>) -> Verdict {
+        let (reply, yes) = said(reply);
+        Verdict { reply, yes }
+    }
+}
+
+impl From<Reply<i64>> for Area {
+    fn from(reply: Reply<i64>) -> Area {
+        let (reply, value) = said(reply);
+        Area { reply, value }
+    }
+}
+
+fn said<T: Default>(reply: Reply<T>) -> (u32, T) {
+    match reply {
+        Ok(value) => (0, value),
+        Err(refusal) => (refusal.into(), T::default()),
+    }
+}
