@@ -5,7 +5,7 @@
 mod answer;
 #[path = "../../bindings/rust/src/library/raw.rs"]
 #[allow(dead_code)]
-mod raw;
+pub mod raw;
 
 use crate::inputs::ASKED;
 
@@ -38,7 +38,7 @@ pub struct Rows {
     next: Vec<u32>,
     prev: Vec<u32>,
     mark: Vec<u8>,
-    out: Vec<i32>,
+    pub out: Vec<i32>,
 }
 
 impl Rows {
