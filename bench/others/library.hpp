@@ -5,6 +5,7 @@
 //   PROGRAM answers x y x y ..  a line for each function of this one contour: its name, a tab and the answer
 #pragma once
 
+#include <algorithm>
 #include <chrono>
 #include <cmath>
 #include <cstdint>
@@ -62,25 +63,27 @@ inline std::vector<Kind> read_kinds(const char *path) {
     return kinds;
 }
 
-// As in time.rs: five samples of about 20 ms each; the least counts. Work that takes over 0.1 s is done once.
+// As in time.rs: the least of all samples of 0.5 ms or more that fit into 0.03 s, and of five at least. Work that takes over
+// 0.1 s is done once.
 template <class Work>
 double nanoseconds(Work work) {
     using Clock = std::chrono::steady_clock;
     auto since = [](Clock::time_point start) { return std::chrono::duration<double>(Clock::now() - start).count(); };
-    volatile int64_t seen;
+    auto sample = [&](uint64_t repeat) {
+        volatile int64_t seen;
+        auto start = Clock::now();
+        for (uint64_t i = 0; i < repeat; i++) seen = work();
+        (void)seen;
+        return since(start);
+    };
+    double least = sample(1);
+    if (least > 0.1) return least * 1e9;
+    uint64_t repeat = 1;
+    while (std::min({sample(repeat), sample(repeat), sample(repeat)}) < 0.0005) repeat *= 2;
+    least = std::numeric_limits<double>::max();
     auto start = Clock::now();
-    seen = work();
-    double first = since(start);
-    if (first > 0.1) return first * 1e9;
-    double repeat = std::floor(std::fmin(std::fmax(0.02 / std::fmax(first, 1e-9), 1), 1e6));
-    double least = std::numeric_limits<double>::max();
-    for (int sample = 0; sample < 5; sample++) {
-        start = Clock::now();
-        for (double i = 0; i < repeat; i++) seen = work();
-        least = std::fmin(least, since(start) * 1e9 / repeat);
-    }
-    (void)seen;
-    return least;
+    for (int taken = 0; taken < 5 || since(start) < 0.03; taken++) least = std::min(least, sample(repeat));
+    return least * 1e9 / repeat;
 }
 
 template <class Shape, class Answer>
