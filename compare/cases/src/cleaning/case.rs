@@ -82,7 +82,7 @@ impl Part for Kind {
                 form: Form::ALL[length(words, Form::ALL.len() - 1)?],
                 lent: Lengths {
                     scratch: scratch::Lengths::read(words, MOST_SCRATCH)?,
-                    rows: rows::Lengths::read(words)?,
+                    rows: rows::Lengths::read(words, rows::Lengths::LONGEST)?,
                 },
             }),
             _ => Err("no kind of case begins so".into()),

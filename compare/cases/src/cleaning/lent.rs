@@ -55,7 +55,7 @@ fn cleaning(form: Form, set: &Set, [next, prev, mark, out, records, groups]: Off
             prev: length(prev),
             mark: length(mark),
         },
-        rows: need.beside([out, records, groups]),
+        rows: need.beside([out, records, groups], rows::Lengths::LONGEST),
     };
     Case {
         kind: Kind::Cleaning { form, lent },

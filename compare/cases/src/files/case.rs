@@ -54,11 +54,7 @@ impl FromStr for Case {
         let words: &mut Words = &mut line.split(' ');
         match words.next() {
             Some(READING) => Ok(Case::Reading {
-                lent: Lengths {
-                    out: length(words, LONGEST.out)?,
-                    records: length(words, LONGEST.records)?,
-                    groups: length(words, LONGEST.groups)?,
-                },
+                lent: Lengths::read(words, LONGEST)?,
                 file: read_file(words, MOST_FILE)?,
             }),
             Some(WRITING) => Ok(Case::Writing {

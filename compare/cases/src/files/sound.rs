@@ -6,7 +6,7 @@ use crate::point::LIMIT;
 use crate::rng::Rng;
 use crate::sets::flat::Set;
 use crate::sets::random;
-use crate::sets::rows::{Lengths, Offsets};
+use crate::sets::rows::{Lengths, OFFSETS};
 use crate::sets::small::{rows_up_to, set};
 
 pub fn reading(lent: Lengths, file: &[u8]) -> Case {
@@ -73,27 +73,9 @@ pub fn random_file(rng: &mut Rng) -> Vec<u8> {
     file_of(&set)
 }
 
-const OFFSETS: [Offsets; 11] = [
-    [0, 0, 0],
-    [-1, 0, 0],
-    [0, -1, 0],
-    [0, 0, -1],
-    [1, 2, 3],
-    [-2, 0, 0],
-    [5, -1, 0],
-    [5, 3, -1],
-    [-1, -1, -1],
-    [0, 1, 0],
-    [1, 0, 1],
-];
-
 /// Rows around the need, none, and the longest.
 pub fn around(need: Lengths) -> Vec<Lengths> {
-    let beside = |[out, records, groups]: Offsets| Lengths {
-        out: need.out.saturating_add_signed(out),
-        records: need.records.saturating_add_signed(records),
-        groups: need.groups.saturating_add_signed(groups),
-    };
+    let beside = |offsets| need.beside(offsets, LONGEST);
     let none = beside([isize::MIN; 3]);
     [&OFFSETS.map(beside)[..], &[none, LONGEST]].concat()
 }

@@ -51,7 +51,7 @@ impl Part for Kind {
             Some(ASKED) => Ok(Kind::Asked),
             Some(PACKING) => Ok(Kind::Packing {
                 form: Form::read(words)?,
-                lent: Lengths::read(words)?,
+                lent: Lengths::read(words, Lengths::LONGEST)?,
                 more: length(words, MOST_NUMBERS)?,
                 ranges: next_records(words)?,
             }),

@@ -3,25 +3,11 @@
 use super::case::{Case, Kind};
 use super::flat::{Record, Set, MOST_RECORDS};
 use super::packing::{Form, Packed};
-use super::rows::{Lengths, Offsets};
+use super::rows::{Lengths, Offsets, OFFSETS};
 use super::small::set;
 use crate::damaged::OFF_GRID;
 use crate::line::Row;
 use crate::point::{LIMIT, MOST_POINTS};
-
-const OFFSETS: [Offsets; 11] = [
-    [0, 0, 0],
-    [-1, 0, 0],
-    [0, -1, 0],
-    [0, 0, -1],
-    [1, 2, 3],
-    [-2, 0, 0],
-    [5, -1, 0],
-    [5, 3, -1],
-    [-1, -1, -1],
-    [0, 1, 0],
-    [1, 0, 1],
-];
 
 /// Every question about each set.
 pub fn asked(sets: &[Set]) -> Vec<Case> {
@@ -65,8 +51,8 @@ pub fn packed(form: Form, offsets: Offsets, set: &Set, addition: usize) -> Case 
         Packed::OneMore => ADDITIONS[addition % ADDITIONS.len()],
         _ => (&[][..], &[][..]),
     };
-    let need = need(form, set, more, ranges);
-    added(form, need.beside(offsets), set, more, ranges)
+    let lent = need(form, set, more, ranges).beside(offsets, Lengths::LONGEST);
+    added(form, lent, set, more, ranges)
 }
 
 /// Exactly as long as what is to be written.

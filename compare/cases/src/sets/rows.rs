@@ -6,10 +6,6 @@ use crate::line::{length, Words};
 use crate::reply::{refused_if, Reply, ROOM};
 use std::fmt;
 
-/// The longest rows that can be lent.
-pub const MOST_OUT: usize = 1100;
-pub const MOST_LENT: usize = 80;
-
 /// How many entries they have.
 #[derive(Clone, Copy, Debug, PartialEq, Eq)]
 pub struct Lengths {
@@ -21,27 +17,45 @@ pub struct Lengths {
 /// By how much they differ from the need.
 pub type Offsets = [isize; 3];
 
+/// As long as needed, longer and shorter.
+pub const OFFSETS: [Offsets; 11] = [
+    [0, 0, 0],
+    [-1, 0, 0],
+    [0, -1, 0],
+    [0, 0, -1],
+    [1, 2, 3],
+    [-2, 0, 0],
+    [5, -1, 0],
+    [5, 3, -1],
+    [-1, -1, -1],
+    [0, 1, 0],
+    [1, 0, 1],
+];
+
 impl Lengths {
+    /// The longest rows that can be lent for a set.
     pub const LONGEST: Lengths = Lengths {
-        out: MOST_OUT,
-        records: MOST_LENT,
-        groups: MOST_LENT,
+        out: 1100,
+        records: 80,
+        groups: 80,
     };
 
     /// Rows longer or shorter by the offsets, but none beyond the longest.
-    pub fn beside(self, [out, records, groups]: Offsets) -> Lengths {
+    pub fn beside(self, [out, records, groups]: Offsets, longest: Lengths) -> Lengths {
+        let beside = |need: usize, offset, most| need.saturating_add_signed(offset).min(most);
         Lengths {
-            out: self.out.saturating_add_signed(out).min(MOST_OUT),
-            records: self.records.saturating_add_signed(records).min(MOST_LENT),
-            groups: self.groups.saturating_add_signed(groups).min(MOST_LENT),
+            out: beside(self.out, out, longest.out),
+            records: beside(self.records, records, longest.records),
+            groups: beside(self.groups, groups, longest.groups),
         }
     }
 
-    pub fn read(words: &mut Words) -> Result<Lengths, String> {
+    /// Reads three lengths, none beyond the longest.
+    pub fn read(words: &mut Words, longest: Lengths) -> Result<Lengths, String> {
         Ok(Lengths {
-            out: length(words, MOST_OUT)?,
-            records: length(words, MOST_LENT)?,
-            groups: length(words, MOST_LENT)?,
+            out: length(words, longest.out)?,
+            records: length(words, longest.records)?,
+            groups: length(words, longest.groups)?,
         })
     }
 }

@@ -17,6 +17,7 @@ use cases::sets::chosen;
 use cases::sets::flat::Set;
 use cases::sets::packing::Form as Packing;
 use cases::sets::random::{set, spoil};
+use cases::sets::rows::Lengths;
 use cases::{asked, damaged, once, random, sets, unclean};
 
 /// The forms of packing that the library has: it packs into shape sets.
@@ -87,7 +88,8 @@ pub fn packed(tally: &mut Tally, rng: &mut Rng) {
     for form in PACKINGS.into_iter().filter_map(Packing::numbered) {
         let (more, ranges) = (other.points.all(), &other.contours);
         let offsets = [(); 3].map(|()| rng.pick(&[-1, 0, 0, 0, 0, 1, 2, 5]));
-        let lent = chosen::need(form, &set, &more, ranges).beside(offsets);
+        let need = chosen::need(form, &set, &more, ranges);
+        let lent = need.beside(offsets, Lengths::LONGEST);
         tally.compare(&chosen::added(form, lent, &set, &more, ranges));
     }
 }
