@@ -1,7 +1,7 @@
 //! One line of the list of contours.
 
 use crate::cleaner::Cleaner;
-use crate::line::{self, length, next_number, Part, Row, Words};
+use crate::line::{self, length, next_number, Part, Row, Words, NO_KIND};
 use crate::point::Point;
 use crate::rows::{Lengths, MOST_OUT, MOST_SCRATCH};
 use crate::scratch;
@@ -63,19 +63,19 @@ impl Part for Kind {
                     out: length(words, MOST_OUT)?,
                 },
             }),
-            _ => Err("no kind of case begins so".into()),
+            _ => Err(NO_KIND.into()),
         }
     }
 }
 
 #[cfg(test)]
 mod tests {
-    use super::{Case, Kind, Row};
+    use super::Case;
     use crate::line::tests::{refused, written_as_read};
 
     #[test]
     fn a_line_is_read_as_it_was_written() {
-        written_as_read::<Kind, Row>(&[
+        written_as_read::<Case>(&[
             "c 1 1 0 0 4 0 0 4",
             "c 0 0",
             "c -1 2 3",
@@ -96,10 +96,10 @@ mod tests {
 
     #[test]
     fn a_damaged_line_is_refused() {
-        refused::<Kind, Row>(&["", "d 0 0", "c", "c 0", "c  0 0", "c 0 +1"]);
-        refused::<Kind, Row>(&["c 0 0 2147483648", "c 0 0 *0", "c 0 0 1 *131075"]);
-        refused::<Kind, Row>(&["c 0 0 1 *2 3", "c *2", "c 0 0 1 *+2", "w", "w 0 1 1 1"]);
-        refused::<Kind, Row>(&["w 2 1 1 1 2", "w 0 -1 1 1 2", "w 0 65601 1 1 2"]);
-        refused::<Kind, Row>(&["w 0 1 65601 1 2", "w 0 1 1 65601 2", "w 0 1 1 1 131201"]);
+        refused::<Case>(&["", "d 0 0", "c", "c 0", "c  0 0", "c 0 +1"]);
+        refused::<Case>(&["c 0 0 2147483648", "c 0 0 *0", "c 0 0 1 *131075"]);
+        refused::<Case>(&["c 0 0 1 *2 3", "c *2", "c 0 0 1 *+2", "w", "w 0 1 1 1"]);
+        refused::<Case>(&["w 2 1 1 1 2", "w 0 -1 1 1 2", "w 0 65601 1 1 2"]);
+        refused::<Case>(&["w 0 1 65601 1 2", "w 0 1 1 65601 2", "w 0 1 1 1 131201"]);
     }
 }

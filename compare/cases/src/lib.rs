@@ -63,7 +63,7 @@ pub fn once<C: Display>(mut cases: Vec<C>) -> Vec<C> {
 
 #[cfg(test)]
 mod tests {
-    use super::{cleaning, list, sets};
+    use super::{cleaning, files, list, sets};
     use crate::line::tests::read_as_written;
 
     #[test]
@@ -71,5 +71,6 @@ mod tests {
         read_as_written(list());
         read_as_written(sets::list());
         read_as_written(cleaning::list());
+        read_as_written(files::list());
     }
 }

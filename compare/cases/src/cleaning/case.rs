@@ -1,7 +1,7 @@
 //! One line of the list of questions about sets and of cleanings.
 
 use crate::cleaner::Cleaner;
-use crate::line::{self, length, next_number, Part, Words};
+use crate::line::{self, length, next_number, Part, Words, NO_KIND};
 use crate::point::Point;
 use crate::scratch;
 use crate::sets::flat::Set;
@@ -85,19 +85,19 @@ impl Part for Kind {
                     rows: rows::Lengths::read(words, rows::Lengths::LONGEST)?,
                 },
             }),
-            _ => Err("no kind of case begins so".into()),
+            _ => Err(NO_KIND.into()),
         }
     }
 }
 
 #[cfg(test)]
 mod tests {
-    use super::{Kind, Set};
+    use super::Case;
     use crate::line::tests::{refused, written_as_read};
 
     #[test]
     fn a_line_is_read_as_it_was_written() {
-        written_as_read::<Kind, Set>(&[
+        written_as_read::<Case>(&[
             "q 1 1 0 0",
             "q -1 536870913 1 0 3 1 0 1 0 0 4 0 0 4",
             "k 0 3 3 3 6 1 0 1 0 3 0 0 0 4 0 0 4",
@@ -107,9 +107,9 @@ mod tests {
 
     #[test]
     fn a_damaged_line_is_refused() {
-        refused::<Kind, Set>(&["", "q 1 0 0", "s 0 0", "k 4 0 0 0 0 0 0 0 0"]);
-        refused::<Kind, Set>(&["k 0 551 0 0 0 0 0 0 0", "k 0 0 0 551 0 0 0 0 0"]);
-        refused::<Kind, Set>(&["k 0 0 0 0 1101 0 0 0 0", "k 0 0 0 0 0 81 0 0 0"]);
-        refused::<Kind, Set>(&["k 0 0 0 0 0 0 81 0 0", "k 0 0 0 0 0 0 0"]);
+        refused::<Case>(&["", "q 1 0 0", "s 0 0", "k 4 0 0 0 0 0 0 0 0"]);
+        refused::<Case>(&["k 0 551 0 0 0 0 0 0 0", "k 0 0 0 551 0 0 0 0 0"]);
+        refused::<Case>(&["k 0 0 0 0 1101 0 0 0 0", "k 0 0 0 0 0 81 0 0 0"]);
+        refused::<Case>(&["k 0 0 0 0 0 0 81 0 0", "k 0 0 0 0 0 0 0"]);
     }
 }

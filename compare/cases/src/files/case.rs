@@ -1,7 +1,7 @@
 //! One line of the list of files.
 
 use super::text::{read_file, read_records, write_file, write_records};
-use crate::line::{length, Part, Row, Words};
+use crate::line::{length, Part, Row, Words, NO_KIND};
 use crate::sets::flat::Set;
 use crate::sets::rows::Lengths;
 use std::fmt;
@@ -65,7 +65,7 @@ impl FromStr for Case {
                     points: Row::read(words)?,
                 },
             }),
-            _ => Err("no kind of case begins so".into()),
+            _ => Err(NO_KIND.into()),
         }
     }
 }
@@ -73,10 +73,11 @@ impl FromStr for Case {
 #[cfg(test)]
 mod tests {
     use super::Case;
+    use crate::line::tests::{refused, written_as_read};
 
     #[test]
-    fn a_line_is_written_as_it_was_read() {
-        for line in [
+    fn a_line_is_read_as_it_was_written() {
+        written_as_read::<Case>(&[
             "r 0 0 0",
             "r 16400 4100 4100 1000",
             "r 2 1 1 10018001 00*100",
@@ -84,38 +85,16 @@ mod tests {
             "w 0 0 0",
             "w 65600 1 0 1 1 0 1 5 -6",
             "w 9 32800 0 0*32799 1 0 1 0 2147483647 7 8 *8191",
-        ] {
-            let case: Case = line.parse().unwrap();
-            assert_eq!(case.to_string(), line);
-        }
+        ]);
     }
 
     #[test]
     fn a_damaged_line_is_refused() {
-        for line in ["", "c", "r", "r 0 0", "r 0 0 0 ", "r 0 0 0 1", "r 0 0 0 1G"] {
-            assert!(line.parse::<Case>().is_err(), "{line}");
-        }
-        for line in [
-            "r 16401 0 0",
-            "r 0 4101 0",
-            "r 0 0 4101",
-            "r 0 0 0 00*0",
-            "r 0 0 0 00*65601",
-            "r 0 0 0 00*65600 00",
-        ] {
-            assert!(line.parse::<Case>().is_err(), "{line}");
-        }
-        for line in [
-            "w",
-            "w 0 0",
-            "w 65601 0 0",
-            "w 0 32801 0 0*32801 0",
-            "w 0 1 0 0*2 0",
-            "w 0 1 0 0*0 0",
-            "w 0 2 0 0 0",
-            "w 0 1 -1 0 0",
-        ] {
-            assert!(line.parse::<Case>().is_err(), "{line}");
-        }
+        refused::<Case>(&["", "c", "r", "r 0 0", "r 0 0 0 ", "r 0 0 0 1", "r 0 0 0 1G"]);
+        refused::<Case>(&["r 16401 0 0", "r 0 4101 0", "r 0 0 4101", "r 0 0 0 00*0"]);
+        refused::<Case>(&["r 0 0 0 00*65601", "r 0 0 0 00*65600 00"]);
+        refused::<Case>(&["w", "w 0 0", "w 65601 0 0", "w 0 32801 0 0*32801 0"]);
+        refused::<Case>(&["w 0 1 0 0*2 0", "w 0 1 0 0*0 0"]);
+        refused::<Case>(&["w 0 2 0 0 0", "w 0 1 -1 0 0"]);
     }
 }

@@ -46,13 +46,6 @@ mod tests {
     use super::{answer, list, Case};
     use std::collections::BTreeSet;
 
-    #[test]
-    fn every_case_of_the_list_is_read_as_it_was_written() {
-        for case in list() {
-            assert_eq!(case.to_string().parse::<Case>(), Ok(case));
-        }
-    }
-
     /// The replies to the cases of one kind.
     fn replies(kind: char) -> Vec<u8> {
         let of_it = |case: &Case| case.to_string().starts_with(kind);

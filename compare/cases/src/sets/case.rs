@@ -3,7 +3,7 @@
 use super::flat::{next_records, write_records, Record, Set};
 use super::packing::Form;
 use super::rows::Lengths;
-use crate::line::{self, length, Part, Words, MOST_NUMBERS};
+use crate::line::{self, length, Part, Words, MOST_NUMBERS, NO_KIND};
 use std::fmt;
 
 /// The first byte of a line names its kind.
@@ -55,19 +55,19 @@ impl Part for Kind {
                 more: length(words, MOST_NUMBERS)?,
                 ranges: next_records(words)?,
             }),
-            _ => Err("no kind of case begins so".into()),
+            _ => Err(NO_KIND.into()),
         }
     }
 }
 
 #[cfg(test)]
 mod tests {
-    use super::{Kind, Set};
+    use super::Case;
     use crate::line::tests::{refused, written_as_read};
 
     #[test]
     fn a_line_is_read_as_it_was_written() {
-        written_as_read::<Kind, Set>(&[
+        written_as_read::<Case>(&[
             "s 0 0",
             "s 1 0 3 1 0 1 0 0 4 0 0 4",
             "s 2 5 1 0 0 0 -7 *3",
@@ -78,10 +78,10 @@ mod tests {
 
     #[test]
     fn a_damaged_line_is_refused() {
-        refused::<Kind, Set>(&["", "s", "s 0", "s 1 0 0", "s 0 1 0", "s 65", "c 0 0"]);
-        refused::<Kind, Set>(&["s 1 -1 0 0", "s 1 0 2147483648 0", "s 0 0 *0"]);
-        refused::<Kind, Set>(&["p 8 0 0 0 0 0 0 0", "p 0 1101 0 0 0 0 0 0"]);
-        refused::<Kind, Set>(&["p 0 0 81 0 0 0 0 0", "p 0 0 0 81 0 0 0 0"]);
-        refused::<Kind, Set>(&["p 0 0 0 0 0 0 0"]);
+        refused::<Case>(&["", "s", "s 0", "s 1 0 0", "s 0 1 0", "s 65", "c 0 0"]);
+        refused::<Case>(&["s 1 -1 0 0", "s 1 0 2147483648 0", "s 0 0 *0"]);
+        refused::<Case>(&["p 8 0 0 0 0 0 0 0", "p 0 1101 0 0 0 0 0 0"]);
+        refused::<Case>(&["p 0 0 81 0 0 0 0 0", "p 0 0 0 81 0 0 0 0"]);
+        refused::<Case>(&["p 0 0 0 0 0 0 0"]);
     }
 }
