@@ -10,7 +10,7 @@ use cases::cleaning::{self, cleaned, Verdicts};
 use cases::counted::COUNTED;
 use cases::point::Point;
 use cases::sets::flat::{sound, Record, Set};
-use cases::sets::packing::{self, Packed as What};
+use cases::sets::packing::{self, Call, Packed as What};
 use cases::sets::{self, case::Kind};
 
 /// The set over a row that holds its points.
@@ -107,16 +107,11 @@ impl Input for sets::Case {
         let (before, all) = (self.clone(), self.of.points.all());
         match &self.kind {
             Kind::Asked => ranges(&mut found, &self.of, all.len() / 2),
-            Kind::Packing {
-                form,
-                lent,
-                more,
-                ranges,
-            } => {
-                let original = packing::answer(*form, *lent, *more, ranges, &self.of);
-                let (points, more) = all.split_at(all.len().saturating_sub(*more));
-                let mut rows = Rows::with_canaries(*lent);
-                let (name, answer) = packed(*form, flat(&self.of, points), more, ranges, &mut rows);
+            Kind::Packing(call) => {
+                let original = packing::answer(call, &self.of);
+                let (points, more) = call.split(&all);
+                let mut rows = Rows::with_canaries(call.lent);
+                let (name, answer) = packed(call, flat(&self.of, points), more, &mut rows);
                 let expected = Packed {
                     reply: original.reply.into(),
                     points: original.points,
@@ -149,19 +144,13 @@ fn ranges(found: &mut Found, set: &Set, points: usize) {
     hold(&set.shapes, set.contours.len());
 }
 
-/// The call that packs in this form, and its answer.
-fn packed(
-    form: packing::Form,
-    set: Flat,
-    more: &[i32],
-    ranges: &[Record],
-    rows: &mut Rows,
-) -> (&'static str, Packed) {
-    match (form.packed, form.with_shapes) {
+/// The name of the library's call, and its answer.
+fn packed(call: &Call, set: Flat, more: &[i32], rows: &mut Rows) -> (&'static str, Packed) {
+    match (call.form.packed, call.form.with_shapes) {
         (What::Contour, true) => ("pack_contour", set.pack_contour(rows)),
         (What::Shape, true) => ("pack_shape", set.pack_shape(rows)),
         (What::Shapes, true) => ("pack_shapes", set.pack_shapes(rows)),
-        (What::OneMore, true) => ("add_shape", set.add_shape(more, ranges, rows)),
+        (What::OneMore, true) => ("add_shape", set.add_shape(more, &call.ranges, rows)),
         (What::OneMore, false) => ("add_contour", set.add_contour(more, rows)),
         (_, false) => unreachable!("the library packs into shape sets"),
     }

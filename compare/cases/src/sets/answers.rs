@@ -18,12 +18,7 @@ pub fn answer(case: &Case) -> String {
     let set = &case.of;
     match &case.kind {
         Kind::Asked => [of_contour_set(set), of_shape_set(set)].concat().join(" "),
-        Kind::Packing {
-            form,
-            lent,
-            more,
-            ranges,
-        } => packing::answer(*form, *lent, *more, ranges, set).to_string(),
+        Kind::Packing(call) => packing::answer(call, set).to_string(),
     }
 }
 

@@ -1,9 +1,8 @@
 //! One line of the list of sets.
 
-use super::flat::{next_records, write_records, Record, Set};
-use super::packing::Form;
-use super::rows::Lengths;
-use crate::line::{self, length, Part, Words, MOST_NUMBERS, NO_KIND};
+use super::flat::Set;
+use super::packing::Call;
+use crate::line::{self, Part, Words, NO_KIND};
 use std::fmt;
 
 /// The first byte of a line names its kind.
@@ -17,29 +16,15 @@ pub type Case = line::Case<Kind, Set>;
 pub enum Kind {
     /// Every question about the set.
     Asked,
-    /// One packing or addition, with rows of these lengths. The last `more` numbers of
-    /// the set's row are what is added, and `ranges` are its contours.
-    Packing {
-        form: Form,
-        lent: Lengths,
-        more: usize,
-        ranges: Vec<Record>,
-    },
+    /// One packing or addition.
+    Packing(Call),
 }
 
 impl fmt::Display for Kind {
     fn fmt(&self, out: &mut fmt::Formatter) -> fmt::Result {
         match self {
             Kind::Asked => write!(out, "{ASKED}"),
-            Kind::Packing {
-                form,
-                lent,
-                more,
-                ranges,
-            } => {
-                write!(out, "{PACKING} {} {lent} {more}", form.number())?;
-                write_records(out, ranges)
-            }
+            Kind::Packing(call) => write!(out, "{PACKING} {call}"),
         }
     }
 }
@@ -49,12 +34,7 @@ impl Part for Kind {
     fn read(words: &mut Words) -> Result<Kind, String> {
         match words.next() {
             Some(ASKED) => Ok(Kind::Asked),
-            Some(PACKING) => Ok(Kind::Packing {
-                form: Form::read(words)?,
-                lent: Lengths::read(words, Lengths::LONGEST)?,
-                more: length(words, MOST_NUMBERS)?,
-                ranges: next_records(words)?,
-            }),
+            Some(PACKING) => Ok(Kind::Packing(Call::read(words)?)),
             _ => Err(NO_KIND.into()),
         }
     }

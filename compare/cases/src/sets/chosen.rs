@@ -2,7 +2,7 @@
 
 use super::case::{Case, Kind};
 use super::flat::{Record, Set, MOST_RECORDS};
-use super::packing::{Form, Packed};
+use super::packing::{Call, Form, Packed};
 use super::rows::{Lengths, Offsets, OFFSETS};
 use super::small::set;
 use crate::damaged::OFF_GRID;
@@ -23,12 +23,12 @@ pub fn added(form: Form, lent: Lengths, set: &Set, more: &[i32], ranges: &[Recor
     let mut set = set.clone();
     set.points.numbers.extend(more);
     Case {
-        kind: Kind::Packing {
+        kind: Kind::Packing(Call {
             form,
             lent,
             more: more.len(),
             ranges: ranges.to_vec(),
-        },
+        }),
         of: set,
     }
 }
@@ -188,12 +188,12 @@ fn additions_at_the_limit() -> Vec<Case> {
             (MOST_POINTS + 1, MOST_POINTS + 1, 0),
         ] {
             cases.push(Case {
-                kind: Kind::Packing {
+                kind: Kind::Packing(Call {
                     form,
                     lent: Lengths::LONGEST,
                     more: 2 * more,
                     ranges: vec![[0, more]],
-                },
+                }),
                 of: Set {
                     contours: vec![[0, end]],
                     shapes: vec![[0, 1]],

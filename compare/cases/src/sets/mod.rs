@@ -39,7 +39,7 @@ mod tests {
     #[test]
     fn every_reply_that_is_due_is_met_in_every_form() {
         let form = |kind: &Kind| match kind {
-            Kind::Packing { form, .. } => Some(form.number()),
+            Kind::Packing(call) => Some(call.form.number()),
             Kind::Asked => None,
         };
         for (form, replies) in replies_met(list(), form, answer) {

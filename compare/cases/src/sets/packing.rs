@@ -1,10 +1,11 @@
 //! A packing or an addition by the original, and the rows lent to it: as they are
 //! before the call, and as document 01 has them after it.
 
-use super::flat::{contour_set, records, refusal, shape, shape_set, sound, Record, Set};
+use super::flat::{contour_set, next_records, records, refusal, shape, shape_set, sound};
+use super::flat::{write_records, Record, Set};
 use super::rows::{Lengths, Rows};
 use crate::cleaner::{contour, row};
-use crate::line::{next_number, Words};
+use crate::line::{length, next_number, Part, Words, MOST_NUMBERS};
 use crate::reply::{domain, Reply, DONE};
 use i_shape::flat::buffer::{FlatContoursBuffer, FlatShapesBuffer};
 use std::fmt;
@@ -58,6 +59,41 @@ impl Form {
     }
 }
 
+/// One packing or addition, with rows of these lengths. The last `more` numbers of the set's
+/// row are what is added, and `ranges` are its contours.
+#[derive(Clone, Debug, PartialEq, Eq)]
+pub struct Call {
+    pub form: Form,
+    pub lent: Lengths,
+    pub more: usize,
+    pub ranges: Vec<Record>,
+}
+
+impl Call {
+    /// The set's own numbers, and those that are added.
+    pub fn split<'a>(&self, all: &'a [i32]) -> (&'a [i32], &'a [i32]) {
+        all.split_at(all.len().saturating_sub(self.more))
+    }
+}
+
+impl fmt::Display for Call {
+    fn fmt(&self, out: &mut fmt::Formatter) -> fmt::Result {
+        write!(out, "{} {} {}", self.form.number(), self.lent, self.more)?;
+        write_records(out, &self.ranges)
+    }
+}
+
+impl Part for Call {
+    fn read(words: &mut Words) -> Result<Call, String> {
+        Ok(Call {
+            form: Form::read(words)?,
+            lent: Lengths::read(words, Lengths::LONGEST)?,
+            more: length(words, MOST_NUMBERS)?,
+            ranges: next_records(words)?,
+        })
+    }
+}
+
 /// What a packing answers, and the rows after it.
 #[derive(Debug, PartialEq, Eq)]
 pub struct Packing {
@@ -68,10 +104,11 @@ pub struct Packing {
     pub rows: Rows,
 }
 
-pub fn answer(form: Form, lent: Lengths, more: usize, ranges: &[Record], set: &Set) -> Packing {
+pub fn answer(call: &Call, set: &Set) -> Packing {
+    let (form, ranges) = (call.form, &call.ranges);
     let all = set.points.all();
-    let (points, more) = all.split_at(all.len().saturating_sub(more));
-    let rows = Rows::with_canaries(lent);
+    let (points, more) = call.split(&all);
+    let rows = Rows::with_canaries(call.lent);
     let stored = match refusal_of(form, points, more, ranges, set) {
         Err(reply) => Err(reply),
         Ok(()) if form.with_shapes => {
@@ -182,12 +219,7 @@ mod tests {
     fn packed(line: &str) -> Packing {
         let case: Case = line.parse().unwrap();
         match case.kind {
-            Kind::Packing {
-                form,
-                lent,
-                more,
-                ranges,
-            } => answer(form, lent, more, &ranges, &case.of),
+            Kind::Packing(call) => answer(&call, &case.of),
             Kind::Asked => panic!("{line}"),
         }
     }

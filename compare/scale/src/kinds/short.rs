@@ -27,7 +27,7 @@ pub fn list_of_sets(tally: &mut Tally) {
     let mut list = once(sets::list());
     list.retain(|case| match &case.kind {
         Kind::Asked => true,
-        Kind::Packing { form, .. } => PACKINGS.contains(&form.number()),
+        Kind::Packing(call) => PACKINGS.contains(&call.form.number()),
     });
     each(tally, list);
 }
