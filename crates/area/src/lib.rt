@@ -50,17 +50,19 @@ fn total(points: &[i32], n: usize) -> u64
     requires { ⌜ Contour (now points) n × (0 < n) ⌝ }
     ensures { λ r. ⌜ r ≡ mod64 (exact (points-of (now (points .entry)))) ⌝ }
 {
-    if n == 1 {
+    if n < 3 {
         return 0;
     }
-    let inner = n - 2;
-    let mut sum = added(0, share(points, n - 1, 0, 1));
-    let mut i: usize = 0;
-    while i < inner {
-        sum = added(sum, share(points, i, i + 1, i + 2));
-        i += 1;
+    let mut sum = added(
+        added(0, share(points, n - 1, 0, 1)),
+        share(points, n - 2, n - 1, 0),
+    );
+    let mut i = n - 2;
+    while 0 < i {
+        sum = added(sum, share(points, i - 1, i, i + 1));
+        i -= 1;
     }
-    added(sum, share(points, inner, n - 1, 0))
+    sum
 }
 
 // The doubled area: counter-clockwise is positive.
