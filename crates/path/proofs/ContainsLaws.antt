@@ -16,7 +16,6 @@ use Rattle.grid.specs.declared.Point.{Point}
 use Rattle.grid.specs.Points.{at, on, points, bend, turns-left}
 use Rattle.grid.specs.Domain.{count, domain, Contour}
 use Rattle.grid.specs.Ladder.{first-of}
-use Rattle.grid.proofs.PointLaws.{at-on}
 use Rattle.grid.proofs.RowLaws.{points-count, points-more, points-done}
 use Rattle.grid.proofs.LadderLaws.{first-is, stopped, onward}
 use Rattle.grid.proofs.LadderLaws.First.{here, past, foot}
@@ -82,34 +81,31 @@ false-xor true = refl
 false-xor false = refl
 
 module _ (row : List ℤ) (p : Point) where
-  -- the loop: the parity so far, and that of the edges from a by position i on
-  pub record Counted (n : ℕ) (sofar : Bool) (a : Point) (i : ℕ) : Type 0 where
-    pub within : i ≤ n
-    pub a-on : on a ≡ true
-    pub is : contained p (points row) ≡ xor sofar (odd p a (drop i (points row)))
+  -- the parity so far, and that of the edges from a by position i on
+  record Counted (n : ℕ) (sofar : Bool) (a : Point) (i : ℕ) : Type 0 where
+    within : i ≤ n
+    is : contained p (points row) ≡ xor sofar (odd p a (drop i (points row)))
 
   module _ {n : ℕ} (c : Contour row n) where
-    pub counted-none : 0 < n → Counted n false (at row (n - 1)) 0
+    counted-none : 0 < n → Counted n false (at row (n - 1)) 0
     unfolding contained
     counted-none h =
         let e = points-more c 0 h in
         record {
           within = omega arith;
-          a-on = at-on row (n - 1) (c .on);
           is = ap (contained p) e ∙ ap (λ (l : Point). odd p l (at row 0 ∷ drop 1 (points row))) (last-from c (n - 1) 0 (omega arith))
               ∙ ap (odd p (at row (n - 1))) (sym e) ∙ sym (false-xor (odd p (at row (n - 1)) (points row)));
         }
 
     module _ {sofar : Bool} {a : Point} {i : ℕ} (k : Counted n sofar a i) where
-      pub counted-more : i < n → Counted n (xor sofar (crosses p a (at row i))) (at row i) (i + 1)
+      counted-more : i < n → Counted n (xor sofar (crosses p a (at row i))) (at row i) (i + 1)
       unfolding odd
       counted-more h = record {
         within = omega arith;
-        a-on = at-on row i (c .on);
         is = k .is ∙ ap (λ (l : List Point). xor sofar (odd p a l)) (points-more c i h) ∙ sym (xor-assoc sofar (crosses p a (at row i)) (odd p (at row i) (drop (i + 1) (points row))));
       }
 
-      pub counted-all : n ≤ i → sofar ≡ contained p (points row)
+      counted-all : n ≤ i → sofar ≡ contained p (points row)
       unfolding odd
       counted-all h =
           let e : i ≡ n = omega (arith, k .within) in
@@ -155,7 +151,7 @@ module _ (row : List ℤ) (p : Point) {n : ℕ} (c : Contour row n) where
 
   module _ {sofar : Bool} {a i : ℕ} (x : Changing row n p sofar a i) where
     counted : Counted row p n sofar (at row a) i
-    counted = record { within = x .within; a-on = at-on row a (c .on); is = x .is }
+    counted = record { within = x .within; is = x .is }
 
     pub changing-next : {t up : Bool} {r : ℕ} → i < n → t ≡ crosses p (at row a) (at row i) → above p (at row i) ≡ up → Across row n (i + 1) p up r → Changing row n p (xor sofar t) (r - 1) r
     changing-next h e f y = reaching i (rw (sym e) at (counted-more row p c counted h)) f y
