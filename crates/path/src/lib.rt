@@ -149,6 +149,19 @@ fn next_across(points: &[i32], n: usize, i: usize, p: Point, up: bool) -> usize
     n
 }
 
+// The first position whose point lies on another side of p's horizontal than the last point; n where there is none. Each
+// side has a call of its own, so that its loop compares with nothing but p.
+fn first_across(points: &[i32], n: usize, p: Point) -> usize
+    requires { ⌜ Contour (now points) n × (0 < n) × (on p ≡ true) ⌝ }
+    ensures { λ r. ⌜ Across (now (points .entry)) n 0 p (above p (at (now (points .entry)) (n - 1))) r ⌝ }
+{
+    if lies_above(p, grid::point_at(points, n - 1)) {
+        next_across(points, n, 0, p, true)
+    } else {
+        next_across(points, n, 0, p, false)
+    }
+}
+
 // The position before i, around the contour.
 fn before(n: usize, i: usize) -> usize
     requires { ⌜ 0 < n ⌝ }
@@ -186,8 +199,7 @@ fn parity(points: &[i32], n: usize, p: Point) -> bool
     requires { ⌜ Contour (now points) n × (0 < n) × (on p ≡ true) ⌝ }
     ensures { λ r. ⌜ r ≡ contained p (points-of (now (points .entry))) ⌝ }
 {
-    let up = lies_above(p, grid::point_at(points, n - 1));
-    let first = next_across(points, n, 0, p, up);
+    let first = first_across(points, n, p);
     if first < n {
         parity_from(points, n, p, before(n, first), first)
     } else {
