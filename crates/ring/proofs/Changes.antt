@@ -31,7 +31,7 @@ first-same n (suc k) h =
     let d = first-due n k (omega arith) in
     same-trans (first-same n k (omega arith)) (rw (← first-more n k (omega arith)) (same-set (first-marked n k) k marked (omega arith) (omega arith)))
 
-same-unmark : (m : List ℕ) (p : ℕ) → Same m (unmark m p)
+pub same-unmark : (m : List ℕ) (p : ℕ) → Same m (unmark m p)
 same-unmark m p = ⊎-elim
     (λ e. rw (unmark-yes m p e) (same-set m p unmarked (omega arith) (omega arith)))
     (λ n. rw (unmark-no m p n) (same-refl m))

@@ -5,7 +5,7 @@ use mathlib.Core.Path.{_≡_, refl, sym, ap, _∙_}
 use mathlib.Core.Logic.{⊎-elim}
 use mathlib.Core.List.{List}
 use lib.ListN.{length, getD, set, length-set}
-use lib.Seq.{getD-set-same, getD-set-other}
+use lib.Seq.{getD-set-same, getD-set-other, set-getD}
 use Rattle.ring.specs.Walk.{unmarked, marked, removed, mark-at, Survivor, successor, predecessor, count, unmark-about, remove}
 use Rattle.ring.specs.Rows.{Linked, Removable, Unlinked, Unmarked, UnmarkedAbout, Removed}
 use Rattle.ring.proofs.Cases.{same?}
@@ -13,7 +13,7 @@ use Rattle.grid.proofs.RowLaws.{any-default}
 use Rattle.ring.proofs.Marks.{inside, recount, unmark-yes, unmark-no}
 use Rattle.ring.proofs.Survivors.{Same, same-sym, same-survivor}
 use Rattle.ring.proofs.Neighbours.{successor-survives, predecessor-survives, not-alone, gap-successor, gap-predecessor, far-successor, far-predecessor, same-successor, same-predecessor}
-use Rattle.ring.proofs.Changes.{same-remove, gap-survives}
+use Rattle.ring.proofs.Changes.{same-unmark, same-remove, gap-survives}
 use Rattle.ring.proofs.Listed.{at}
 
 -- What the rows hold at a survivor.
@@ -25,6 +25,8 @@ pub record Here (m next prev : List ℕ) (c : ℕ) : Type 0 where
   pub prev-is : getD prev c 0 ≡ predecessor m c
   pub successor-inside : successor m c < length m
   pub predecessor-inside : predecessor m c < length m
+  pub successor-lives : Survivor m (successor m c)
+  pub predecessor-lives : Survivor m (predecessor m c)
 
 pub here : {m next prev : List ℕ} → Linked m next prev → (c : ℕ) → Survivor m c → Here m next prev c
 here {m} l c s = record {
@@ -35,6 +37,8 @@ here {m} l c s = record {
   prev-is = l .backward c s;
   successor-inside = inside m (successor m c) (successor-survives m c s);
   predecessor-inside = inside m (predecessor m c) (predecessor-survives m c s);
+  successor-lives = successor-survives m c s;
+  predecessor-lives = predecessor-survives m c s;
 }
 
 pub linked-same : {m m′ next prev : List ℕ} → Same m m′ → Linked m next prev → Linked m′ next prev
@@ -90,6 +94,23 @@ unmarked-yes m p h e =
 
 pub unmarked-no : (m : List ℕ) (p : ℕ) → p < length m → (getD m p 0 ≡ marked → ⊥) → Unmarked m p m 0
 unmarked-no m p h n = record { marks = sym (unmark-no m p (λ e. n (any-default m p 0 removed h ∙ e))); fewer = omega arith; small = omega arith }
+
+-- a survivor's mark is taken off by a 0, whatever it is
+pub mark-small : (m : List ℕ) (p : ℕ) → Survivor m p → getD m p 0 < 2
+mark-small m p s = omega (arith, any-default m p 0 removed (inside m p s))
+
+pub unmarked-any : (m : List ℕ) (p : ℕ) → Survivor m p → Unmarked m p (set m p unmarked) (getD m p 0)
+unmarked-any m p s = ⊎-elim
+    (λ e. rw e (unmarked-yes m p (inside m p s) e))
+    (λ n.
+    let e : getD m p 0 ≡ unmarked = omega (arith, mark-small m p s) in
+    let f : set m p unmarked ≡ m = ap (set m p) (sym e) ∙ set-getD m p 0 in
+    rw (f, e) (unmarked-no m p (inside m p s) n))
+    (same? (getD m p 0) marked)
+
+-- and takes no survivor away
+pub unmarked-survives : {m a : List ℕ} {p i : ℕ} (q : ℕ) → Unmarked m p a i → Survivor m q → Survivor a q
+unmarked-survives {m} {p = p} q x s = rw (x .marks) (same-survivor (same-unmark m p) q s)
 
 pub unmarked-about : {m a b d : List ℕ} {p q r i j k : ℕ} → Unmarked m p a i → Unmarked a q b j → Unmarked b r d k → q ≡ successor m p → r ≡ predecessor m p
     → UnmarkedAbout m p d (i + j + k)

@@ -54,17 +54,14 @@ fn mark_first(mark: &mut [u8], k: usize)
     }
 }
 
-// Takes the mark off p, and says how many marks that was.
+// Takes the mark off a survivor p, and says how many marks that was: its mark is 0 or 1.
 fn unmark(mark: &mut [u8], p: usize) -> usize
-    requires { ⌜ p < length (now mark) ⌝ }
+    requires { ⌜ Survivor (now mark) p ⌝ }
     ensures { λ r. ⌜ Unmarked (now (mark .entry)) p (now (mark .exit)) r ⌝ }
 {
-    if mark[p] == 1 {
-        mark[p] = 0;
-        1
-    } else {
-        0
-    }
+    let was = mark[p];
+    mark[p] = 0;
+    was as usize
 }
 
 // Takes the marks off p and its neighbours, and says how many marks that was.

@@ -1,23 +1,26 @@
--- `ring::unmark` meets its contract: by the mark that it reads.
+-- `ring::unmark` meets its contract: a survivor's mark is 0 or 1.
 use borrow.Author.Needs.{needs}
-use Rattle.ring.proofs.Links.{unmarked-yes, unmarked-no}
+use native.Mathlib.Omega.{arith}
+use mir.Facts.{fits-of-lt}
+use Rattle.ring.proofs.Marks.{inside}
+use Rattle.ring.proofs.Links.{mark-small, unmarked-any}
 use Rattle.ring.proofs.unmark.Statement.{statement}
 use Rattle.ring.proofs.unmark.Tie as tie
 
-slice-read-if1 : tie.Need-slice-read-if1
-slice-read-if1 c = search needs
+slice-read-was : tie.Need-slice-read-was
+slice-read-was c = let s = c .before in inside (s .args .mark .now) (s .args .p) (s .pre)
 
 slice-write-mark : tie.Need-slice-write-mark
-slice-write-mark c = search needs
+slice-write-mark c = let s = c .before in inside (s .args .mark .now) (s .args .p) (s .pre)
+
+cast-result : tie.Need-cast-result
+cast-result c = let s = c .before in fits-of-lt (omega (arith, mark-small (s .args .mark .now) (s .args .p) (s .pre)))
 
 same-length : tie.Need-same-length
 same-length c = search needs
 
 returns : tie.Need-returns
-returns c = unmarked-yes _ _ (c .before .before .pre) (c .if1 .taken)
-
-returns-2 : tie.Need-returns-2
-returns-2 c = unmarked-no _ _ (c .before .before .pre) (c .if1 .left)
+returns c = unmarked-any _ _ (c .before .pre)
 
 pub unmark-spec : {M : Type 1} → statement M
-unmark-spec = tie.close (tie.spec slice-read-if1 slice-write-mark same-length returns returns-2)
+unmark-spec = tie.close (tie.spec slice-read-was slice-write-mark cast-result same-length returns)

@@ -3,7 +3,7 @@ use borrow.Author.Needs.{needs}
 use native.Mathlib.Omega.{arith}
 use mathlib.Core.Path.{_∙_}
 use denote.Ref.{now}
-use Rattle.ring.proofs.Links.{Here, here, unmarked-about}
+use Rattle.ring.proofs.Links.{Here, here, unmarked-survives, unmarked-about}
 use Rattle.ring.proofs.unmark_about.Statement.{statement}
 use Rattle.ring.proofs.unmark_about.Tie as tie
 
@@ -30,13 +30,20 @@ wide-requires-2 : tie.Need-wide-requires-2
 wide-requires-2 c κs = search needs
 
 unmark-requires : tie.Need-unmark-requires
-unmark-requires c κs = at (c .before .before .before .before .before .before .before .before) .inside-marks
+unmark-requires c κs = c .before .before .before .before .before .before .before .before .pre .0
 
 unmark-requires-2 : tie.Need-unmark-requires-2
-unmark-requires-2 c κs = let h = at (c .before .before .before .before .before .before .before .before .before .before .before .before) in omega (arith, c .before .before .before .unmark .kept .0, c .before .before .before .before .before .before .before .wide .ensures)
+unmark-requires-2 c κs =
+    let u = c .before .before .before in
+    let h = at (u .before .before .before .before .before .before .before .before .before) in
+    rw (u .before .before .before .before .wide .ensures ∙ h .next-is) (unmarked-survives _ (u .unmark .ensures) (h .successor-lives))
 
 unmark-requires-3 : tie.Need-unmark-requires-3
-unmark-requires-3 c κs = let h = at (c .before .before .before .before .before .before .before .before .before .before .before .before .before .before .before .before) in omega (arith, c .before .before .before .unmark2 .kept .0, c .before .before .before .before .before .before .before .unmark .kept .0, c .before .before .before .before .before .before .before .before .before .wide2 .ensures)
+unmark-requires-3 c κs =
+    let v = c .before .before .before in
+    let u = v .before .before .before .before in
+    let h = at (u .before .before .before .before .before .before .before .before .before) in
+    rw (u .before .before .wide2 .ensures ∙ h .prev-is) (unmarked-survives _ (v .unmark2 .ensures) (unmarked-survives _ (u .unmark .ensures) (h .predecessor-lives)))
 
 add-result : tie.Need-add-result
 add-result c = search needs
