@@ -10,9 +10,8 @@ use borrow.Author.Tests.{ne-eqb}
 use Rattle.integers.specs.Equal.{eqZ}
 use Rattle.integers.specs.Polynomial.{#, num as const, _:*_}
 use Rattle.integers.proofs.Logic.{and-left, and-right}
-use Rattle.integers.proofs.Polynomial.{ring}
+use Rattle.integers.proofs.Polynomial.{ring, no-difference}
 use Rattle.integers.proofs.Linear.{ltZ-difference}
-use Rattle.integers.proofs.Polynomial.{no-difference}
 use Rattle.integers.proofs.Equal.{eqZ-true, eqZ-same}
 use Rattle.grid.specs.declared.Point.{Point}
 use Rattle.grid.specs.declared.Edge.{Edge}

@@ -1,8 +1,9 @@
 -- `ring::unmark_about` meets its contract: the rows hold the neighbours of p, and three marks are taken off one after the other.
 use borrow.Author.Needs.{needs}
 use native.Mathlib.Omega.{arith}
-use mathlib.Core.Path.{_∙_}
+use mathlib.Core.Path.{sym, _∙_, subst}
 use denote.Ref.{now}
+use Rattle.ring.specs.Walk.{Survivor}
 use Rattle.ring.proofs.Links.{Here, here, unmarked-survives, unmarked-about}
 use Rattle.ring.proofs.unmark_about.Statement.{statement}
 use Rattle.ring.proofs.unmark_about.Tie as tie
@@ -29,21 +30,35 @@ shared-slice-read-wide-2 c = let s = c .before .before .before .before .before .
 wide-requires-2 : tie.Need-wide-requires-2
 wide-requires-2 c κs = search needs
 
+-- p and its neighbours survive
+module _ (w : tie.After-wide2) where
+  abbrev start : tie.Start
+  start = w .before .before .before .before .before .before .before
+
+  p-lives : Survivor (start .args .mark .now) (start .args .p)
+  p-lives = start .pre .0
+
+  after-lives : Survivor (start .args .mark .now) (w .before .before .wide .result)
+  after-lives = subst (Survivor (start .args .mark .now)) (sym (w .before .before .wide .ensures ∙ at start .next-is)) (at start .successor-lives)
+
+  before-lives : Survivor (start .args .mark .now) (w .wide2 .result)
+  before-lives = subst (Survivor (start .args .mark .now)) (sym (w .wide2 .ensures ∙ at start .prev-is)) (at start .predecessor-lives)
+
 unmark-requires : tie.Need-unmark-requires
-unmark-requires c κs = c .before .before .before .before .before .before .before .before .pre .0
+unmark-requires c κs = let w = c .before in search (p-lives w, after-lives w, before-lives w)
 
 unmark-requires-2 : tie.Need-unmark-requires-2
 unmark-requires-2 c κs =
     let u = c .before .before .before in
-    let h = at (u .before .before .before .before .before .before .before .before .before) in
-    rw (u .before .before .before .before .wide .ensures ∙ h .next-is) (unmarked-survives _ (u .unmark .ensures) (h .successor-lives))
+    let w = u .before .before in
+    unmarked-survives _ (u .unmark .ensures) (search (p-lives w, after-lives w, before-lives w))
 
 unmark-requires-3 : tie.Need-unmark-requires-3
 unmark-requires-3 c κs =
     let v = c .before .before .before in
     let u = v .before .before .before .before in
-    let h = at (u .before .before .before .before .before .before .before .before .before) in
-    rw (u .before .before .wide2 .ensures ∙ h .prev-is) (unmarked-survives _ (v .unmark2 .ensures) (unmarked-survives _ (u .unmark .ensures) (h .predecessor-lives)))
+    let w = u .before .before in
+    unmarked-survives _ (v .unmark2 .ensures) (unmarked-survives _ (u .unmark .ensures) (search (p-lives w, after-lives w, before-lives w)))
 
 add-result : tie.Need-add-result
 add-result c = search needs
