@@ -13,7 +13,7 @@ use Rattle.grid.specs.declared.Edge.{Edge}
 use Rattle.grid.specs.Points.{at, points, between, still, parallel, against, opposed}
 use Rattle.grid.specs.Corners.{differing, corners, some, straight, back}
 use Rattle.grid.specs.Domain.{count, Contour}
-use Rattle.grid.specs.Inside.{First}
+use Rattle.grid.specs.Inside.{FirstOther}
 use Rattle.grid.proofs.RowLaws.{points-count}
 use Rattle.grid.proofs.AroundLaws.{corner, Tally, tally-more, tally-past, tally-met, tally-all}
 use Rattle.grid.proofs.EdgeLaws.{moving, back-edges}
@@ -35,7 +35,7 @@ module _ (row : List ℤ) where
   too-few h = sym (ap (λ (t : Bool). t && not (some back (corners (left-over row)))) (lt-leb 3 (length (left-over row)) h))
 
   module _ {n : ℕ} (c : Contour row n) where
-    pub onward-start : (first : ℕ) → First row n first → first < n → (closing : Edge) → closing ≡ between (at row (n - 1)) (at row first) → Onward n first closing 1 (first + 1)
+    pub onward-start : (first : ℕ) → FirstOther row n first → first < n → (closing : Edge) → closing ≡ between (at row (n - 1)) (at row first) → Onward n first closing 1 (first + 1)
     onward-start first x h closing e = record { a = at row (n - 1); b = at row first; along = along-start row c first x h closing e; none = tally-start row c first x h back }
 
     module _ {first : ℕ} {to : Edge} {kept i : ℕ} (w : Onward n first to kept i) where

@@ -2,8 +2,9 @@
 use mathlib.Core.Path.{_≡_, refl, sym, _∙_, ap}
 use mathlib.Core.Bool.{Bool, true, false}
 use mathlib.Core.List.{List, [], _∷_}
-use Prim.Native.Nat.{ℕ, suc, _+_, _-_, _<_, _≤_}
+use Prim.Native.Nat.{ℕ, zero, suc, _+_, _-_, _<_, _≤_}
 use native.Mathlib.Omega.{arith}
+use native.Mathlib.Numerals.{add-one}
 use lib.ListN.{length, drop}
 use lib.IntN.{ℤ}
 use Rattle.grid.specs.declared.Point.{Point}
@@ -11,7 +12,7 @@ use Rattle.grid.specs.declared.Edge.{Edge}
 use Rattle.grid.specs.Points.{at, on, same, points, between, still, Short}
 use Rattle.grid.specs.Corners.{last, differing, distinct-neighbours, Corner, corners-from, corners, some}
 use Rattle.grid.specs.Domain.{Contour}
-use Rattle.grid.specs.Inside.{First}
+use Rattle.grid.specs.Inside.{FirstOther}
 use Rattle.grid.proofs.PointLaws.{at-on, corner-steps}
 use Rattle.grid.proofs.RowLaws.{points-more, points-done}
 use Rattle.grid.proofs.CornerLaws.{same-is, differing-skip, differing-keep, last-kept, last-from, distinct-is}
@@ -34,14 +35,23 @@ module _ (row : List ℤ) where
     pub counted : length left-over ≡ kept + length (differing b (drop i (points row)))
 
   module _ {n : ℕ} (c : Contour row n) where
-    pub nothing-left : First row n n → 0 < n → left-over ≡ []
-    unfolding differing
-    nothing-left x h = distinct-is c h ∙ x .skipped ∙ ap (differing (at row (n - 1))) (points-done c n refl)
+    -- the points before the first other are skipped
+    skipped : (first : ℕ) → FirstOther row n first → (i : ℕ) → i ≤ first → differing (at row (n - 1)) (points row) ≡ differing (at row (n - 1)) (drop i (points row))
+    skipped first x zero h = refl
+    skipped first x (suc i) h =
+        let l : i < n = omega (arith, x .within) in
+        skipped first x i (omega arith) ∙ ap (differing (at row (n - 1))) (points-more c i l)
+        ∙ differing-skip (at row (n - 1)) (at row i) (drop (i + 1) (points row)) (x .equal i (omega arith))
+        ∙ ap (λ (k : ℕ). differing (at row (n - 1)) (drop k (points row))) (add-one i)
 
-    module _ (first : ℕ) (x : First row n first) (h : first < n) where
+    pub nothing-left : FirstOther row n n → 0 < n → left-over ≡ []
+    unfolding differing
+    nothing-left x h = distinct-is c h ∙ skipped n x n (omega arith) ∙ ap (differing (at row (n - 1))) (points-done c n refl)
+
+    module _ (first : ℕ) (x : FirstOther row n first) (h : first < n) where
       starts-with : left-over ≡ at row first ∷ differing (at row first) (drop (first + 1) (points row))
       starts-with =
-          distinct-is c (omega arith) ∙ x .skipped ∙ ap (differing (at row (n - 1))) (points-more c first h)
+          distinct-is c (omega arith) ∙ skipped first x first (omega arith) ∙ ap (differing (at row (n - 1))) (points-more c first h)
           ∙ differing-keep (at row (n - 1)) (at row first) (drop (first + 1) (points row)) (x .differs h)
 
       pub along-start : (closing : Edge) → closing ≡ between (at row (n - 1)) (at row first) → Along n (at row (n - 1)) (at row first) closing 1 (first + 1)

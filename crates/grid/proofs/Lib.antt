@@ -8,3 +8,4 @@ pub mod DomainLaws
 pub mod VerdictLaws
 pub mod EdgeLaws
 pub mod AlongLaws
+pub mod OneOutcome

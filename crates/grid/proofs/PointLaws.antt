@@ -54,23 +54,28 @@ passed a b p q = (rw (on-grid-back a p) p, rw (on-grid-back b q) q)
 pub gone : (a b : ℤ) {r : ℤ} → on-grid a ≡ true → on-grid b ≡ true → r ≡ toZ w32 (ofZ w32 b) -ℤ toZ w32 (ofZ w32 a) → r ≡ b -ℤ a
 gone a b p q e = e ∙ ap₂ _-ℤ_ (on-grid-back b q) (on-grid-back a p)
 
--- the two steps of a corner
-pub corner-steps : {a b c : Point} → AllOn a b c → Short (b .x -ℤ a .x) (b .y -ℤ a .y) (c .x -ℤ b .x) (c .y -ℤ b .y)
-corner-steps {a} {b} {c} k = record {
-  ux-in = gap-in (a .x) (b .x) (x-on a (k .a-on)) (x-on b (k .b-on));
-  uy-in = gap-in (a .y) (b .y) (y-on a (k .a-on)) (y-on b (k .b-on));
-  vx-in = gap-in (b .x) (c .x) (x-on b (k .b-on)) (x-on c (k .c-on));
-  vy-in = gap-in (b .y) (c .y) (y-on b (k .b-on)) (y-on c (k .c-on));
+-- two steps, from a to b and from c to d
+pub steps : (a b c d : Point) → on a ≡ true → on b ≡ true → on c ≡ true → on d ≡ true → Short (b .x -ℤ a .x) (b .y -ℤ a .y) (d .x -ℤ c .x) (d .y -ℤ c .y)
+steps a b c d p q r s = record {
+  ux-in = gap-in (a .x) (b .x) (x-on a p) (x-on b q);
+  uy-in = gap-in (a .y) (b .y) (y-on a p) (y-on b q);
+  vx-in = gap-in (c .x) (d .x) (x-on c r) (x-on d s);
+  vy-in = gap-in (c .y) (d .y) (y-on c r) (y-on d s);
 }
 
--- cross and dot of differences of grid points lie within ±2^61
-pub cross-within : {a b c : Point} → AllOn a b c → In (2 ^ 61) (cross (step a b) (step b c))
-unfolding limit
-cross-within k = let s = corner-steps k in in-sub (in-mul (s .ux-in) (s .vy-in)) (in-mul (s .uy-in) (s .vx-in))
+-- the two steps of a corner
+pub corner-steps : {a b c : Point} → AllOn a b c → Short (b .x -ℤ a .x) (b .y -ℤ a .y) (c .x -ℤ b .x) (c .y -ℤ b .y)
+corner-steps {a} {b} {c} k = steps a b b c (k .a-on) (k .b-on) (k .b-on) (k .c-on)
 
-pub dot-within : {a b c : Point} → AllOn a b c → In (2 ^ 61) (dot (step a b) (step b c))
-unfolding limit
-dot-within k = let s = corner-steps k in in-add (in-mul (s .ux-in) (s .vx-in)) (in-mul (s .uy-in) (s .vy-in))
+-- cross and dot of any two differences of grid points lie within ±2^61
+module _ (a b c d : Point) (p : on a ≡ true) (q : on b ≡ true) (r : on c ≡ true) (s : on d ≡ true) where
+  pub cross-within : In (2 ^ 61) (cross (step a b) (step c d))
+  unfolding limit
+  cross-within = let w = steps a b c d p q r s in in-sub (in-mul (w .ux-in) (w .vy-in)) (in-mul (w .uy-in) (w .vx-in))
+
+  pub dot-within : In (2 ^ 61) (dot (step a b) (step c d))
+  unfolding limit
+  dot-within = let w = steps a b c d p q r s in in-add (in-mul (w .ux-in) (w .vx-in)) (in-mul (w .uy-in) (w .vy-in))
 
 -- which sign a test shows
 pub sign-left : (z : ℤ) → ltZ (pos 0) (sign z) ≡ true → sign z ≡ pos 1

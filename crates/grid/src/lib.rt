@@ -10,7 +10,7 @@ ghost use Rattle.grid.specs.Limits.{limit, on-grid, all-on-grid};
 ghost use Rattle.grid.specs.Points.{at, on, same as same-point, sign as sign-of, Short, AllOn, between as between-of, turn-along as turn-along-of, against as against-of, turns-left as turns-left-of, left-along as left-along-of, parallel as parallel-of, opposed as opposed-of, still as still-of};
 ghost use Rattle.grid.specs.Ladder.{first-of};
 ghost use Rattle.grid.specs.Domain.{domain as domain-of, Contour};
-ghost use Rattle.grid.specs.Inside.{raised as raised-of, First};
+ghost use Rattle.grid.specs.Inside.{raised as raised-of, FirstOther};
 
 // The largest coordinate, either side of 0.
 pub const LIMIT: i32 = 536_870_912;
@@ -239,7 +239,7 @@ pub fn turns_left(a: Point, b: Point, c: Point) -> bool
 // The first position whose point differs from the last point; n where all are equal.
 pub fn first_other(points: &[i32], n: usize) -> usize
     requires { ⌜ Contour (now points) n × (0 < n) ⌝ }
-    ensures { λ r. ⌜ First (now (points .entry)) n r ⌝ }
+    ensures { λ r. ⌜ FirstOther (now (points .entry)) n r ⌝ }
 {
     let last = point_at(points, n - 1);
     let mut i: usize = 0;

@@ -17,7 +17,7 @@ use Rattle.grid.specs.declared.Edge.{Edge}
 use Rattle.grid.specs.Points.{at, points, sign, bend, between, still, turn-along, against, opposed}
 use Rattle.grid.specs.Corners.{differing, corners, some, left, right, back}
 use Rattle.grid.specs.Domain.{count, Contour}
-use Rattle.grid.specs.Inside.{First}
+use Rattle.grid.specs.Inside.{FirstOther}
 use Rattle.grid.proofs.PointLaws.{sign-left, sign-right, sign-none}
 use Rattle.grid.proofs.RowLaws.{points-count}
 use Rattle.grid.proofs.CornerLaws.{few-turn-nowhere}
@@ -79,7 +79,7 @@ module _ (row : List ℤ) where
     pub backs : Tally back (s .back) (left-over row) (at row first) a b (differing b (drop i (points row)))
 
   module _ {n : ℕ} (c : Contour row n) where
-    pub sight-start : (first : ℕ) → First row n first → first < n → (closing : Edge) → closing ≡ between (at row (n - 1)) (at row first)
+    pub sight-start : (first : ℕ) → FirstOther row n first → first < n → (closing : Edge) → closing ≡ between (at row (n - 1)) (at row first)
         → Sight n (record { left = false; right = false; back = false }) first closing 1 (first + 1)
     sight-start first x h closing e = record {
       a = at row (n - 1);

@@ -5,7 +5,7 @@ ghost use Prim.Native.Nat.{_-_, _<_, _≤_};
 ghost use Rattle.grid.specs.Points.{Short, at, on, points as points-of};
 ghost use Rattle.grid.specs.Corners.{distinct-neighbours};
 ghost use Rattle.grid.specs.Domain.{Contour};
-ghost use Rattle.grid.specs.Inside.{First};
+ghost use Rattle.grid.specs.Inside.{FirstOther};
 ghost use Rattle.path.specs.Convex.{convex-left, convex as convex-verdict};
 ghost use Rattle.path.specs.Inside.{looked, one-sided, Across, Changing, before as before-of};
 ghost use Rattle.path.specs.Clockwise.{clockwise};
@@ -36,7 +36,7 @@ fn closes(seen: Seen, to: Edge, from: Edge) -> bool
 // Whether the contour turns one way and never back. Its point at `first` is the first that differs from the last. Only
 // where the way does not turn can an edge be still: it leads to an equal neighbour, and is passed over.
 fn one_way(points: &[i32], n: usize, first: usize) -> bool
-    requires { ⌜ Contour (now points) n × First (now points) n first × (first < n) ⌝ }
+    requires { ⌜ Contour (now points) n × FirstOther (now points) n first × (first < n) ⌝ }
     ensures { λ r. ⌜ r ≡ convex-left (distinct-neighbours (points-of (now (points .entry)))) ⌝ }
 {
     let closing = grid::edge_at(points, n - 1, first);

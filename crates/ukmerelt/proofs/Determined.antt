@@ -10,7 +10,7 @@ use Rattle.buffer.specs.Spans.{sound}
 use Rattle.buffer.specs.Answers as Packed
 use Rattle.sets.specs.Outcome as Sets
 use Rattle.setfile.specs.Writing as Written
-use Rattle.ukmerelt.proofs.OneOutcome.{Determined, by-its-definition}
+use Rattle.grid.proofs.OneOutcome.{Determined, by-its-definition, three, four, five, six, seven, eight, nine}
 use Rattle.area.proofs.area_two.Reads as area·area-two
 use Rattle.area.proofs.area.Reads as area·area
 use Rattle.path.proofs.is_convex.Reads as path·is-convex
@@ -80,10 +80,10 @@ is-simple = by-its-definition _ (λ κs a x e h. h)
 pub has-no-spikes : Determined clean·despike·has-no-spikes.Learnt (λ κs x e. x)
 has-no-spikes = by-its-definition _ (λ κs a x e h. h)
 
-pub simplified : Determined clean·simple·simplified.Learnt (λ κs x e. Cleaned.left x (now (e .1 .0)) (now (e .1 .1 .0)) (now (e .1 .1 .1 .0)) (now (e .1 .1 .1 .1 .0)))
+pub simplified : Determined clean·simple·simplified.Learnt (λ κs x e. five e (λ points next prev mark out. Cleaned.left x (now next) (now prev) (now mark) (now out)))
 simplified = by-its-definition _ (λ κs a x e h. h)
 
-pub despiked : Determined clean·despike·despiked.Learnt (λ κs x e. Cleaned.left x (now (e .1 .0)) (now (e .1 .1 .0)) (now (e .1 .1 .1 .0)) (now (e .1 .1 .1 .1 .0)))
+pub despiked : Determined clean·despike·despiked.Learnt (λ κs x e. five e (λ points next prev mark out. Cleaned.left x (now next) (now prev) (now mark) (now out)))
 despiked = by-its-definition _ (λ κs a x e h. h)
 
 pub kept-part : Determined clean·kept-part.Learnt (λ κs x e. now x)
@@ -122,16 +122,16 @@ contours-contour = by-its-definition _ (λ κs a x e h. h)
 pub contours-first-contour : Determined buffer·contours·first-contour.Learnt (λ κs x e. now x)
 contours-first-contour = by-its-definition _ (λ κs a x e h. h)
 
-pub contours-set-with-contour : Determined buffer·contours·set-with-contour.Learnt (λ κs x e. Packed.left x (now (e .1 .0)) (now (e .1 .1 .0)) [])
+pub contours-set-with-contour : Determined buffer·contours·set-with-contour.Learnt (λ κs x e. three e (λ contour out records. Packed.left x (now out) (now records) []))
 contours-set-with-contour = by-its-definition _ (λ κs a x e h. h)
 
-pub contours-set-with-shape : Determined buffer·contours·set-with-shape.Learnt (λ κs x e. Packed.left x (now (e .1 .1 .0)) (now (e .1 .1 .1 .0)) [])
+pub contours-set-with-shape : Determined buffer·contours·set-with-shape.Learnt (λ κs x e. four e (λ points ranges out records. Packed.left x (now out) (now records) []))
 contours-set-with-shape = by-its-definition _ (λ κs a x e h. h)
 
-pub contours-set-with-shapes : Determined buffer·contours·set-with-shapes.Learnt (λ κs x e. Packed.left x (now (e .1 .1 .1 .0)) (now (e .1 .1 .1 .1 .0)) [])
+pub contours-set-with-shapes : Determined buffer·contours·set-with-shapes.Learnt (λ κs x e. five e (λ points contours shapes out records. Packed.left x (now out) (now records) []))
 contours-set-with-shapes = by-its-definition _ (λ κs a x e h. h)
 
-pub contours-add-contour : Determined buffer·contours·add-contour.Learnt (λ κs x e. Packed.left x (now (e .1 .1 .1 .0)) (now (e .1 .1 .1 .1 .0)) [])
+pub contours-add-contour : Determined buffer·contours·add-contour.Learnt (λ κs x e. five e (λ points ranges contour out records. Packed.left x (now out) (now records) []))
 contours-add-contour = by-its-definition _ (λ κs a x e h. h)
 
 -- Sets of shapes.
@@ -156,16 +156,16 @@ shapes-contours-in = by-its-definition _ (λ κs a x e h. h)
 pub shapes-contour-of : Determined buffer·shapes·contour-of.Learnt (λ κs x e. now x)
 shapes-contour-of = by-its-definition _ (λ κs a x e h. h)
 
-pub shapes-set-with-contour : Determined buffer·shapes·set-with-contour.Learnt (λ κs x e. Packed.left x (now (e .1 .0)) (now (e .1 .1 .0)) (now (e .1 .1 .1 .0)))
+pub shapes-set-with-contour : Determined buffer·shapes·set-with-contour.Learnt (λ κs x e. four e (λ contour out records groups. Packed.left x (now out) (now records) (now groups)))
 shapes-set-with-contour = by-its-definition _ (λ κs a x e h. h)
 
-pub shapes-set-with-shape : Determined buffer·shapes·set-with-shape.Learnt (λ κs x e. Packed.left x (now (e .1 .1 .0)) (now (e .1 .1 .1 .0)) (now (e .1 .1 .1 .1 .0)))
+pub shapes-set-with-shape : Determined buffer·shapes·set-with-shape.Learnt (λ κs x e. five e (λ points ranges out records groups. Packed.left x (now out) (now records) (now groups)))
 shapes-set-with-shape = by-its-definition _ (λ κs a x e h. h)
 
-pub shapes-set-with-shapes : Determined buffer·shapes·set-with-shapes.Learnt (λ κs x e. Packed.left x (now (e .1 .1 .1 .0)) (now (e .1 .1 .1 .1 .0)) (now (e .1 .1 .1 .1 .1 .0)))
+pub shapes-set-with-shapes : Determined buffer·shapes·set-with-shapes.Learnt (λ κs x e. six e (λ points contours shapes out records groups. Packed.left x (now out) (now records) (now groups)))
 shapes-set-with-shapes = by-its-definition _ (λ κs a x e h. h)
 
-pub shapes-add-shape : Determined buffer·shapes·add-shape.Learnt (λ κs x e. Packed.left x (now (e .1 .1 .1 .1 .1 .0)) (now (e .1 .1 .1 .1 .1 .1 .0)) (now (e .1 .1 .1 .1 .1 .1 .1 .0)))
+pub shapes-add-shape : Determined buffer·shapes·add-shape.Learnt (λ κs x e. eight e (λ points contours shapes more ranges out records groups. Packed.left x (now out) (now records) (now groups)))
 shapes-add-shape = by-its-definition _ (λ κs a x e h. h)
 
 -- Sets judged and cleaned.
@@ -184,21 +184,21 @@ set-area = by-its-definition _ (λ κs a x e h. h)
 pub in-shape : Determined sets·in-shape.Learnt (λ κs x e. x)
 in-shape = by-its-definition _ (λ κs a x e h. h)
 
-pub simplified-shape : Determined sets·simple·simplified-shape.Learnt (λ κs x e. Sets.left x (Sets.lent (now (e .1 .1 .0)) (now (e .1 .1 .1 .0)) (now (e .1 .1 .1 .1 .0)) (now (e .1 .1 .1 .1 .1 .0)) (now (e .1 .1 .1 .1 .1 .1 .0)) []))
+pub simplified-shape : Determined sets·simple·simplified-shape.Learnt (λ κs x e. seven e (λ points ranges next prev mark out records. Sets.left x (Sets.lent (now next) (now prev) (now mark) (now out) (now records) [])))
 simplified-shape = by-its-definition _ (λ κs a x e h. h)
 
-pub despiked-shape : Determined sets·despike·despiked-shape.Learnt (λ κs x e. Sets.left x (Sets.lent (now (e .1 .1 .0)) (now (e .1 .1 .1 .0)) (now (e .1 .1 .1 .1 .0)) (now (e .1 .1 .1 .1 .1 .0)) (now (e .1 .1 .1 .1 .1 .1 .0)) []))
+pub despiked-shape : Determined sets·despike·despiked-shape.Learnt (λ κs x e. seven e (λ points ranges next prev mark out records. Sets.left x (Sets.lent (now next) (now prev) (now mark) (now out) (now records) [])))
 despiked-shape = by-its-definition _ (λ κs a x e h. h)
 
-pub simplified-shapes : Determined sets·simple·simplified-shapes.Learnt (λ κs x e. Sets.left x (Sets.lent (now (e .1 .1 .1 .0)) (now (e .1 .1 .1 .1 .0)) (now (e .1 .1 .1 .1 .1 .0)) (now (e .1 .1 .1 .1 .1 .1 .0)) (now (e .1 .1 .1 .1 .1 .1 .1 .0)) (now (e .1 .1 .1 .1 .1 .1 .1 .1 .0))))
+pub simplified-shapes : Determined sets·simple·simplified-shapes.Learnt (λ κs x e. nine e (λ points contours shapes next prev mark out records groups. Sets.left x (Sets.lent (now next) (now prev) (now mark) (now out) (now records) (now groups))))
 simplified-shapes = by-its-definition _ (λ κs a x e h. h)
 
-pub despiked-shapes : Determined sets·despike·despiked-shapes.Learnt (λ κs x e. Sets.left x (Sets.lent (now (e .1 .1 .1 .0)) (now (e .1 .1 .1 .1 .0)) (now (e .1 .1 .1 .1 .1 .0)) (now (e .1 .1 .1 .1 .1 .1 .0)) (now (e .1 .1 .1 .1 .1 .1 .1 .0)) (now (e .1 .1 .1 .1 .1 .1 .1 .1 .0))))
+pub despiked-shapes : Determined sets·despike·despiked-shapes.Learnt (λ κs x e. nine e (λ points contours shapes next prev mark out records groups. Sets.left x (Sets.lent (now next) (now prev) (now mark) (now out) (now records) (now groups))))
 despiked-shapes = by-its-definition _ (λ κs a x e h. h)
 
 -- Set files.
-pub read : Determined setfile·read.Learnt (λ κs x e. Packed.left x (now (e .1 .0)) (now (e .1 .1 .0)) (now (e .1 .1 .1 .0)))
+pub read : Determined setfile·read.Learnt (λ κs x e. four e (λ bytes points contours shapes. Packed.left x (now points) (now contours) (now shapes)))
 read = by-its-definition _ (λ κs a x e h. h)
 
-pub write : Determined setfile·write.Learnt (λ κs x e. Written.left (x .reply) (x .bytes) (now (e .1 .1 .1 .0)))
+pub write : Determined setfile·write.Learnt (λ κs x e. four e (λ points contours shapes bytes. Written.left (x .reply) (x .bytes) (now bytes)))
 write = by-its-definition _ (λ κs a x e h. h)

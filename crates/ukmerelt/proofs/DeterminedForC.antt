@@ -5,7 +5,7 @@ use Rattle.clean.specs.Outcome as Cleaned
 use Rattle.buffer.specs.Answers as Packed
 use Rattle.sets.specs.Outcome as Sets
 use Rattle.setfile.specs.Writing as Written
-use Rattle.ukmerelt.proofs.OneOutcome.{Determined, by-its-definition}
+use Rattle.grid.proofs.OneOutcome.{Determined, by-its-definition, four, five, six, seven, eight, nine}
 use Rattle.ukmerelt.proofs.contours.ukm_area_two.Reads as ukm-area-two·contract
 use Rattle.ukmerelt.proofs.contours.ukm_area.Reads as ukm-area·contract
 use Rattle.ukmerelt.proofs.contours.ukm_is_convex.Reads as ukm-is-convex·contract
@@ -54,10 +54,10 @@ ukm-is-simple = by-its-definition _ (λ κs a x e h. h)
 pub ukm-has-no-spikes : Determined ukm-has-no-spikes·contract.Learnt (λ κs x e. x)
 ukm-has-no-spikes = by-its-definition _ (λ κs a x e h. h)
 
-pub ukm-simplified : Determined ukm-simplified·contract.Learnt (λ κs x e. Cleaned.left x (now (e .1 .0)) (now (e .1 .1 .0)) (now (e .1 .1 .1 .0)) (now (e .1 .1 .1 .1 .0)))
+pub ukm-simplified : Determined ukm-simplified·contract.Learnt (λ κs x e. five e (λ points next prev mark out. Cleaned.left x (now next) (now prev) (now mark) (now out)))
 ukm-simplified = by-its-definition _ (λ κs a x e h. h)
 
-pub ukm-despiked : Determined ukm-despiked·contract.Learnt (λ κs x e. Cleaned.left x (now (e .1 .0)) (now (e .1 .1 .0)) (now (e .1 .1 .1 .0)) (now (e .1 .1 .1 .1 .0)))
+pub ukm-despiked : Determined ukm-despiked·contract.Learnt (λ κs x e. five e (λ points next prev mark out. Cleaned.left x (now next) (now prev) (now mark) (now out)))
 ukm-despiked = by-its-definition _ (λ κs a x e h. h)
 
 pub ukm-ranges-sound : Determined ukm-ranges-sound·contract.Learnt (λ κs x e. x)
@@ -78,35 +78,35 @@ ukm-set-area = by-its-definition _ (λ κs a x e h. h)
 pub ukm-in-shape : Determined ukm-in-shape·contract.Learnt (λ κs x e. x)
 ukm-in-shape = by-its-definition _ (λ κs a x e h. h)
 
-pub ukm-simplified-shape : Determined ukm-simplified-shape·contract.Learnt (λ κs x e. Sets.left x (Sets.lent (now (e .1 .1 .0)) (now (e .1 .1 .1 .0)) (now (e .1 .1 .1 .1 .0)) (now (e .1 .1 .1 .1 .1 .0)) (now (e .1 .1 .1 .1 .1 .1 .0)) []))
+pub ukm-simplified-shape : Determined ukm-simplified-shape·contract.Learnt (λ κs x e. seven e (λ points ranges next prev mark out records. Sets.left x (Sets.lent (now next) (now prev) (now mark) (now out) (now records) [])))
 ukm-simplified-shape = by-its-definition _ (λ κs a x e h. h)
 
-pub ukm-despiked-shape : Determined ukm-despiked-shape·contract.Learnt (λ κs x e. Sets.left x (Sets.lent (now (e .1 .1 .0)) (now (e .1 .1 .1 .0)) (now (e .1 .1 .1 .1 .0)) (now (e .1 .1 .1 .1 .1 .0)) (now (e .1 .1 .1 .1 .1 .1 .0)) []))
+pub ukm-despiked-shape : Determined ukm-despiked-shape·contract.Learnt (λ κs x e. seven e (λ points ranges next prev mark out records. Sets.left x (Sets.lent (now next) (now prev) (now mark) (now out) (now records) [])))
 ukm-despiked-shape = by-its-definition _ (λ κs a x e h. h)
 
-pub ukm-simplified-shapes : Determined ukm-simplified-shapes·contract.Learnt (λ κs x e. Sets.left x (Sets.lent (now (e .1 .1 .1 .0)) (now (e .1 .1 .1 .1 .0)) (now (e .1 .1 .1 .1 .1 .0)) (now (e .1 .1 .1 .1 .1 .1 .0)) (now (e .1 .1 .1 .1 .1 .1 .1 .0)) (now (e .1 .1 .1 .1 .1 .1 .1 .1 .0))))
+pub ukm-simplified-shapes : Determined ukm-simplified-shapes·contract.Learnt (λ κs x e. nine e (λ points contours shapes next prev mark out records groups. Sets.left x (Sets.lent (now next) (now prev) (now mark) (now out) (now records) (now groups))))
 ukm-simplified-shapes = by-its-definition _ (λ κs a x e h. h)
 
-pub ukm-despiked-shapes : Determined ukm-despiked-shapes·contract.Learnt (λ κs x e. Sets.left x (Sets.lent (now (e .1 .1 .1 .0)) (now (e .1 .1 .1 .1 .0)) (now (e .1 .1 .1 .1 .1 .0)) (now (e .1 .1 .1 .1 .1 .1 .0)) (now (e .1 .1 .1 .1 .1 .1 .1 .0)) (now (e .1 .1 .1 .1 .1 .1 .1 .1 .0))))
+pub ukm-despiked-shapes : Determined ukm-despiked-shapes·contract.Learnt (λ κs x e. nine e (λ points contours shapes next prev mark out records groups. Sets.left x (Sets.lent (now next) (now prev) (now mark) (now out) (now records) (now groups))))
 ukm-despiked-shapes = by-its-definition _ (λ κs a x e h. h)
 
-pub ukm-pack-contour : Determined ukm-pack-contour·contract.Learnt (λ κs x e. Packed.left x (now (e .1 .0)) (now (e .1 .1 .0)) (now (e .1 .1 .1 .0)))
+pub ukm-pack-contour : Determined ukm-pack-contour·contract.Learnt (λ κs x e. four e (λ contour out records groups. Packed.left x (now out) (now records) (now groups)))
 ukm-pack-contour = by-its-definition _ (λ κs a x e h. h)
 
-pub ukm-pack-shape : Determined ukm-pack-shape·contract.Learnt (λ κs x e. Packed.left x (now (e .1 .1 .0)) (now (e .1 .1 .1 .0)) (now (e .1 .1 .1 .1 .0)))
+pub ukm-pack-shape : Determined ukm-pack-shape·contract.Learnt (λ κs x e. five e (λ points ranges out records groups. Packed.left x (now out) (now records) (now groups)))
 ukm-pack-shape = by-its-definition _ (λ κs a x e h. h)
 
-pub ukm-pack-shapes : Determined ukm-pack-shapes·contract.Learnt (λ κs x e. Packed.left x (now (e .1 .1 .1 .0)) (now (e .1 .1 .1 .1 .0)) (now (e .1 .1 .1 .1 .1 .0)))
+pub ukm-pack-shapes : Determined ukm-pack-shapes·contract.Learnt (λ κs x e. six e (λ points contours shapes out records groups. Packed.left x (now out) (now records) (now groups)))
 ukm-pack-shapes = by-its-definition _ (λ κs a x e h. h)
 
-pub ukm-add-contour : Determined ukm-add-contour·contract.Learnt (λ κs x e. Packed.left x (now (e .1 .1 .1 .0)) (now (e .1 .1 .1 .1 .0)) [])
+pub ukm-add-contour : Determined ukm-add-contour·contract.Learnt (λ κs x e. five e (λ points ranges contour out records. Packed.left x (now out) (now records) []))
 ukm-add-contour = by-its-definition _ (λ κs a x e h. h)
 
-pub ukm-add-shape : Determined ukm-add-shape·contract.Learnt (λ κs x e. Packed.left x (now (e .1 .1 .1 .1 .1 .0)) (now (e .1 .1 .1 .1 .1 .1 .0)) (now (e .1 .1 .1 .1 .1 .1 .1 .0)))
+pub ukm-add-shape : Determined ukm-add-shape·contract.Learnt (λ κs x e. eight e (λ points contours shapes more ranges out records groups. Packed.left x (now out) (now records) (now groups)))
 ukm-add-shape = by-its-definition _ (λ κs a x e h. h)
 
-pub ukm-read-set : Determined ukm-read-set·contract.Learnt (λ κs x e. Packed.left x (now (e .1 .0)) (now (e .1 .1 .0)) (now (e .1 .1 .1 .0)))
+pub ukm-read-set : Determined ukm-read-set·contract.Learnt (λ κs x e. four e (λ bytes out records groups. Packed.left x (now out) (now records) (now groups)))
 ukm-read-set = by-its-definition _ (λ κs a x e h. h)
 
-pub ukm-write-set : Determined ukm-write-set·contract.Learnt (λ κs x e. Written.left (x .reply) (x .bytes) (now (e .1 .1 .1 .0)))
+pub ukm-write-set : Determined ukm-write-set·contract.Learnt (λ κs x e. four e (λ points contours shapes bytes. Written.left (x .reply) (x .bytes) (now bytes)))
 ukm-write-set = by-its-definition _ (λ κs a x e h. h)

@@ -1,6 +1,5 @@
 -- What the proofs of several functions use.
 mod Coordinates
 pub mod Table
-pub mod OneOutcome
 pub mod Determined
 pub mod DeterminedForC

@@ -1,19 +1,17 @@
 -- `grid::first_other` meets its contract: all points passed equal the last one.
+use borrow.Author.Count.{below-more}
 use borrow.Author.Needs.{needs}
 use borrow.Author.Tests.{not-true, not-false}
-use mathlib.Core.Path.{_≡_, refl, sym, _∙_, ap, ap₂}
+use mathlib.Core.Path.{_≡_, sym, _∙_, ap₂}
+use mathlib.Core.Bool.{true}
 use Prim.Native.Nat.{ℕ, _-_, _<_, _≤_}
 use native.Mathlib.Omega.{arith}
-use lib.ListN.{drop}
-use Rattle.grid.specs.Points.{at, same, points}
-use Rattle.grid.specs.Corners.{differing}
-use Rattle.grid.proofs.RowLaws.{points-more}
-use Rattle.grid.proofs.CornerLaws.{differing-skip}
+use Rattle.grid.specs.Points.{at, same}
 use Rattle.grid.proofs.first_other.Statement.{statement}
 use Rattle.grid.proofs.first_other.Tie as tie
 
 abbrev Inv-loop : tie.InvT-loop
-Inv-loop row n last i₀ i = (i ≤ n) × (last ≡ at row (n - 1)) × (differing (at row (n - 1)) (points row) ≡ differing (at row (n - 1)) (drop i (points row)))
+Inv-loop row n last i₀ i = (i ≤ n) × (last ≡ at row (n - 1)) × ((j : ℕ) → j < i → same (at row j) (at row (n - 1)) ≡ true)
 
 abbrev μ-loop : tie.MeasureT-loop
 μ-loop row n last i₀ i = n - i
@@ -30,7 +28,7 @@ point-at-requires : tie.Need-point-at-requires Inv-loop μ-loop
 point-at-requires c κs = omega (arith, c .pre .0 .even, c .pre .1)
 
 loop-holds : tie.Need-loop-holds Inv-loop μ-loop
-loop-holds c = (omega arith, c .point-at .ensures, refl)
+loop-holds c = (omega arith, c .point-at .ensures, λ j h. absurd (omega arith))
 
 point-at-requires-2 : tie.Need-point-at-requires-2 Inv-loop μ-loop
 point-at-requires-2 c κs = omega (arith, c .before .before .before .pre .0 .even, c .loop-test .taken)
@@ -41,7 +39,7 @@ same-requires c κs = search needs
 returns : tie.Need-returns Inv-loop μ-loop
 returns c =
     let x = c .before .before .before .before .loop .inv in
-    record { within = x .0; skipped = x .2; differs = λ h. sym (told (c .before)) ∙ not-true _ (c .if1 .taken) }
+    record { within = x .0; equal = x .2; differs = λ h. sym (told (c .before)) ∙ not-true _ (c .if1 .taken) }
 
 add-i : tie.Need-add-i Inv-loop μ-loop
 add-i c = search needs
@@ -52,24 +50,15 @@ loop-less c = search needs
 loop-again : tie.Need-loop-again Inv-loop μ-loop
 loop-again c =
     let l = c .before .before .before .before in
-    let s = l .before .before in
     let x = l .loop .inv in
-    let equal = sym (told (c .before)) ∙ not-false _ (c .if1 .left) in
-    let h : l .loop .i < s .args .n = c .before .before .before .loop-test .taken in
-    (omega arith, x .1, x .2 ∙ ap (differing _) (points-more (s .pre .0) (l .loop .i) h) ∙ differing-skip _ _ _ equal)
+    (omega arith, x .1, below-more _ _ (x .2) (sym (told (c .before)) ∙ not-false _ (c .if1 .left)))
 
 returns-2 : tie.Need-returns-2 Inv-loop μ-loop
 returns-2 c =
     let l = c .before in
     let s = l .before .before in
     let x = l .loop .inv in
-    let row = s .args .points .now in
-    let e : l .loop .i ≡ s .args .n = omega (arith, x .0, c .loop-test .left) in
-    record {
-      within = omega arith;
-      skipped = x .2 ∙ ap (λ (k : ℕ). differing (at row (s .args .n - 1)) (drop k (points row))) e;
-      differs = λ h. absurd (omega arith);
-    }
+    record { within = omega arith; equal = λ j h. x .2 j (omega (arith, c .loop-test .left)); differs = λ h. absurd (omega arith) }
 
 pub first-other-spec : {M : Type 1} → statement M
 first-other-spec =
