@@ -12,9 +12,13 @@ module _ {K : Type 0} {A R E : K → Type 0} {O : Type 0} {C : (κs : K) → A �
   by-its-definition f is κs a x y d e p q = is κs a x d p ∙ sym (is κs a y e q)
 
 -- what a call's parameters hold at its exit, by their names: so many parameters, each handed to f in its place
+module _ {X A B C : Type 0} where
+  abbrev pub two : A × (B × C) → (A → B → X) → X
+  two e f = f (e .0) (e .1 .0)
+
 module _ {X A B C D : Type 0} where
   abbrev pub three : A × (B × (C × D)) → (A → B → C → X) → X
-  three e f = f (e .0) (e .1 .0) (e .1 .1 .0)
+  three e f = two (e .1) (f (e .0))
 
 module _ {X A B C D E : Type 0} where
   abbrev pub four : A × (B × (C × (D × E))) → (A → B → C → D → X) → X

@@ -1,15 +1,21 @@
 -- What a user may count on.
-use mathlib.Core.Path.{_≡_, sym, _∙_}
+use mathlib.Core.Path.{_≡_, ap₂}
 use mathlib.Core.List.{List}
 use Prim.Native.Nat.{ℕ, _≤_}
 use lib.ListN.{length}
+use denote.Ref.{now}
 use Rattle.grid.specs.Rows.{front}
+use Rattle.grid.proofs.OneOutcome.{Determined, by-its-definition, two}
 use Rattle.report.specs.Listing.{listing}
 use Rattle.report.proofs.ReportLaws.{listing-length}
+use Rattle.report.proofs.list.Reads as list·contract
 
--- any two outcomes that the contract of `list` allows are identical
-pub a-file-has-one-listing : (f row : List ℕ) (r s : ℕ) (t u : List ℕ) → (r ≡ length (listing f)) × (t ≡ front (listing f) row) → (s ≡ length (listing f)) × (u ≡ front (listing f) row) → (r ≡ s) × (t ≡ u)
-a-file-has-one-listing f row r s t u a b = (a .0 ∙ sym (b .0), a .1 ∙ sym (b .1))
+-- any two outcomes that the contract of `list` allows are identical: the length that is answered, and the row of text
+pub a-file-has-one-listing : Determined {O = ℕ × List ℕ} list·contract.Learnt (λ κs r e. two e (λ bytes text. (r, now text)))
+a-file-has-one-listing =
+    by-its-definition
+    (λ κs a. two a (λ bytes text. (length (listing (now bytes)), front (listing (now bytes)) (now text))))
+    (λ κs a r e h. ap₂ (λ (n : ℕ) (t : List ℕ). (n, t)) (h .0) (h .1))
 
 -- so the room that the program has is enough for any file
 pub no-listing-is-longer : (f : List ℕ) → length (listing f) ≤ 184312
