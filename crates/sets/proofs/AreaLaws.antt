@@ -4,28 +4,29 @@ use mathlib.Core.Bool.{Bool, true, false, not}
 use mathlib.Core.List.{List, [], _∷_, _++_}
 use Prim.Native.Nat.{ℕ, _+_, _%_, _<_, _≤_, _^_}
 use native.Mathlib.Omega.{arith}
-use lib.Dec.{eqb}
+use lib.Dec.{T, eqb}
 use lib.ListN.{length, getD, drop}
 use lib.IntN.{ℤ, pos, _+ℤ_, +ℤ-assoc, +ℤ-comm, +ℤ-idl, +ℤ-idr}
+use borrow.Author.Tests.{ne-eqb}
 use mir.Syntax.{w64}
 use mir.Val.{toZ}
 use Rattle.integers.specs.Modulo.{mod64}
 use Rattle.integers.proofs.Modulo.{mod64-add, wrap-add}
 use Rattle.grid.specs.Points.{points}
-use Rattle.grid.specs.Area.{wrapped, reported, halved}
+use Rattle.grid.specs.Area.{wrapped, reported}
 use Rattle.grid.specs.Ladder.{Rung, first-of}
 use Rattle.grid.specs.Domain.{count, domain}
-use Rattle.grid.proofs.LadderLaws.{first-is, onward, stopped, clear, cleared}
-use Rattle.grid.proofs.LadderLaws.First.{past, foot}
+use Rattle.grid.proofs.LadderLaws.{first-is, numbered, onward, clear, cleared}
+use Rattle.grid.proofs.LadderLaws.First.{here, past, foot}
 use Rattle.area.specs.declared.answer.Area.{Area}
 use Rattle.area.specs.Answers as A
 use Rattle.area.proofs.AnswerLaws.{reply-is, value-is, answer-refused, answer-half}
 use Rattle.buffer.specs.Spans.{span, spans}
 use Rattle.buffer.specs.Sets.{contour, contours}
-use Rattle.buffer.specs.Contours.{refusals}
-use Rattle.buffer.proofs.RefusalLaws.{found}
+use Rattle.buffer.specs.Refusals.{told}
 use Rattle.sets.specs.Verdicts.{every}
-use Rattle.sets.specs.Area.{filled, empty, sum, reported-sum, area-refusals, doubled, half}
+use Rattle.sets.specs.Area.{filled, empty, sum, reported-sum, area-refusals, doubled-by, half-by, half-of}
+use Rattle.sets.proofs.RefusalLaws.{told-then}
 use Rattle.sets.proofs.PartLaws.{next-part, no-part, Left, one-passes}
 
 -- what a contour in the domain answers
@@ -53,21 +54,33 @@ added s b r v t e f =
     let g : r ≡ mod64 (pos s +ℤ v) = wrap-add s b r f ∙ ap mod64 (+ℤ-comm (pos s) (pos b)) ∙ ap (λ (n : ℕ). mod64 (pos n +ℤ pos s)) e ∙ mod64-add v (pos s) ∙ ap mod64 (+ℤ-comm v (pos s)) in
     ap mod64 (sym (+ℤ-assoc (pos s) v t)) ∙ sym (mod64-add (pos s +ℤ v) t) ∙ ap (λ (n : ℕ). mod64 (pos n +ℤ t)) (sym g)
 
--- a set that no other call refuses
-module _ (p : List ℤ) (cs : List (List ℕ)) (z : first-of (refusals p cs) ≡ 0) where
-  told : (b : Bool) → every filled (contours p (spans cs)) ≡ b → A.answer (first-of ((not b, 8) ∷ [])) (reported-sum (contours p (spans cs))) ≡ doubled p cs
-  unfolding doubled
-  told b e =
-      let l : List Rung = empty (contours p (spans cs)) in
-      rw (← e) (ap (λ (k : ℕ). A.answer k (reported-sum (contours p (spans cs)))) (first-is (area-refusals p cs) (first-of l) (onward (refusals p cs) l (first-of l) tt z (found l (first-of l) refl))))
+-- the answers of a set with these contours
+module _ (set : List (List ℤ)) where
+  pub set-empty : every filled set ≡ false → record { reply = 8; value = pos 0 } ≡ doubled-by [] set
+  unfolding doubled-by first-of
+  set-empty e = rw e
 
-  pub set-empty : every filled (contours p (spans cs)) ≡ false → record { reply = 8; value = pos 0 } ≡ doubled p cs
-  unfolding first-of
-  set-empty e = told false e
+  pub set-filled : (v : ℤ) → every filled set ≡ true → v ≡ reported-sum set → record { reply = 0; value = v } ≡ doubled-by [] set
+  unfolding doubled-by first-of
+  set-filled v e f = rw (f, e)
 
-  pub set-filled : (v : ℤ) → every filled (contours p (spans cs)) ≡ true → v ≡ reported-sum (contours p (spans cs)) → record { reply = 0; value = v } ≡ doubled p cs
-  unfolding first-of
-  set-filled v e f = rw f (told true e)
+  -- it was refused with the number k, or was not
+  module _ (k : ℕ) where
+    pub set-refused : (k ≡ 0 → ⊥) → record { reply = k; value = pos 0 } ≡ doubled-by (told k) set
+    unfolding doubled-by
+    set-refused n = rw (← first-is (area-refusals (told k) set) k (here (ap not (ne-eqb k 0 n)))) (answer-refused k _ n)
+
+    pub set-taken : k ≡ 0 → doubled-by [] set ≡ doubled-by (told k) set
+    unfolding doubled-by first-of
+    set-taken z = rw z
+
+    pub set-doubled : (refusals : List Rung) → T (numbered refusals) → k ≡ first-of refusals → doubled-by (told k) set ≡ doubled-by refusals set
+    unfolding doubled-by
+    set-doubled refusals t e = ap (λ (r : ℕ). A.answer r (reported-sum set)) (told-then refusals (empty set) t k _ e refl)
+
+  pub set-half : (refusals : List Rung) → half-of (doubled-by refusals set) ≡ half-by refusals set
+  unfolding doubled-by half-by
+  set-half refusals = answer-half (first-of (area-refusals refusals set)) (reported-sum set)
 
 -- a loop's sum, before it adds contour number i
 module _ (p : List ℤ) (cs : List (List ℕ)) where
@@ -98,13 +111,3 @@ module _ (p : List ℤ) (cs : List (List ℕ)) where
     gathered-all h =
         let k : mod64 (sum set) ≡ s = g .is ∙ ap (λ (l : List (List ℤ)). mod64 (pos s +ℤ sum l)) (no-part p cs i h) ∙ ap mod64 (+ℤ-idr (pos s)) ∙ omega (arith, g .small) in
         rw k
-
--- the answers
-module _ (p : List ℤ) (cs : List (List ℕ)) where
-  pub set-refused : (k : ℕ) → k ≡ first-of (refusals p cs) → (k ≡ 0 → ⊥) → record { reply = k; value = pos 0 } ≡ doubled p cs
-  unfolding doubled
-  set-refused k e n = rw (← first-is (area-refusals p cs) k (stopped (refusals p cs) _ k e n)) (answer-refused k _ n)
-
-  pub set-half : (r : Area) → r ≡ doubled p cs → record { reply = r .reply; value = halved (r .value) } ≡ half p cs
-  unfolding doubled half
-  set-half r e = rw e (answer-half (first-of (area-refusals p cs)) (reported-sum (contours p (spans cs))))

@@ -15,8 +15,8 @@ use Rattle.grid.specs.Cases.{row, W3, W11}
 use Rattle.path.specs.Contains.{crosses, odd, contained}
 use Rattle.clean.specs.Verdicts.{is-simple, no-spike-left, no-spikes}
 use Rattle.buffer.specs.Spans.{sound-from}
-use Rattle.sets.specs.Verdicts.{every, verdict-by, simple, spike-free}
-use Rattle.sets.specs.Area.{sum, doubled, half}
+use Rattle.sets.specs.Verdicts.{every, verdict-by, simple, spike-free, shapes-simple, shapes-spike-free}
+use Rattle.sets.specs.Area.{sum, doubled-by, half-by, doubled, half, shapes-doubled, shapes-half}
 use Rattle.sets.specs.Contains.{inside, in-shape}
 
 infixl 70 _to_
@@ -53,7 +53,7 @@ of-two = (refl, refl, refl)
 
 -- points without ranges
 loose : (simple W3 [] ≡ refused 6) × (in-shape W3 [] (pos 536870913) (pos 0) ≡ refused 6) × (doubled W3 [] ≡ record { reply = 6; value = pos 0 })
-unfolding limit most on-grid all-on-grid first-of sound-from verdict-by in-shape doubled
+unfolding limit most on-grid all-on-grid first-of sound-from verdict-by in-shape doubled-by
 loose = (refl, refl, refl)
 
 -- 16 and 16; the halves of -1 and -3 are cut toward zero
@@ -62,15 +62,39 @@ areas :
     × (doubled (W3 ++ W3) (0 to 3 ∷ 3 to 6 ∷ []) ≡ record { reply = 0; value = pos 32 })
     × (half W11 (0 to 3 ∷ []) ≡ record { reply = 0; value = pos 0 })
     × (half (row (0 ∷ 0 ∷ 0 ∷ 3 ∷ 1 ∷ 0 ∷ [])) (0 to 3 ∷ []) ≡ record { reply = 0; value = negsuc 0 })
-unfolding mod64 limit most on-grid all-on-grid points around exact wrapped first-of sound-from every sum doubled half
+unfolding mod64 limit most on-grid all-on-grid points around exact wrapped first-of sound-from every sum doubled-by half-by
 areas = (refl, refl, refl, refl)
 
 -- an empty contour anywhere
 empties :
     (doubled W3 (0 to 3 ∷ 3 to 3 ∷ []) ≡ record { reply = 8; value = pos 0 })
     × (half W3 (0 to 0 ∷ 0 to 3 ∷ []) ≡ record { reply = 8; value = pos 0 })
-unfolding mod64 limit most on-grid all-on-grid points around exact wrapped first-of sound-from every sum doubled half
+unfolding mod64 limit most on-grid all-on-grid points around exact wrapped first-of sound-from every sum doubled-by half-by
 empties = (refl, refl)
+
+-- a shape set whose contour ranges or shape ranges are lost, or run past the contours, is refused; its contours alone are not
+lost :
+    (shapes-simple W3 [] (0 to 1 ∷ []) ≡ refused 6)
+    × (shapes-simple W3 (0 to 3 ∷ []) [] ≡ refused 6)
+    × (shapes-spike-free W3 (0 to 3 ∷ []) (5 to 99 ∷ []) ≡ refused 6)
+    × (spike-free W3 (0 to 3 ∷ []) ≡ answered true)
+    × (shapes-doubled W3 (0 to 3 ∷ []) [] ≡ record { reply = 6; value = pos 0 })
+    × (shapes-half W3 (0 to 3 ∷ []) (5 to 99 ∷ []) ≡ record { reply = 6; value = pos 0 })
+    × (doubled W3 (0 to 3 ∷ []) ≡ record { reply = 0; value = pos 16 })
+unfolding mod64 limit most on-grid all-on-grid points around exact wrapped bend reverses last differing distinct-neighbours corners-from corners some first-of sound-from is-simple no-spike-left no-spikes every verdict-by sum doubled-by half-by
+lost = (refl, refl, refl, refl, refl, refl, refl)
+
+-- a shape set is judged by its contours: two shapes, an empty one between them; an empty contour anywhere is 8, behind 3
+of-shapes :
+    (shapes-simple (W3 ++ W3) (0 to 3 ∷ 3 to 6 ∷ []) (0 to 1 ∷ 1 to 1 ∷ 1 to 2 ∷ []) ≡ answered true)
+    × (shapes-simple (W3 ++ straight) (0 to 3 ∷ 3 to 7 ∷ []) (0 to 1 ∷ 1 to 2 ∷ []) ≡ answered false)
+    × (shapes-spike-free (W3 ++ straight) (0 to 3 ∷ 3 to 7 ∷ []) (0 to 1 ∷ 1 to 2 ∷ []) ≡ answered true)
+    × (shapes-doubled (W3 ++ W3) (0 to 3 ∷ 3 to 6 ∷ []) (0 to 1 ∷ 1 to 1 ∷ 1 to 2 ∷ []) ≡ record { reply = 0; value = pos 32 })
+    × (shapes-half W11 (0 to 3 ∷ []) (0 to 1 ∷ []) ≡ record { reply = 0; value = pos 0 })
+    × (shapes-doubled W3 (0 to 3 ∷ 3 to 3 ∷ []) (0 to 1 ∷ 1 to 2 ∷ []) ≡ record { reply = 8; value = pos 0 })
+    × (shapes-half (row (0 ∷ 536870913 ∷ [])) (0 to 1 ∷ 1 to 1 ∷ []) (0 to 2 ∷ []) ≡ record { reply = 3; value = pos 0 })
+unfolding mod64 limit most on-grid all-on-grid points around exact wrapped bend reverses last differing distinct-neighbours corners-from corners some first-of sound-from is-simple no-spike-left no-spikes every verdict-by sum doubled-by half-by
+of-shapes = (refl, refl, refl, refl, refl, refl, refl)
 
 -- a square with a square hole
 abbrev square : List ℤ

@@ -4,7 +4,7 @@ use mathlib.Core.Bool.{Bool, true, false, not, _&&_, true≢false, and-true}
 use mathlib.Core.List.{List, [], _++_, map}
 use Prim.Native.Nat.{ℕ, zero, suc, _*_, _≤_, _<_, _^_}
 use native.Mathlib.Omega.{arith}
-use lib.Dec.{T, leb, eqb·suc-zero}
+use lib.Dec.{leb}
 use lib.IntN.{ℤ}
 use lib.ListN.{length, take, drop, replicate, length-replicate, length-map}
 use lib.Seq.{length-take-le}
@@ -12,15 +12,14 @@ use borrow.Author.Tests.{ltb-false, leb-true, le-leb, not-false}
 use Rattle.integers.proofs.Logic.{and-left, and-right}
 use Rattle.grid.specs.Ladder.{Rung, first-of}
 use Rattle.grid.specs.Domain.{count}
-use Rattle.grid.proofs.LadderLaws.{first-is, numbered, clear, cleared, stopped, onward}
-use Rattle.grid.proofs.LadderLaws.First.{here}
+use Rattle.grid.proofs.LadderLaws.{clear, cleared}
 use Rattle.ring.specs.declared.Rule.{Rule}
 use Rattle.clean.specs.Outcome.{scratch, zeroed}
 use Rattle.buffer.specs.Spans.{span, spans, rows, laid, sound}
 use Rattle.buffer.specs.Sets.{cut, joined, contour, contours, shapes}
 use Rattle.buffer.specs.Refusals.{room, told, set}
 use Rattle.buffer.proofs.SpanLaws.{range-within}
-use Rattle.buffer.proofs.RefusalLaws.{found, Accepted, accepted}
+use Rattle.buffer.proofs.RefusalLaws.{Accepted, accepted}
 use Rattle.buffer.proofs.RowLaws.{placed-front}
 use Rattle.buffer.proofs.Theorems.{a-sound-set's-contours-laid-end-to-end-are-its-points, a-sound-set's-shapes-laid-end-to-end-are-its-contours}
 use Rattle.sets.specs.declared.cleaning.CleanedSet.{CleanedSet}
@@ -30,15 +29,10 @@ use Rattle.sets.specs.Fates.{ShapeFate, shape-fate, shapes-fate}
 use Rattle.sets.specs.Fates.ShapeFate.{stands, fallen}
 use Rattle.sets.specs.Outcome.{answer, Lent, Left, lent, left, enough, lacking, outcome, shape-left, shape-outcome, shapes-outcome}
 use Rattle.sets.specs.Inside.{reached, Tested, tested, run-shape, Grouped, grouped, run-shapes, first-place, Zeroed, Scratch, Room, Named, Going, Each}
+use Rattle.sets.proofs.RefusalLaws.{told-then}
 use Rattle.sets.proofs.PlaceLaws.{accepted-named, all-named, all-cut}
 use Rattle.sets.proofs.AfterLaws.{shaped, shape-after}
 use Rattle.sets.proofs.ShapesLaws.{among, shapes-after}
-
--- a ladder of which only the number is left, and the rungs below it
-pub told-then : (l b : List Rung) → T (numbered l) → (asked r : ℕ) → asked ≡ first-of l → r ≡ first-of (told asked ++ b) → r ≡ first-of (l ++ b)
-unfolding first-of
-told-then l b t zero r e f = f ∙ first-is _ _ (onward l b _ t (sym e) (found b _ refl))
-told-then l b t (suc k) r e f = f ∙ sym (first-is (told (suc k) ++ b) (suc k) (here (ap not (eqb·suc-zero k)))) ∙ first-is _ _ (stopped l b (suc k) e (λ z. omega arith))
 
 -- the parts of an outcome
 pub same-left : {a b : CleanedSet} {n m p q k l : List ℕ} {o u : List ℤ} {c d s t : List (List ℕ)} → a ≡ b → n ≡ m → p ≡ q → k ≡ l → o ≡ u → c ≡ d → s ≡ t

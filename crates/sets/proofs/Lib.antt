@@ -1,3 +1,4 @@
+pub mod RefusalLaws
 pub mod PartLaws
 pub mod PassLaws
 pub mod ContainsLaws

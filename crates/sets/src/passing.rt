@@ -3,6 +3,7 @@ ghost use mathlib.Core.Path.{_≡_};
 ghost use Rattle.grid.specs.Points.{points as points-of};
 ghost use Rattle.grid.specs.Ladder.{first-of};
 ghost use Rattle.grid.specs.Domain.{domain};
+ghost use Rattle.grid.specs.Verdicts.{verdict as verdict-of};
 ghost use Rattle.buffer.specs.Spans.{spans};
 ghost use Rattle.buffer.specs.Sets.{contours};
 ghost use Rattle.buffer.specs.Contours.{refusals};
@@ -38,11 +39,11 @@ fn all_pass(rule: Rule, points: &[i32], ranges: &[[usize; 2]]) -> bool
     true
 }
 
-// The answer.
-pub fn verdict(rule: Rule, points: &[i32], ranges: &[[usize; 2]]) -> Verdict
-    ensures { λ r. ⌜ r ≡ verdict-by rule (now (points .entry)) (now (ranges .entry)) ⌝ }
+// The answer of a set that was refused with this number, or was not.
+pub fn asked(rule: Rule, refusal: u32, points: &[i32], ranges: &[[usize; 2]]) -> Verdict
+    requires { ⌜ (refusal ≡ 0 → first-of (refusals (now points) (now ranges)) ≡ 0) ⌝ }
+    ensures { λ r. ⌜ r ≡ verdict-of refusal (all-pass-by rule (contours (now (points .entry)) (spans (now (ranges .entry))))) ⌝ }
 {
-    let refusal = buffer::contours::refused(points, ranges);
     if refusal != 0 {
         return Verdict {
             reply: refusal,
@@ -53,4 +54,15 @@ pub fn verdict(rule: Rule, points: &[i32], ranges: &[[usize; 2]]) -> Verdict
         reply: grid::reply::DONE,
         yes: all_pass(rule, points, ranges),
     }
+}
+
+// The answer of a contour set.
+pub fn verdict(rule: Rule, points: &[i32], ranges: &[[usize; 2]]) -> Verdict
+    ensures { λ r. ⌜
+        r ≡ verdict-by rule (refusals (now (points .entry)) (now (ranges .entry)))
+        (contours (now (points .entry)) (spans (now (ranges .entry))))
+        ⌝ }
+{
+    let refusal = buffer::contours::refused(points, ranges);
+    asked(rule, refusal, points, ranges)
 }

@@ -49,6 +49,10 @@ use Rattle.sets.proofs.simple.is_simple.Reads as sets·simple·is-simple
 use Rattle.sets.proofs.despike.has_no_spikes.Reads as sets·despike·has-no-spikes
 use Rattle.sets.proofs.areas.area_two.Reads as sets·areas·area-two
 use Rattle.sets.proofs.areas.area.Reads as sets·areas·area
+use Rattle.sets.proofs.shapes.is_simple.Reads as sets·shapes·is-simple
+use Rattle.sets.proofs.shapes.has_no_spikes.Reads as sets·shapes·has-no-spikes
+use Rattle.sets.proofs.shapes.area_two.Reads as sets·shapes·area-two
+use Rattle.sets.proofs.shapes.area.Reads as sets·shapes·area
 use Rattle.sets.proofs.in_shape.Reads as sets·in-shape
 use Rattle.sets.proofs.simple.simplified_shape.Reads as sets·simple·simplified-shape
 use Rattle.sets.proofs.despike.despiked_shape.Reads as sets·despike·despiked-shape
@@ -180,6 +184,18 @@ set-area-two = by-its-definition _ (λ κs a x e h. h)
 
 pub set-area : Determined sets·areas·area.Learnt (λ κs x e. x)
 set-area = by-its-definition _ (λ κs a x e h. h)
+
+pub shapes-is-simple : Determined sets·shapes·is-simple.Learnt (λ κs x e. x)
+shapes-is-simple = by-its-definition _ (λ κs a x e h. h)
+
+pub shapes-has-no-spikes : Determined sets·shapes·has-no-spikes.Learnt (λ κs x e. x)
+shapes-has-no-spikes = by-its-definition _ (λ κs a x e h. h)
+
+pub shapes-area-two : Determined sets·shapes·area-two.Learnt (λ κs x e. x)
+shapes-area-two = by-its-definition _ (λ κs a x e h. h)
+
+pub shapes-area : Determined sets·shapes·area.Learnt (λ κs x e. x)
+shapes-area = by-its-definition _ (λ κs a x e h. h)
 
 pub in-shape : Determined sets·in-shape.Learnt (λ κs x e. x)
 in-shape = by-its-definition _ (λ κs a x e h. h)

@@ -21,6 +21,10 @@ use Rattle.ukmerelt.proofs.contour_sets.ukm_set_has_no_spikes.Reads as 
 use Rattle.ukmerelt.proofs.contour_sets.ukm_set_area_two.Reads as ukm-set-area-two·contract
 use Rattle.ukmerelt.proofs.contour_sets.ukm_set_area.Reads as ukm-set-area·contract
 use Rattle.ukmerelt.proofs.contour_sets.ukm_in_shape.Reads as ukm-in-shape·contract
+use Rattle.ukmerelt.proofs.shape_sets.ukm_shapes_is_simple.Reads as ukm-shapes-is-simple·contract
+use Rattle.ukmerelt.proofs.shape_sets.ukm_shapes_has_no_spikes.Reads as ukm-shapes-has-no-spikes·contract
+use Rattle.ukmerelt.proofs.shape_sets.ukm_shapes_area_two.Reads as ukm-shapes-area-two·contract
+use Rattle.ukmerelt.proofs.shape_sets.ukm_shapes_area.Reads as ukm-shapes-area·contract
 use Rattle.ukmerelt.proofs.shapes.ukm_simplified_shape.Reads as ukm-simplified-shape·contract
 use Rattle.ukmerelt.proofs.shapes.ukm_despiked_shape.Reads as ukm-despiked-shape·contract
 use Rattle.ukmerelt.proofs.shapes.ukm_simplified_shapes.Reads as ukm-simplified-shapes·contract
@@ -74,6 +78,18 @@ ukm-set-area-two = by-its-definition _ (λ κs a x e h. h)
 
 pub ukm-set-area : Determined ukm-set-area·contract.Learnt (λ κs x e. x)
 ukm-set-area = by-its-definition _ (λ κs a x e h. h)
+
+pub ukm-shapes-is-simple : Determined ukm-shapes-is-simple·contract.Learnt (λ κs x e. x)
+ukm-shapes-is-simple = by-its-definition _ (λ κs a x e h. h)
+
+pub ukm-shapes-has-no-spikes : Determined ukm-shapes-has-no-spikes·contract.Learnt (λ κs x e. x)
+ukm-shapes-has-no-spikes = by-its-definition _ (λ κs a x e h. h)
+
+pub ukm-shapes-area-two : Determined ukm-shapes-area-two·contract.Learnt (λ κs x e. x)
+ukm-shapes-area-two = by-its-definition _ (λ κs a x e h. h)
+
+pub ukm-shapes-area : Determined ukm-shapes-area·contract.Learnt (λ κs x e. x)
+ukm-shapes-area = by-its-definition _ (λ κs a x e h. h)
 
 pub ukm-in-shape : Determined ukm-in-shape·contract.Learnt (λ κs x e. x)
 ukm-in-shape = by-its-definition _ (λ κs a x e h. h)

@@ -3,4 +3,5 @@ mod contour_sets;
 mod contours;
 mod files;
 mod packing;
+mod shape_sets;
 mod shapes;

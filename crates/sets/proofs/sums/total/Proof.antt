@@ -1,4 +1,4 @@
--- `sets::areas::total` meets its contract: the sum and what is left to add make up the sum of all.
+-- `sets::sums::total` meets its contract: the sum and what is left to add make up the sum of all.
 use borrow.Author.Needs.{needs, sfits-of}
 use mathlib.Core.Path.{_≡_, _∙_, ap}
 use mathlib.Core.List.{List, []}
@@ -10,13 +10,13 @@ use Rattle.integers.specs.Modulo.{mod64}
 use Rattle.grid.specs.Ladder.{first-of}
 use Rattle.grid.specs.Domain.{domain}
 use Rattle.area.specs.Answers.{doubled}
-use Rattle.buffer.specs.Spans.{span}
-use Rattle.buffer.specs.Sets.{contour}
+use Rattle.buffer.specs.Spans.{span, spans}
+use Rattle.buffer.specs.Sets.{contour, contours}
 use Rattle.sets.specs.Area.{filled}
 use Rattle.sets.proofs.PartLaws.{part-named, part-in-domain, one-fails, all-pass}
 use Rattle.sets.proofs.AreaLaws.{part-empty, part-filled, part-value, set-empty, set-filled, Gathered, gathered-none, gathered-more, gathered-all}
-use Rattle.sets.proofs.areas.total.Statement.{statement}
-use Rattle.sets.proofs.areas.total.Tie as tie
+use Rattle.sets.proofs.sums.total.Statement.{statement}
+use Rattle.sets.proofs.sums.total.Tie as tie
 
 abbrev Inv-loop : tie.InvT-loop
 Inv-loop points ranges sum₀ i₀ sum i = Gathered points ranges sum i
@@ -53,7 +53,7 @@ returns c =
     let l = a .before .before .before in
     let p = l .before .args .points .now in
     let cs = l .before .args .ranges .now in
-    set-empty p cs (l .before .pre) (one-fails filled p cs 0 (l .loop .i) (l .loop .inv .left) (a .before .before .loop-test .taken) (part-empty (part a) (a .area-two .result) (answered a) (in-domain a) (c .if1 .taken)))
+    set-empty (contours p (spans cs)) (one-fails filled p cs 0 (l .loop .i) (l .loop .inv .left) (a .before .before .loop-test .taken) (part-empty (part a) (a .area-two .result) (answered a) (in-domain a) (c .if1 .taken)))
 
 bits-requires : tie.Need-bits-requires Inv-loop μ-loop
 bits-requires c κs = search needs
@@ -87,7 +87,7 @@ returns-2 c =
     let l = c .before .before in
     let p = l .before .args .points .now in
     let cs = l .before .args .ranges .now in
-    set-filled p cs (l .before .pre) _ (all-pass filled p cs 0 (l .loop .i) (l .loop .inv .left) (c .before .loop-test .left))
+    set-filled (contours p (spans cs)) _ (all-pass filled p cs 0 (l .loop .i) (l .loop .inv .left) (c .before .loop-test .left))
     (toZ-ofZ (sfits-of (c .signed-64 .ok)) ∙ c .signed-64 .ensures ∙ gathered-all p cs (l .loop .inv) (c .before .loop-test .left))
 
 pub total-spec : {M : Type 1} → statement M

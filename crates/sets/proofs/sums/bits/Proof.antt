@@ -1,4 +1,4 @@
--- `sets::areas::bits` meets its contract: below 0 the bits are those of -1 - t, turned over.
+-- `sets::sums::bits` meets its contract: below 0 the bits are those of -1 - t, turned over.
 use borrow.Author.Needs.{sfits-of}
 use borrow.Author.Tests.{le-ltb}
 use mathlib.Core.Path.{_≡_, sym, _∙_, ap, subst}
@@ -12,8 +12,8 @@ use mir.Syntax.{w64}
 use mir.Val.{Fits, SFits, toZ, ofZ}
 use mir.Facts.{toZ-ofZ}
 use Rattle.integers.specs.Modulo.{mod64}
-use Rattle.sets.proofs.areas.bits.Statement.{statement}
-use Rattle.sets.proofs.areas.bits.Tie as tie
+use Rattle.sets.proofs.sums.bits.Statement.{statement}
+use Rattle.sets.proofs.sums.bits.Tie as tie
 
 -- -1 - t, of a t below 0
 mirror : ℤ → ℕ
