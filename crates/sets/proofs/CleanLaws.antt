@@ -187,63 +187,63 @@ module _ (p : List ℤ) (cs : List (List ℕ)) (l : Lent) where
               _ _ (ap (λ (x : Tested). x .reached .contours) q ∙ placed-front (l .contours) (rows (laid 0 (map count ds)))) _ _ refl
 
 -- shapes
-module _ (p : List ℤ) (cs gs : List (List ℕ)) (l : Lent) where
+module _ (p : List ℤ) (cs ss : List (List ℕ)) (l : Lent) where
   abbrev pub both-sound : Bool
-  both-sound = sound (spans cs) (count p) && sound (spans gs) (length cs)
+  both-sound = sound (spans cs) (count p) && sound (spans ss) (length cs)
 
   abbrev pub shapes-rungs : List Rung
-  shapes-rungs = rungs p cs gs both-sound l
+  shapes-rungs = rungs p cs ss both-sound l
 
-  pub shapes-first : (asked : ℕ) (roomy : Bool) (r : ℕ) → asked ≡ first-of (set p both-sound) → roomy ≡ enough p cs gs l
+  pub shapes-first : (asked : ℕ) (roomy : Bool) (r : ℕ) → asked ≡ first-of (set p both-sound) → roomy ≡ enough p cs ss l
       → r ≡ first-of (told asked ++ (scratch (count p) (length (l .next)) (length (l .prev)) (length (l .mark)) ++ room roomy)) → r ≡ first-of shapes-rungs
-  shapes-first = first-refusal p cs gs both-sound l
+  shapes-first = first-refusal p cs ss both-sound l
 
-  pub shapes-refused : (rule : Rule) (r : ℕ) → r ≡ first-of shapes-rungs → (r ≡ 0 → ⊥) → (a : CleanedSet) → a ≡ answer r 0 0 0 0 → left a l ≡ shapes-outcome rule p cs gs l
+  pub shapes-refused : (rule : Rule) (r : ℕ) → r ≡ first-of shapes-rungs → (r ≡ 0 → ⊥) → (a : CleanedSet) → a ≡ answer r 0 0 0 0 → left a l ≡ shapes-outcome rule p cs ss l
   unfolding shapes-outcome
-  shapes-refused rule r e n a f = refused p cs gs both-sound l _ r e n a f
+  shapes-refused rule r e n a f = refused p cs ss both-sound l _ r e n a f
 
-  module _ (z : first-of shapes-rungs ≡ 0) (few : length cs * 16 < 2 ^ 64) (less : length gs * 16 < 2 ^ 64) where
-    ranges-sound : (sound (spans cs) (count p) ≡ true) × (sound (spans gs) (length cs) ≡ true)
+  module _ (z : first-of shapes-rungs ≡ 0) (few : length cs * 16 < 2 ^ 64) (less : length ss * 16 < 2 ^ 64) where
+    ranges-sound : (sound (spans cs) (count p) ≡ true) × (sound (spans ss) (length cs) ≡ true)
     ranges-sound =
-        let a = set-accepted p cs gs both-sound l z .sound in
+        let a = set-accepted p cs ss both-sound l z .sound in
         (and-left (sound (spans cs) (count p)) _ a, and-right (sound (spans cs) (count p)) _ a)
 
-    all-room : Room (joined (shapes p (spans cs) (spans gs))) first-place (l .points) (l .contours)
+    all-room : Room (joined (shapes p (spans cs) (spans ss))) first-place (l .points) (l .contours)
     all-room =
-        let n : sound (spans gs) (length (spans cs)) ≡ true = ap (sound (spans gs)) (length-map cs span) ∙ ranges-sound .1 in
-        let e = a-sound-set's-shapes-laid-end-to-end-are-its-contours p (spans cs) (spans gs) (set-accepted p cs gs both-sound l z .even) (ranges-sound .0) n in
-        rw e (set-room p cs gs both-sound l z (ranges-sound .0) few)
+        let n : sound (spans ss) (length (spans cs)) ≡ true = ap (sound (spans ss)) (length-map cs span) ∙ ranges-sound .1 in
+        let e = a-sound-set's-shapes-laid-end-to-end-are-its-contours p (spans cs) (spans ss) (set-accepted p cs ss both-sound l z .even) (ranges-sound .0) n in
+        rw e (set-room p cs ss both-sound l z (ranges-sound .0) few)
 
-    pub shapes-each : Each p cs gs (take (count p) (l .next)) (take (count p) (l .prev)) (take (count p) (l .mark)) (l .points) (l .contours) (l .shapes)
+    pub shapes-each : Each p cs ss (take (count p) (l .next)) (take (count p) (l .prev)) (take (count p) (l .mark)) (l .points) (l .contours) (l .shapes)
     shapes-each = record {
-      named = set-named p cs gs both-sound l z (ranges-sound .0);
-      scratch = part-fits p cs gs both-sound l z;
-      within = λ k h. let w = range-within gs (length cs) k (ranges-sound .1) h in (w .forward, w .ends);
+      named = set-named p cs ss both-sound l z (ranges-sound .0);
+      scratch = part-fits p cs ss both-sound l z;
+      within = λ k h. let w = range-within ss (length cs) k (ranges-sound .1) h in (w .forward, w .ends);
       room = all-room;
-      space = output-fits p cs gs both-sound l z .2;
+      space = output-fits p cs ss both-sound l z .2;
       narrow = less;
     }
 
-    pub shapes-are-kept : (rule : Rule) (t : Total) (next′ prev′ mark′ : List ℕ) (out′ : List ℤ) (records′ shapes′ : List (List ℕ))
-        → grouped (t .shapes) (reached (t .place) out′ records′) shapes′ ≡ run-shapes rule (shapes p (spans cs) (spans gs)) (grouped 0 (reached first-place (l .points) (l .contours)) (l .shapes))
+    pub shapes-are-kept : (rule : Rule) (t : Total) (next′ prev′ mark′ : List ℕ) (out′ : List ℤ) (records′ groups′ : List (List ℕ))
+        → grouped (t .shapes) (reached (t .place) out′ records′) groups′ ≡ run-shapes rule (shapes p (spans cs) (spans ss)) (grouped 0 (reached first-place (l .points) (l .contours)) (l .shapes))
         → Zeroed (take (count p) (l .next)) (take (count p) (l .prev)) (take (count p) (l .mark)) next′ prev′ mark′
         → left (answer 0 (t .place .points) (t .place .contours) (t .shapes) (t .place .decisions))
-        (lent (next′ ++ drop (count p) (l .next)) (prev′ ++ drop (count p) (l .prev)) (mark′ ++ drop (count p) (l .mark)) out′ records′ shapes′)
-        ≡ shapes-outcome rule p cs gs l
+        (lent (next′ ++ drop (count p) (l .next)) (prev′ ++ drop (count p) (l .prev)) (mark′ ++ drop (count p) (l .mark)) out′ records′ groups′)
+        ≡ shapes-outcome rule p cs ss l
     unfolding shapes-outcome
-    shapes-are-kept rule t next′ prev′ mark′ out′ records′ shapes′ e s =
-        let ss = shapes p (spans cs) (spans gs) in
-        let ds = shapes-fate rule ss .shapes in
+    shapes-are-kept rule t next′ prev′ mark′ out′ records′ groups′ e s =
+        let all = shapes p (spans cs) (spans ss) in
+        let ds = shapes-fate rule all .shapes in
         let start = grouped 0 (reached first-place (l .points) (l .contours)) (l .shapes) in
-        let n : length ss ≡ length gs = length-map (spans gs) (cut (contours p (spans cs))) ∙ length-map gs span in
-        let q : grouped (t .shapes) (reached (t .place) out′ records′) shapes′ ≡ among (shapes-fate rule ss) start =
-        e ∙ shapes-after rule ss start (all-cut (contours p (spans cs)) (spans gs) (all-named p cs (shapes-each .named))) all-room (omega (arith, shapes-each .space)) in
+        let n : length all ≡ length ss = length-map (spans ss) (cut (contours p (spans cs))) ∙ length-map ss span in
+        let q : grouped (t .shapes) (reached (t .place) out′ records′) groups′ ≡ among (shapes-fate rule all) start =
+        e ∙ shapes-after rule all start (all-cut (contours p (spans cs)) (spans ss) (all-named p cs (shapes-each .named))) all-room (omega (arith, shapes-each .space)) in
         let a : t .place .points ≡ count (joined (joined ds)) = ap (λ (x : Grouped). x .reached .place .points) q ∙ omega arith in
         let b : t .place .contours ≡ length (joined ds) = ap (λ (x : Grouped). x .reached .place .contours) q ∙ omega arith in
         let c : t .shapes ≡ length ds = ap (λ (x : Grouped). x .count) q ∙ omega arith in
-        let d : t .place .decisions ≡ shapes-fate rule ss .decisions = ap (λ (x : Grouped). x .reached .place .decisions) q ∙ omega arith in
-        let f : _≡_ {A = CleanedSet} (answer 0 (t .place .points) (t .place .contours) (t .shapes) (t .place .decisions)) (answer 0 (count (joined (joined ds))) (length (joined ds)) (length ds) (shapes-fate rule ss .decisions)) = cc in
-        swept-back p cs gs both-sound l z next′ prev′ mark′ s _ _ f
+        let d : t .place .decisions ≡ shapes-fate rule all .decisions = ap (λ (x : Grouped). x .reached .place .decisions) q ∙ omega arith in
+        let f : _≡_ {A = CleanedSet} (answer 0 (t .place .points) (t .place .contours) (t .shapes) (t .place .decisions)) (answer 0 (count (joined (joined ds))) (length (joined ds)) (length ds) (shapes-fate rule all .decisions)) = cc in
+        swept-back p cs ss both-sound l z next′ prev′ mark′ s _ _ f
         _ _ (ap (λ (x : Grouped). x .reached .points) q ∙ placed-front (l .points) (joined (joined ds)))
         _ _ (ap (λ (x : Grouped). x .reached .contours) q ∙ placed-front (l .contours) (rows (laid 0 (map count (joined ds)))))
         _ _ (ap (λ (x : Grouped). x .shapes) q ∙ placed-front (l .shapes) (rows (laid 0 (map length ds))))

@@ -88,15 +88,15 @@ shape-part p cs a k =
     ∙ map-take (contour p) k (drop a (spans cs)) ∙ ap (take k) (map-drop (contour p) a (spans cs))
 
 -- the shapes of the ranges from i on are left
-pub record Grouping (rule : Rule) (p : List ℤ) (cs gs : List (List ℕ)) (out₀ : List ℤ) (records₀ shapes₀ : List (List ℕ)) (at : Total) (out : List ℤ) (records row : List (List ℕ)) (i : ℕ) : Type 0 where
-  pub high : i ≤ length gs
+pub record Grouping (rule : Rule) (p : List ℤ) (cs ss : List (List ℕ)) (out₀ : List ℤ) (records₀ groups₀ : List (List ℕ)) (at : Total) (out : List ℤ) (records groups : List (List ℕ)) (i : ℕ) : Type 0 where
+  pub high : i ≤ length ss
   pub low : at .shapes ≤ i
   pub out-long : length out ≡ length out₀
   pub records-long : length records ≡ length records₀
-  pub shapes-long : length row ≡ length shapes₀
-  pub room : Room (joined (shapes p (spans cs) (spans (drop i gs)))) (at .place) out records
-  pub is : run-shapes rule (shapes p (spans cs) (spans (drop i gs))) (grouped (at .shapes) (reached (at .place) out records) row)
-      ≡ run-shapes rule (shapes p (spans cs) (spans gs)) (grouped 0 (reached first-place out₀ records₀) shapes₀)
+  pub groups-long : length groups ≡ length groups₀
+  pub room : Room (joined (shapes p (spans cs) (spans (drop i ss)))) (at .place) out records
+  pub is : run-shapes rule (shapes p (spans cs) (spans (drop i ss))) (grouped (at .shapes) (reached (at .place) out records) groups)
+      ≡ run-shapes rule (shapes p (spans cs) (spans ss)) (grouped 0 (reached first-place out₀ records₀) groups₀)
 
 pub adding-reached : (b : Bool) (r : Reached) (s : Grouped) → adding b r s .reached ≡ r
 adding-reached true r s = refl
@@ -110,18 +110,18 @@ pub adding-long : (b : Bool) (r : Reached) (s : Grouped) → length (adding b r 
 adding-long true r s = length-set (s .shapes) (s .count) _
 adding-long false r s = refl
 
-pub grouping-none : (rule : Rule) (p : List ℤ) (cs gs : List (List ℕ)) (next prev mark : List ℕ) (out : List ℤ) (records row : List (List ℕ)) → Each p cs gs next prev mark out records row
-    → Grouping rule p cs gs out records row (record { shapes = 0; place = first-place }) out records row 0
-grouping-none rule p cs gs next prev mark out records row e = record { high = omega arith; low = omega arith; out-long = refl; records-long = refl; shapes-long = refl; room = e .room; is = refl }
+pub grouping-none : (rule : Rule) (p : List ℤ) (cs ss : List (List ℕ)) (next prev mark : List ℕ) (out : List ℤ) (records groups : List (List ℕ)) → Each p cs ss next prev mark out records groups
+    → Grouping rule p cs ss out records groups (record { shapes = 0; place = first-place }) out records groups 0
+grouping-none rule p cs ss next prev mark out records groups e = record { high = omega arith; low = omega arith; out-long = refl; records-long = refl; groups-long = refl; room = e .room; is = refl }
 
-module _ {rule : Rule} {p : List ℤ} {cs gs : List (List ℕ)} {out₀ : List ℤ} {records₀ shapes₀ : List (List ℕ)} {at : Total} {out : List ℤ} {records row : List (List ℕ)} {i : ℕ}
-    (x : Grouping rule p cs gs out₀ records₀ shapes₀ at out records row i) where
-  module _ {next₀ prev₀ mark₀ : List ℕ} (g : Each p cs gs next₀ prev₀ mark₀ out₀ records₀ shapes₀) (h : i < length gs) where
+module _ {rule : Rule} {p : List ℤ} {cs ss : List (List ℕ)} {out₀ : List ℤ} {records₀ groups₀ : List (List ℕ)} {at : Total} {out : List ℤ} {records groups : List (List ℕ)} {i : ℕ}
+    (x : Grouping rule p cs ss out₀ records₀ groups₀ at out records groups i) where
+  module _ {next₀ prev₀ mark₀ : List ℕ} (g : Each p cs ss next₀ prev₀ mark₀ out₀ records₀ groups₀) (h : i < length ss) where
     a : ℕ
-    a = span (getD gs i []) .start
+    a = span (getD ss i []) .start
 
     k : ℕ
-    k = span (getD gs i []) .end - span (getD gs i []) .start
+    k = span (getD ss i []) .end - span (getD ss i []) .start
 
     part-named : Named p (midOf a k cs)
     unfolding a k
@@ -132,16 +132,16 @@ module _ {rule : Rule} {p : List ℤ} {cs gs : List (List ℕ)} {out₀ : List �
           names-moved p cs (midOf a k cs) (a + j) j (getD-take k (drop a cs) j [] (omega arith) ∙ getD-drop a cs j []) l (g .named .names (a + j) (omega (arith, g .within i h .0, g .within i h .1)));
     }
 
-    next-is : shapes p (spans cs) (spans (drop i gs)) ≡ contours p (spans (midOf a k cs)) ∷ shapes p (spans cs) (spans (drop (suc i) gs))
+    next-is : shapes p (spans cs) (spans (drop i ss)) ≡ contours p (spans (midOf a k cs)) ∷ shapes p (spans cs) (spans (drop (suc i) ss))
     unfolding a k
-    next-is = ap (λ (l : List (List ℕ)). shapes p (spans cs) (spans l)) (drop-cons gs i [] h) ∙ ap (λ (c : List (List ℤ)). c ∷ shapes p (spans cs) (spans (drop (suc i) gs))) (sym (shape-part p cs a k))
+    next-is = ap (λ (l : List (List ℕ)). shapes p (spans cs) (spans l)) (drop-cons ss i [] h) ∙ ap (λ (c : List (List ℤ)). c ∷ shapes p (spans cs) (spans (drop (suc i) ss))) (sym (shape-part p cs a k))
 
-    next-room : Room (contours p (spans (midOf a k cs)) ++ joined (shapes p (spans cs) (spans (drop (suc i) gs)))) (at .place) out records
+    next-room : Room (contours p (spans (midOf a k cs)) ++ joined (shapes p (spans cs) (spans (drop (suc i) ss)))) (at .place) out records
     unfolding joined
     next-room = rw next-is at (x .room)
 
     pub grouping-addable : (next prev mark : List ℕ) → length next ≡ length next₀ → length prev ≡ length prev₀ → length mark ≡ length mark₀
-        → Addable p (midOf (span (getD gs i []) .start) (span (getD gs i []) .end - span (getD gs i []) .start) cs) at next prev mark out records row
+        → Addable p (midOf (span (getD ss i []) .start) (span (getD ss i []) .end - span (getD ss i []) .start) cs) at next prev mark out records groups
     unfolding a k
     grouping-addable next prev mark e f m =
         record {
@@ -150,35 +150,35 @@ module _ {rule : Rule} {p : List ℤ} {cs gs : List (List ℕ)} {out₀ : List �
             scratch = record { in-next = omega (arith, g .scratch .in-next); in-prev = omega (arith, g .scratch .in-prev); in-mark = omega (arith, g .scratch .in-mark) };
             room = room-front _ _ (at .place) out records next-room;
           };
-          space = omega (arith, g .space, x .low, x .shapes-long);
+          space = omega (arith, g .space, x .low, x .groups-long);
           narrow = omega (arith, g .narrow, x .low);
         }
 
-    pub grouping-more : (t : Total) (out′ : List ℤ) (records′ row′ : List (List ℕ))
-        → grouped (t .shapes) (reached (t .place) out′ records′) row′ ≡ added (run-shape rule (contours p (spans (midOf (span (getD gs i []) .start) (span (getD gs i []) .end - span (getD gs i []) .start) cs))) (reached (at .place) out records)) (grouped (at .shapes) (reached (at .place) out records) row)
-        → Grouping rule p cs gs out₀ records₀ shapes₀ t out′ records′ row′ (i + 1)
+    pub grouping-more : (t : Total) (out′ : List ℤ) (records′ groups′ : List (List ℕ))
+        → grouped (t .shapes) (reached (t .place) out′ records′) groups′ ≡ added (run-shape rule (contours p (spans (midOf (span (getD ss i []) .start) (span (getD ss i []) .end - span (getD ss i []) .start) cs))) (reached (at .place) out records)) (grouped (at .shapes) (reached (at .place) out records) groups)
+        → Grouping rule p cs ss out₀ records₀ groups₀ t out′ records′ groups′ (i + 1)
     unfolding a k run-shapes
-    grouping-more t out′ records′ row′ e =
+    grouping-more t out′ records′ groups′ e =
         let s = reached (at .place) out records in
         let l = contours p (spans (midOf a k cs)) in
         let u = run-shape rule l s in
-        let y = shape-leaves rule (joined (shapes p (spans cs) (spans (drop (suc i) gs)))) l s (all-named p (midOf a k cs) part-named) next-room in
+        let y = shape-leaves rule (joined (shapes p (spans cs) (spans (drop (suc i) ss)))) l s (all-named p (midOf a k cs) part-named) next-room in
         let q : reached (t .place) out′ records′ ≡ u .reached = ap (λ (w : Grouped). w .reached) e ∙ adding-reached (u .stands) (u .reached) _ in
         record {
           high = omega arith;
-          low = omega (arith, x .low, ap (λ (w : Grouped). w .count) e, adding-few (u .stands) (u .reached) (grouped (at .shapes) s row));
+          low = omega (arith, x .low, ap (λ (w : Grouped). w .count) e, adding-few (u .stands) (u .reached) (grouped (at .shapes) s groups));
           out-long = ap (λ (w : Reached). length (w .points)) q ∙ y .points-long ∙ x .out-long;
           records-long = ap (λ (w : Reached). length (w .contours)) q ∙ y .contours-long ∙ x .records-long;
-          shapes-long = ap (λ (w : Grouped). length (w .shapes)) e ∙ adding-long (u .stands) (u .reached) (grouped (at .shapes) s row) ∙ x .shapes-long;
+          groups-long = ap (λ (w : Grouped). length (w .shapes)) e ∙ adding-long (u .stands) (u .reached) (grouped (at .shapes) s groups) ∙ x .groups-long;
           room = rw (add-one i) (rw (sym q) at (leaves-room y));
-          is = rw (add-one i) (ap (run-shapes rule (shapes p (spans cs) (spans (drop (suc i) gs)))) e ∙ ap (λ (l : List (List (List ℤ))). run-shapes rule l (grouped (at .shapes) s row)) (sym next-is) ∙ x .is);
+          is = rw (add-one i) (ap (run-shapes rule (shapes p (spans cs) (spans (drop (suc i) ss)))) e ∙ ap (λ (l : List (List (List ℤ))). run-shapes rule l (grouped (at .shapes) s groups)) (sym next-is) ∙ x .is);
         }
       where
         leaves-room : {rest : List (List ℤ)} {s t : Reached} → Leaves rest s t → Room rest (t .place) (t .points) (t .contours)
         leaves-room y = y .room
 
-  pub grouping-all : length gs ≤ i → grouped (at .shapes) (reached (at .place) out records) row ≡ run-shapes rule (shapes p (spans cs) (spans gs)) (grouped 0 (reached first-place out₀ records₀) shapes₀)
+  pub grouping-all : length ss ≤ i → grouped (at .shapes) (reached (at .place) out records) groups ≡ run-shapes rule (shapes p (spans cs) (spans ss)) (grouped 0 (reached first-place out₀ records₀) groups₀)
   unfolding run-shapes
   grouping-all h =
-      let e : i ≡ length gs = omega (arith, x .high) in
-      ap (λ (l : List (List ℕ)). run-shapes rule (shapes p (spans cs) (spans l)) (grouped (at .shapes) (reached (at .place) out records) row)) (sym (ap (λ (k : ℕ). drop k gs) e ∙ drop-length gs)) ∙ x .is
+      let e : i ≡ length ss = omega (arith, x .high) in
+      ap (λ (l : List (List ℕ)). run-shapes rule (shapes p (spans cs) (spans l)) (grouped (at .shapes) (reached (at .place) out records) groups)) (sym (ap (λ (k : ℕ). drop k ss) e ∙ drop-length ss)) ∙ x .is

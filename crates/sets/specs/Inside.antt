@@ -149,16 +149,16 @@ pub record Going (p : List ℤ) (ranges : List (List ℕ)) (at : Place) (next pr
   pub room : Room (contours p (spans ranges)) at out records
 
 -- a shape that can be cleaned behind what is written
-pub record Addable (p : List ℤ) (ranges : List (List ℕ)) (at : Total) (next prev mark : List ℕ) (out : List ℤ) (records shapes : List (List ℕ)) : Type 0 where
+pub record Addable (p : List ℤ) (ranges : List (List ℕ)) (at : Total) (next prev mark : List ℕ) (out : List ℤ) (records groups : List (List ℕ)) : Type 0 where
   pub going : Going p ranges (at .place) next prev mark out records
-  pub space : at .shapes < length shapes
+  pub space : at .shapes < length groups
   pub narrow : (at .shapes + 1) * 16 < 2 ^ 64
 
 -- shapes whose contours can be cleaned one after the other, from the front of the rows on
-pub record Each (p : List ℤ) (cs gs : List (List ℕ)) (next prev mark : List ℕ) (out : List ℤ) (records row : List (List ℕ)) : Type 0 where
+pub record Each (p : List ℤ) (cs ss : List (List ℕ)) (next prev mark : List ℕ) (out : List ℤ) (records groups : List (List ℕ)) : Type 0 where
   pub named : Named p cs
   pub scratch : Scratch (count p) next prev mark
-  pub within : (k : ℕ) → k < length gs → (span (getD gs k []) .start ≤ span (getD gs k []) .end) × (span (getD gs k []) .end ≤ length cs)
-  pub room : Room (joined (shapes p (spans cs) (spans gs))) first-place out records
-  pub space : length gs ≤ length row
-  pub narrow : length gs * 16 < 2 ^ 64
+  pub within : (k : ℕ) → k < length ss → (span (getD ss k []) .start ≤ span (getD ss k []) .end) × (span (getD ss k []) .end ≤ length cs)
+  pub room : Room (joined (shapes p (spans cs) (spans ss))) first-place out records
+  pub space : length ss ≤ length groups
+  pub narrow : length ss * 16 < 2 ^ 64

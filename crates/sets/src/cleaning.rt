@@ -78,7 +78,10 @@ fn behind(
     records: &mut [[usize; 2]],
 ) -> Tried
     requires { ⌜ Placeable (now contour) at (now next) (now prev) (now mark) (now out) (now records) ⌝ }
-    ensures { λ r. ⌜ Behind rule (now (contour .entry)) (reached at (now (out .entry)) (now (records .entry))) r (now (out .exit)) (now (records .exit)) ⌝ }
+    ensures { λ r. ⌜
+        Behind rule (now (contour .entry)) (reached at (now (out .entry)) (now (records .entry)))
+        r (now (out .exit)) (now (records .exit))
+        ⌝ }
 {
     let n = contour.len() / 2;
     let start = at.points;
@@ -128,7 +131,11 @@ fn later(
     records: &mut [[usize; 2]],
 ) -> Place
     requires { ⌜ Going (now points) (now ranges) at (now next) (now prev) (now mark) (now out) (now records) ⌝ }
-    ensures { λ r. ⌜ reached r (now (out .exit)) (now (records .exit)) ≡ run rule (contours (now (points .entry)) (spans (now (ranges .entry)))) (reached at (now (out .entry)) (now (records .entry))) ⌝ }
+    ensures { λ r. ⌜
+        reached r (now (out .exit)) (now (records .exit))
+        ≡ run rule (contours (now (points .entry)) (spans (now (ranges .entry))))
+        (reached at (now (out .entry)) (now (records .entry)))
+        ⌝ }
 {
     let mut place = at;
     let mut i: usize = 0;
@@ -154,7 +161,11 @@ fn shape(
     records: &mut [[usize; 2]],
 ) -> Tried
     requires { ⌜ Going (now points) (now ranges) at (now next) (now prev) (now mark) (now out) (now records) ⌝ }
-    ensures { λ r. ⌜ tested (r .stays) (reached (r .place) (now (out .exit)) (now (records .exit))) ≡ run-shape rule (contours (now (points .entry)) (spans (now (ranges .entry)))) (reached at (now (out .entry)) (now (records .entry))) ⌝ }
+    ensures { λ r. ⌜
+        tested (r .stays) (reached (r .place) (now (out .exit)) (now (records .exit)))
+        ≡ run-shape rule (contours (now (points .entry)) (spans (now (ranges .entry))))
+        (reached at (now (out .entry)) (now (records .entry)))
+        ⌝ }
 {
     if ranges.len() == 0 {
         return Tried {
@@ -196,10 +207,16 @@ fn add_shape(
     mark: &mut [u8],
     out: &mut [i32],
     records: &mut [[usize; 2]],
-    shapes: &mut [[usize; 2]],
+    groups: &mut [[usize; 2]],
 ) -> Total
-    requires { ⌜ Addable (now points) (now ranges) at (now next) (now prev) (now mark) (now out) (now records) (now shapes) ⌝ }
-    ensures { λ r. ⌜ grouped (r .shapes) (reached (r .place) (now (out .exit)) (now (records .exit))) (now (shapes .exit)) ≡ added (run-shape rule (contours (now (points .entry)) (spans (now (ranges .entry)))) (reached (at .place) (now (out .entry)) (now (records .entry)))) (grouped (at .shapes) (reached (at .place) (now (out .entry)) (now (records .entry))) (now (shapes .entry))) ⌝ }
+    requires { ⌜ Addable (now points) (now ranges) at (now next) (now prev) (now mark) (now out) (now records) (now groups) ⌝ }
+    ensures { λ r. ⌜
+        grouped (r .shapes) (reached (r .place) (now (out .exit)) (now (records .exit))) (now (groups .exit))
+        ≡ added
+        (run-shape rule (contours (now (points .entry)) (spans (now (ranges .entry))))
+        (reached (at .place) (now (out .entry)) (now (records .entry))))
+        (grouped (at .shapes) (reached (at .place) (now (out .entry)) (now (records .entry))) (now (groups .entry)))
+        ⌝ }
 {
     let k = at.shapes;
     let place = at.place;
@@ -212,7 +229,7 @@ fn add_shape(
             place: end,
         };
     }
-    shapes[k] = [start, end.contours];
+    groups[k] = [start, end.contours];
     Total {
         shapes: k + 1,
         place: end,
@@ -223,17 +240,25 @@ fn add_shape(
 fn each(
     rule: Rule,
     points: &[i32],
-    ranges: &[[usize; 2]],
-    groups: &[[usize; 2]],
+    contours: &[[usize; 2]],
+    shapes: &[[usize; 2]],
     next: &mut [u32],
     prev: &mut [u32],
     mark: &mut [u8],
     out: &mut [i32],
     records: &mut [[usize; 2]],
-    shapes: &mut [[usize; 2]],
+    groups: &mut [[usize; 2]],
 ) -> Total
-    requires { ⌜ Each (now points) (now ranges) (now groups) (now next) (now prev) (now mark) (now out) (now records) (now shapes) ⌝ }
-    ensures { λ r. ⌜ grouped (r .shapes) (reached (r .place) (now (out .exit)) (now (records .exit))) (now (shapes .exit)) ≡ run-shapes rule (shapes-of (now (points .entry)) (spans (now (ranges .entry))) (spans (now (groups .entry)))) (grouped 0 (reached first-place (now (out .entry)) (now (records .entry))) (now (shapes .entry))) ⌝ }
+    requires { ⌜
+        Each (now points) (now contours) (now shapes) (now next) (now prev) (now mark)
+        (now out) (now records) (now groups)
+        ⌝ }
+    ensures { λ r. ⌜
+        grouped (r .shapes) (reached (r .place) (now (out .exit)) (now (records .exit))) (now (groups .exit))
+        ≡ run-shapes rule
+        (shapes-of (now (points .entry)) (spans (now (contours .entry))) (spans (now (shapes .entry))))
+        (grouped 0 (reached first-place (now (out .entry)) (now (records .entry))) (now (groups .entry)))
+        ⌝ }
 {
     let mut at = Total {
         shapes: 0,
@@ -244,20 +269,20 @@ fn each(
         },
     };
     let mut i: usize = 0;
-    while i < groups.len() {
-        let from = groups[i][0];
-        let to = groups[i][1];
+    while i < shapes.len() {
+        let from = shapes[i][0];
+        let to = shapes[i][1];
         at = add_shape(
             rule,
             points,
-            &ranges[from..to],
+            &contours[from..to],
             at,
             next,
             prev,
             mark,
             out,
             records,
-            shapes,
+            groups,
         );
         i += 1;
     }
@@ -298,8 +323,15 @@ fn sweep_shape(
     records: &mut [[usize; 2]],
 ) -> Tried
     requires { ⌜ Going (now points) (now ranges) first-place (now next) (now prev) (now mark) (now out) (now records) ⌝ }
-    ensures { λ r. ⌜ tested (r .stays) (reached (r .place) (now (out .exit)) (now (records .exit))) ≡ run-shape rule (contours (now (points .entry)) (spans (now (ranges .entry)))) (reached first-place (now (out .entry)) (now (records .entry))) ⌝ }
-    ensures { λ r. ⌜ Zeroed (now (next .entry)) (now (prev .entry)) (now (mark .entry)) (now (next .exit)) (now (prev .exit)) (now (mark .exit)) ⌝ }
+    ensures { λ r. ⌜
+        tested (r .stays) (reached (r .place) (now (out .exit)) (now (records .exit)))
+        ≡ run-shape rule (contours (now (points .entry)) (spans (now (ranges .entry))))
+        (reached first-place (now (out .entry)) (now (records .entry)))
+        ⌝ }
+    ensures { λ r. ⌜
+        Zeroed (now (next .entry)) (now (prev .entry)) (now (mark .entry))
+        (now (next .exit)) (now (prev .exit)) (now (mark .exit))
+        ⌝ }
 {
     let at = Place {
         points: 0,
@@ -324,7 +356,14 @@ pub fn clean_shape(
     out: &mut [i32],
     records: &mut [[usize; 2]],
 ) -> CleanedSet
-    ensures { λ r. ⌜ left r (lent (now (next .exit)) (now (prev .exit)) (now (mark .exit)) (now (out .exit)) (now (records .exit)) []) ≡ shape-outcome rule (now (points .entry)) (now (ranges .entry)) (lent (now (next .entry)) (now (prev .entry)) (now (mark .entry)) (now (out .entry)) (now (records .entry)) []) ⌝ }
+    ensures { λ r. ⌜
+        left r
+        (lent (now (next .exit)) (now (prev .exit)) (now (mark .exit))
+        (now (out .exit)) (now (records .exit)) [])
+        ≡ shape-outcome rule (now (points .entry)) (now (ranges .entry))
+        (lent (now (next .entry)) (now (prev .entry)) (now (mark .entry))
+        (now (out .entry)) (now (records .entry)) [])
+        ⌝ }
 {
     let n = points.len() / 2;
     let room = (points.len() <= out.len()) & (ranges.len() <= records.len());
@@ -360,30 +399,41 @@ pub fn clean_shape(
 fn sweep_shapes(
     rule: Rule,
     points: &[i32],
-    ranges: &[[usize; 2]],
-    groups: &[[usize; 2]],
+    contours: &[[usize; 2]],
+    shapes: &[[usize; 2]],
     next: &mut [u32],
     prev: &mut [u32],
     mark: &mut [u8],
     out: &mut [i32],
     records: &mut [[usize; 2]],
-    shapes: &mut [[usize; 2]],
+    groups: &mut [[usize; 2]],
 ) -> Total
-    requires { ⌜ Each (now points) (now ranges) (now groups) (now next) (now prev) (now mark) (now out) (now records) (now shapes) ⌝ }
-    ensures { λ r. ⌜ grouped (r .shapes) (reached (r .place) (now (out .exit)) (now (records .exit))) (now (shapes .exit)) ≡ run-shapes rule (shapes-of (now (points .entry)) (spans (now (ranges .entry))) (spans (now (groups .entry)))) (grouped 0 (reached first-place (now (out .entry)) (now (records .entry))) (now (shapes .entry))) ⌝ }
-    ensures { λ r. ⌜ Zeroed (now (next .entry)) (now (prev .entry)) (now (mark .entry)) (now (next .exit)) (now (prev .exit)) (now (mark .exit)) ⌝ }
+    requires { ⌜
+        Each (now points) (now contours) (now shapes) (now next) (now prev) (now mark)
+        (now out) (now records) (now groups)
+        ⌝ }
+    ensures { λ r. ⌜
+        grouped (r .shapes) (reached (r .place) (now (out .exit)) (now (records .exit))) (now (groups .exit))
+        ≡ run-shapes rule
+        (shapes-of (now (points .entry)) (spans (now (contours .entry))) (spans (now (shapes .entry))))
+        (grouped 0 (reached first-place (now (out .entry)) (now (records .entry))) (now (groups .entry)))
+        ⌝ }
+    ensures { λ r. ⌜
+        Zeroed (now (next .entry)) (now (prev .entry)) (now (mark .entry))
+        (now (next .exit)) (now (prev .exit)) (now (mark .exit))
+        ⌝ }
 {
     let at = each(
         rule,
         points,
-        ranges,
-        groups,
+        contours,
+        shapes,
         next,
         prev,
         mark,
         out,
         records,
-        shapes,
+        groups,
     );
     clean::cleaning::zero(next);
     clean::cleaning::zero(prev);
@@ -395,22 +445,29 @@ fn sweep_shapes(
 pub fn clean_shapes(
     rule: Rule,
     points: &[i32],
-    ranges: &[[usize; 2]],
-    groups: &[[usize; 2]],
+    contours: &[[usize; 2]],
+    shapes: &[[usize; 2]],
     next: &mut [u32],
     prev: &mut [u32],
     mark: &mut [u8],
     out: &mut [i32],
     records: &mut [[usize; 2]],
-    shapes: &mut [[usize; 2]],
+    groups: &mut [[usize; 2]],
 ) -> CleanedSet
-    ensures { λ r. ⌜ left r (lent (now (next .exit)) (now (prev .exit)) (now (mark .exit)) (now (out .exit)) (now (records .exit)) (now (shapes .exit))) ≡ shapes-outcome rule (now (points .entry)) (now (ranges .entry)) (now (groups .entry)) (lent (now (next .entry)) (now (prev .entry)) (now (mark .entry)) (now (out .entry)) (now (records .entry)) (now (shapes .entry))) ⌝ }
+    ensures { λ r. ⌜
+        left r
+        (lent (now (next .exit)) (now (prev .exit)) (now (mark .exit))
+        (now (out .exit)) (now (records .exit)) (now (groups .exit)))
+        ≡ shapes-outcome rule (now (points .entry)) (now (contours .entry)) (now (shapes .entry))
+        (lent (now (next .entry)) (now (prev .entry)) (now (mark .entry))
+        (now (out .entry)) (now (records .entry)) (now (groups .entry)))
+        ⌝ }
 {
     let n = points.len() / 2;
     let room = (points.len() <= out.len())
-        & (ranges.len() <= records.len())
-        & (groups.len() <= shapes.len());
-    let asked = buffer::shapes::refused(points, ranges, groups);
+        & (contours.len() <= records.len())
+        & (shapes.len() <= groups.len());
+    let asked = buffer::shapes::refused(points, contours, shapes);
     let refused = or_lacking(asked, n, next.len(), prev.len(), mark.len(), room);
     if refused != 0 {
         return nothing(refused, 0);
@@ -418,14 +475,14 @@ pub fn clean_shapes(
     let at = sweep_shapes(
         rule,
         points,
-        ranges,
-        groups,
+        contours,
+        shapes,
         &mut next[..n],
         &mut prev[..n],
         &mut mark[..n],
         out,
         records,
-        shapes,
+        groups,
     );
     let place = at.place;
     CleanedSet {

@@ -27,7 +27,14 @@ pub fn despiked_shape(
     out: &mut [i32],
     records: &mut [[usize; 2]],
 ) -> CleanedSet
-    ensures { λ r. ⌜ left r (lent (now (next .exit)) (now (prev .exit)) (now (mark .exit)) (now (out .exit)) (now (records .exit)) []) ≡ shape-outcome R.Rule.Spike (now (points .entry)) (now (ranges .entry)) (lent (now (next .entry)) (now (prev .entry)) (now (mark .entry)) (now (out .entry)) (now (records .entry)) []) ⌝ }
+    ensures { λ r. ⌜
+        left r
+        (lent (now (next .exit)) (now (prev .exit)) (now (mark .exit))
+        (now (out .exit)) (now (records .exit)) [])
+        ≡ shape-outcome R.Rule.Spike (now (points .entry)) (now (ranges .entry))
+        (lent (now (next .entry)) (now (prev .entry)) (now (mark .entry))
+        (now (out .entry)) (now (records .entry)) [])
+        ⌝ }
 {
     cleaning::clean_shape(Rule::Spike, points, ranges, next, prev, mark, out, records)
 }
@@ -35,27 +42,34 @@ pub fn despiked_shape(
 // The shapes without their spikes.
 pub fn despiked_shapes(
     points: &[i32],
-    ranges: &[[usize; 2]],
-    groups: &[[usize; 2]],
+    contours: &[[usize; 2]],
+    shapes: &[[usize; 2]],
     next: &mut [u32],
     prev: &mut [u32],
     mark: &mut [u8],
     out: &mut [i32],
     records: &mut [[usize; 2]],
-    shapes: &mut [[usize; 2]],
+    groups: &mut [[usize; 2]],
 ) -> CleanedSet
-    ensures { λ r. ⌜ left r (lent (now (next .exit)) (now (prev .exit)) (now (mark .exit)) (now (out .exit)) (now (records .exit)) (now (shapes .exit))) ≡ shapes-outcome R.Rule.Spike (now (points .entry)) (now (ranges .entry)) (now (groups .entry)) (lent (now (next .entry)) (now (prev .entry)) (now (mark .entry)) (now (out .entry)) (now (records .entry)) (now (shapes .entry))) ⌝ }
+    ensures { λ r. ⌜
+        left r
+        (lent (now (next .exit)) (now (prev .exit)) (now (mark .exit))
+        (now (out .exit)) (now (records .exit)) (now (groups .exit)))
+        ≡ shapes-outcome R.Rule.Spike (now (points .entry)) (now (contours .entry)) (now (shapes .entry))
+        (lent (now (next .entry)) (now (prev .entry)) (now (mark .entry))
+        (now (out .entry)) (now (records .entry)) (now (groups .entry)))
+        ⌝ }
 {
     cleaning::clean_shapes(
         Rule::Spike,
         points,
-        ranges,
-        groups,
+        contours,
+        shapes,
         next,
         prev,
         mark,
         out,
         records,
-        shapes,
+        groups,
     )
 }

@@ -16,7 +16,14 @@ pub extern "C" fn ukm_simplified_shape(
     out: &mut [i32],
     records: &mut [[usize; 2]],
 ) -> CleanedSet
-    ensures { λ r. ⌜ left r (lent (now (next .exit)) (now (prev .exit)) (now (mark .exit)) (now (out .exit)) (now (records .exit)) []) ≡ shape-outcome R.Rule.Collinear (now (points .entry)) (now (ranges .entry)) (lent (now (next .entry)) (now (prev .entry)) (now (mark .entry)) (now (out .entry)) (now (records .entry)) []) ⌝ }
+    ensures { λ r. ⌜
+        left r
+        (lent (now (next .exit)) (now (prev .exit)) (now (mark .exit))
+        (now (out .exit)) (now (records .exit)) [])
+        ≡ shape-outcome R.Rule.Collinear (now (points .entry)) (now (ranges .entry))
+        (lent (now (next .entry)) (now (prev .entry)) (now (mark .entry))
+        (now (out .entry)) (now (records .entry)) [])
+        ⌝ }
 {
     sets::simple::simplified_shape(points, ranges, next, prev, mark, out, records)
 }
@@ -32,7 +39,14 @@ pub extern "C" fn ukm_despiked_shape(
     out: &mut [i32],
     records: &mut [[usize; 2]],
 ) -> CleanedSet
-    ensures { λ r. ⌜ left r (lent (now (next .exit)) (now (prev .exit)) (now (mark .exit)) (now (out .exit)) (now (records .exit)) []) ≡ shape-outcome R.Rule.Spike (now (points .entry)) (now (ranges .entry)) (lent (now (next .entry)) (now (prev .entry)) (now (mark .entry)) (now (out .entry)) (now (records .entry)) []) ⌝ }
+    ensures { λ r. ⌜
+        left r
+        (lent (now (next .exit)) (now (prev .exit)) (now (mark .exit))
+        (now (out .exit)) (now (records .exit)) [])
+        ≡ shape-outcome R.Rule.Spike (now (points .entry)) (now (ranges .entry))
+        (lent (now (next .entry)) (now (prev .entry)) (now (mark .entry))
+        (now (out .entry)) (now (records .entry)) [])
+        ⌝ }
 {
     sets::despike::despiked_shape(points, ranges, next, prev, mark, out, records)
 }
@@ -41,27 +55,34 @@ pub extern "C" fn ukm_despiked_shape(
 #[no_mangle]
 pub extern "C" fn ukm_simplified_shapes(
     points: &[i32],
-    ranges: &[[usize; 2]],
-    groups: &[[usize; 2]],
+    contours: &[[usize; 2]],
+    shapes: &[[usize; 2]],
     next: &mut [u32],
     prev: &mut [u32],
     mark: &mut [u8],
     out: &mut [i32],
     records: &mut [[usize; 2]],
-    shapes: &mut [[usize; 2]],
+    groups: &mut [[usize; 2]],
 ) -> CleanedSet
-    ensures { λ r. ⌜ left r (lent (now (next .exit)) (now (prev .exit)) (now (mark .exit)) (now (out .exit)) (now (records .exit)) (now (shapes .exit))) ≡ shapes-outcome R.Rule.Collinear (now (points .entry)) (now (ranges .entry)) (now (groups .entry)) (lent (now (next .entry)) (now (prev .entry)) (now (mark .entry)) (now (out .entry)) (now (records .entry)) (now (shapes .entry))) ⌝ }
+    ensures { λ r. ⌜
+        left r
+        (lent (now (next .exit)) (now (prev .exit)) (now (mark .exit))
+        (now (out .exit)) (now (records .exit)) (now (groups .exit)))
+        ≡ shapes-outcome R.Rule.Collinear (now (points .entry)) (now (contours .entry)) (now (shapes .entry))
+        (lent (now (next .entry)) (now (prev .entry)) (now (mark .entry))
+        (now (out .entry)) (now (records .entry)) (now (groups .entry)))
+        ⌝ }
 {
     sets::simple::simplified_shapes(
         points,
-        ranges,
-        groups,
+        contours,
+        shapes,
         next,
         prev,
         mark,
         out,
         records,
-        shapes,
+        groups,
     )
 }
 
@@ -69,26 +90,33 @@ pub extern "C" fn ukm_simplified_shapes(
 #[no_mangle]
 pub extern "C" fn ukm_despiked_shapes(
     points: &[i32],
-    ranges: &[[usize; 2]],
-    groups: &[[usize; 2]],
+    contours: &[[usize; 2]],
+    shapes: &[[usize; 2]],
     next: &mut [u32],
     prev: &mut [u32],
     mark: &mut [u8],
     out: &mut [i32],
     records: &mut [[usize; 2]],
-    shapes: &mut [[usize; 2]],
+    groups: &mut [[usize; 2]],
 ) -> CleanedSet
-    ensures { λ r. ⌜ left r (lent (now (next .exit)) (now (prev .exit)) (now (mark .exit)) (now (out .exit)) (now (records .exit)) (now (shapes .exit))) ≡ shapes-outcome R.Rule.Spike (now (points .entry)) (now (ranges .entry)) (now (groups .entry)) (lent (now (next .entry)) (now (prev .entry)) (now (mark .entry)) (now (out .entry)) (now (records .entry)) (now (shapes .entry))) ⌝ }
+    ensures { λ r. ⌜
+        left r
+        (lent (now (next .exit)) (now (prev .exit)) (now (mark .exit))
+        (now (out .exit)) (now (records .exit)) (now (groups .exit)))
+        ≡ shapes-outcome R.Rule.Spike (now (points .entry)) (now (contours .entry)) (now (shapes .entry))
+        (lent (now (next .entry)) (now (prev .entry)) (now (mark .entry))
+        (now (out .entry)) (now (records .entry)) (now (groups .entry)))
+        ⌝ }
 {
     sets::despike::despiked_shapes(
         points,
-        ranges,
-        groups,
+        contours,
+        shapes,
         next,
         prev,
         mark,
         out,
         records,
-        shapes,
+        groups,
     )
 }

@@ -26,13 +26,13 @@ same-length-5 c = c .before .before .before .before .before .before .before .bef
 returns : tie.Need-returns
 returns c =
     let s = c .before .before .before .before .before .before .before .before .before .before .before .before .before .before .before .before .before .before .before .before .before in
-    added-fallen _ _ _ (c .before .before .before .before .before .before .before .before .before .before .before .shape .ensures) (grouped (s .args .at .shapes) (reached (s .args .at .place) (s .args .out .now) (s .args .records .now)) (s .args .shapes .now)) (c .if1 .taken)
+    added-fallen _ _ _ (c .before .before .before .before .before .before .before .before .before .before .before .shape .ensures) (grouped (s .args .at .shapes) (reached (s .args .at .place) (s .args .out .now) (s .args .records .now)) (s .args .groups .now)) (c .if1 .taken)
 
 mul-t28 : tie.Need-mul-t28
 mul-t28 c = search needs
 
-slice-set-from-shapes : tie.Need-slice-set-from-shapes
-slice-set-from-shapes c = search needs
+slice-set-from-groups : tie.Need-slice-set-from-groups
+slice-set-from-groups c = search needs
 
 add-t28 : tie.Need-add-t28
 add-t28 c = search needs
@@ -58,7 +58,7 @@ same-length-11 c = search needs
 returns-2 : tie.Need-returns-2
 returns-2 c =
     let s = c .before .before .before .before .before .before .before .before .before .before .before .before .before .before .before .before .before .before .before .before .before in
-    added-standing _ _ _ (c .before .before .before .before .before .before .before .before .before .before .before .shape .ensures) (grouped (s .args .at .shapes) (reached (s .args .at .place) (s .args .out .now) (s .args .records .now)) (s .args .shapes .now)) (c .if1 .left)
+    added-standing _ _ _ (c .before .before .before .before .before .before .before .before .before .before .before .shape .ensures) (grouped (s .args .at .shapes) (reached (s .args .at .place) (s .args .out .now) (s .args .records .now)) (s .args .groups .now)) (c .if1 .left)
 
 pub add-shape-spec : {M : Type 1} → statement M
 add-shape-spec =
@@ -72,7 +72,7 @@ add-shape-spec =
     same-length-5
     returns
     mul-t28
-    slice-set-from-shapes
+    slice-set-from-groups
     add-t28
     same-length-6
     same-length-7

@@ -15,23 +15,23 @@ use Rattle.sets.proofs.cleaning.clean_shapes.Statement.{statement}
 use Rattle.sets.proofs.cleaning.clean_shapes.Tie as tie
 
 abbrev rows-of : tie.Start → Lent
-rows-of s = lent (s .args .next .now) (s .args .prev .now) (s .args .mark .now) (s .args .out .now) (s .args .records .now) (s .args .shapes .now)
+rows-of s = lent (s .args .next .now) (s .args .prev .now) (s .args .mark .now) (s .args .out .now) (s .args .records .now) (s .args .groups .now)
 
 -- what is not refused
-clear-of : (c : tie.Else1) → let s = c .before .before .before .before .before .before in first-of (shapes-rungs (s .args .points .now) (s .args .ranges .now) (s .args .groups .now) (rows-of s)) ≡ 0
+clear-of : (c : tie.Else1) → let s = c .before .before .before .before .before .before in first-of (shapes-rungs (s .args .points .now) (s .args .contours .now) (s .args .shapes .now) (rows-of s)) ≡ 0
 clear-of c =
     let s = c .before .before .before .before .before .before in
-    sym (shapes-first (s .args .points .now) (s .args .ranges .now) (s .args .groups .now) (rows-of s) _ _ _ (c .before .before .refused .ensures) refl (c .before .or-lacking .ensures)) ∙ c .if1 .left
+    sym (shapes-first (s .args .points .now) (s .args .contours .now) (s .args .shapes .now) (rows-of s) _ _ _ (c .before .before .refused .ensures) refl (c .before .or-lacking .ensures)) ∙ c .if1 .left
 
 fits-of : (c : tie.Else1) → let s = c .before .before .before .before .before .before in Scratch (count (s .args .points .now)) (s .args .next .now) (s .args .prev .now) (s .args .mark .now)
 fits-of c =
     let s = c .before .before .before .before .before .before in
-    scratch-fits (s .args .points .now) (s .args .ranges .now) (s .args .groups .now) (both-sound (s .args .points .now) (s .args .ranges .now) (s .args .groups .now) (rows-of s)) (rows-of s) (clear-of c)
+    scratch-fits (s .args .points .now) (s .args .contours .now) (s .args .shapes .now) (both-sound (s .args .points .now) (s .args .contours .now) (s .args .shapes .now) (rows-of s)) (rows-of s) (clear-of c)
 
-few-of : (c : tie.Else1) → length (c .before .before .before .before .before .before .args .ranges .now) * 16 < 2 ^ 64
+few-of : (c : tie.Else1) → length (c .before .before .before .before .before .before .args .contours .now) * 16 < 2 ^ 64
 few-of c = omega arith
 
-less-of : (c : tie.Else1) → length (c .before .before .before .before .before .before .args .groups .now) * 16 < 2 ^ 64
+less-of : (c : tie.Else1) → length (c .before .before .before .before .before .before .args .shapes .now) * 16 < 2 ^ 64
 less-of c = omega arith
 
 refused-requires : tie.Need-refused-requires
@@ -46,8 +46,8 @@ nothing-requires c κs = search needs
 returns : tie.Need-returns
 returns c =
     let s = c .before .before .before .before .before .before .before in
-    shapes-refused (s .args .points .now) (s .args .ranges .now) (s .args .groups .now) (rows-of s) (s .args .rule) _
-    (shapes-first (s .args .points .now) (s .args .ranges .now) (s .args .groups .now) (rows-of s) _ _ _ (c .before .before .before .refused .ensures) refl (c .before .before .or-lacking .ensures))
+    shapes-refused (s .args .points .now) (s .args .contours .now) (s .args .shapes .now) (rows-of s) (s .args .rule) _
+    (shapes-first (s .args .points .now) (s .args .contours .now) (s .args .shapes .now) (rows-of s) _ _ _ (c .before .before .before .refused .ensures) refl (c .before .before .or-lacking .ensures))
     (c .before .if1 .taken) _ (c .nothing .ensures)
 
 slice-relend-prefix-sweep-shapes : tie.Need-slice-relend-prefix-sweep-shapes
@@ -72,7 +72,7 @@ sweep-shapes-requires : tie.Need-sweep-shapes-requires
 sweep-shapes-requires c κs =
     let s = c .before .before .before .before .before .before .before .before .before .before .before .before in
     let e = c .before .before .before .before .before .before in
-    shapes-each (s .args .points .now) (s .args .ranges .now) (s .args .groups .now) (rows-of s) (clear-of e) (few-of e) (less-of e)
+    shapes-each (s .args .points .now) (s .args .contours .now) (s .args .shapes .now) (rows-of s) (clear-of e) (few-of e) (less-of e)
 
 same-length : tie.Need-same-length
 same-length c =
@@ -106,7 +106,7 @@ returns-2 c =
     let s = c .before .before .before .before .before .before .before .before .before .before .before .before .before .before .before .before .before .before .before .before .before .before .before in
     let w = c .before .before .before .before .before .before .before .before .before .before in
     let e = c .before .before .before .before .before .before .before .before .before .before .before .before .before .before .before .before .before in
-    shapes-are-kept (s .args .points .now) (s .args .ranges .now) (s .args .groups .now) (rows-of s) (clear-of e) (few-of e) (less-of e) (s .args .rule) (w .sweep-shapes .result) _ _ _ _ _ _ (w .sweep-shapes .ensures .0) (w .sweep-shapes .ensures .1)
+    shapes-are-kept (s .args .points .now) (s .args .contours .now) (s .args .shapes .now) (rows-of s) (clear-of e) (few-of e) (less-of e) (s .args .rule) (w .sweep-shapes .result) _ _ _ _ _ _ (w .sweep-shapes .ensures .0) (w .sweep-shapes .ensures .1)
 
 pub clean-shapes-spec : {M : Type 1} → statement M
 clean-shapes-spec =

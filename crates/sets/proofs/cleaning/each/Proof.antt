@@ -9,13 +9,13 @@ use Rattle.sets.proofs.cleaning.each.Statement.{statement}
 use Rattle.sets.proofs.cleaning.each.Tie as tie
 
 abbrev Inv-loop : tie.InvT-loop
-Inv-loop rule points ranges groups next₀ prev₀ mark₀ out₀ records₀ shapes₀ at₀ i₀ next prev mark out records shapes at i =
-    Grouping rule points ranges groups out₀ records₀ shapes₀ at out records shapes i
+Inv-loop rule points contours shapes next₀ prev₀ mark₀ out₀ records₀ groups₀ at₀ i₀ next prev mark out records groups at i =
+    Grouping rule points contours shapes out₀ records₀ groups₀ at out records groups i
     × (length next ≡ length next₀) × (length prev ≡ length prev₀) × (length mark ≡ length mark₀)
 
 abbrev μ-loop : tie.MeasureT-loop
-μ-loop rule points ranges groups next₀ prev₀ mark₀ out₀ records₀ shapes₀ at₀ i₀ next prev mark out records shapes at i =
-    length groups - i
+μ-loop rule points contours shapes next₀ prev₀ mark₀ out₀ records₀ groups₀ at₀ i₀ next prev mark out records groups at i =
+    length shapes - i
 
 loop-holds : tie.Need-loop-holds Inv-loop μ-loop
 loop-holds c = (grouping-none _ _ _ _ _ _ _ _ _ _ (c .before .before .before .pre), refl, refl, refl)
@@ -86,7 +86,7 @@ same-length-5 : tie.Need-same-length-5 Inv-loop μ-loop
 same-length-5 c = c .before .loop .inv .0 .records-long
 
 same-length-6 : tie.Need-same-length-6 Inv-loop μ-loop
-same-length-6 c = c .before .loop .inv .0 .shapes-long
+same-length-6 c = c .before .loop .inv .0 .groups-long
 
 returns : tie.Need-returns Inv-loop μ-loop
 returns c = grouping-all (c .before .loop .inv .0) (c .loop-test .left)
