@@ -2,7 +2,10 @@ use std::error::Error;
 use std::fmt;
 
 /// Why there is no answer: the library's reply, where it is not 0.
-#[derive(Debug, Clone, Copy, PartialEq, Eq)]
+///
+/// `{:?}` prints the same words as `{}`, since that is what a `main` that answers a `Result` shows to a person.
+#[derive(Clone, Copy, PartialEq, Eq)]
+#[non_exhaustive]
 pub enum Refused {
     /// 1
     Odd,
@@ -28,6 +31,8 @@ pub enum Refused {
     NoShape,
     /// 12
     CantCarry,
+    /// A number that a later library has, and that this crate has no name for.
+    Unknown { reply: u32 },
 }
 
 impl Refused {
@@ -46,6 +51,7 @@ impl Refused {
             Refused::Length => 10,
             Refused::NoShape => 11,
             Refused::CantCarry => 12,
+            Refused::Unknown { reply } => reply,
         }
     }
 
@@ -65,7 +71,7 @@ impl Refused {
             10 => Refused::Length,
             11 => Refused::NoShape,
             12 => Refused::CantCarry,
-            other => unreachable!("the library has no reply {other}"),
+            reply => Refused::Unknown { reply },
         })
     }
 }
@@ -82,18 +88,61 @@ impl fmt::Display for Refused {
             Refused::Collapsed { decisions } => {
                 return write!(
                     f,
-                    "collapsed: fewer than three points would stay, after {decisions} decisions"
+                    "collapsed: fewer than three points would stay (decisions made: {decisions})"
                 );
             }
-            Refused::Empty => "the area or the winding of an empty contour",
+            Refused::Empty => {
+                "the area or the winding of an empty contour, or the area of a set that has one"
+            }
             Refused::Edition => "a file whose edition is not 1",
             Refused::Length => "a file that is short or has bytes left over",
             Refused::NoShape => "a file whose first contour does not begin a shape",
             Refused::CantCarry => {
                 "a set that no file carries: over 4,095 contours, over 32,767 points in one, or an empty shape"
             }
+            Refused::Unknown { reply } => {
+                return write!(f, "the library's reply {reply}, which has no words here");
+            }
         })
     }
 }
 
+impl fmt::Debug for Refused {
+    fn fmt(&self, f: &mut fmt::Formatter<'_>) -> fmt::Result {
+        fmt::Display::fmt(self, f)
+    }
+}
+
 impl Error for Refused {}
+
+#[cfg(test)]
+mod tests {
+    use super::Refused;
+
+    #[test]
+    fn every_number_is_read_back() {
+        assert_eq!(Refused::read(0, 0), Ok(()));
+        for reply in 1..=u32::from(u8::MAX) {
+            assert_eq!(Refused::read(reply, 0).map_err(Refused::number), Err(reply));
+        }
+    }
+
+    #[test]
+    fn debug_is_words() {
+        for reply in 1..=13 {
+            let refused = Refused::read(reply, 0).unwrap_err();
+            assert_eq!(format!("{refused:?}"), refused.to_string());
+            assert!(refused.to_string().contains(' '));
+        }
+    }
+
+    #[test]
+    fn a_number_without_words_is_printed() {
+        let refused = Refused::read(99, 0).unwrap_err();
+        assert_eq!(refused, Refused::Unknown { reply: 99 });
+        assert_eq!(
+            refused.to_string(),
+            "the library's reply 99, which has no words here"
+        );
+    }
+}

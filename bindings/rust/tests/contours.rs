@@ -143,8 +143,9 @@ fn a_refusal_in_words() {
     let collapsed = Refused::Collapsed { decisions: 1 };
     assert_eq!(
         collapsed.to_string(),
-        "collapsed: fewer than three points would stay, after 1 decisions"
+        "collapsed: fewer than three points would stay (decisions made: 1)"
     );
     assert_eq!(collapsed.number(), 7);
+    assert_eq!(format!("{collapsed:?}"), collapsed.to_string());
     let _: Box<dyn std::error::Error> = collapsed.into();
 }
