@@ -1,6 +1,6 @@
 use crate::int::point::IntPoint;
 use crate::int::shape::{IntContour, IntShape, IntShapes};
-use crate::library::{self, Scratch};
+use crate::library::{self, Scratch, MOST};
 use crate::refused::Refused;
 use crate::Cleaned;
 
@@ -23,9 +23,10 @@ pub struct FlatShapesBuffer {
 }
 
 impl FlatContoursBuffer {
+    /// Takes room for so many points, but for no more than the 65,536 that a set may have.
     pub fn with_capacity(capacity: usize) -> Self {
         FlatContoursBuffer {
-            points: Vec::with_capacity(capacity),
+            points: Vec::with_capacity(capacity.min(MOST)),
             ranges: Vec::new(),
         }
     }
@@ -76,17 +77,16 @@ impl FlatContoursBuffer {
         Ok(())
     }
 
+    /// Takes room for so many of each, but for no more than 65,536.
     pub fn clear_and_reserve(&mut self, points: usize, contours: usize) {
-        self.points.clear();
-        self.points.reserve(points);
-        self.ranges.clear();
-        self.ranges.reserve(contours);
+        clear_and_reserve(&mut self.points, points);
+        clear_and_reserve(&mut self.ranges, contours);
     }
 
     /// Adds one contour. The whole set is written anew: make a large one by `set_with_shape`.
     pub fn add_contour(&mut self, contour: &[IntPoint]) -> Result<(), Refused> {
         let mut set =
-            FlatContoursBuffer::rows(self.points.len() + contour.len(), self.ranges.len() + 1);
+            FlatContoursBuffer::rows(self.points.len() + contour.len(), self.ranges.len() + 1)?;
         library::add_contour(
             &self.points,
             &self.ranges,
@@ -99,7 +99,9 @@ impl FlatContoursBuffer {
         Ok(())
     }
 
+    /// The contours by themselves. Refused as `TooMany` or `Ranges`; where the points lie is not asked.
     pub fn to_contours(&self) -> Result<Vec<IntContour>, Refused> {
+        library::at_most(self.points.len())?;
         check_sound(&self.ranges, self.points.len())?;
         Ok(self.contours())
     }
@@ -121,7 +123,7 @@ impl FlatContoursBuffer {
 
     /// The set, as a shape, simplified: see [`SimpleShape`](crate::int::simple::SimpleShape).
     pub fn simplified(&self) -> Result<Cleaned<FlatContoursBuffer>, Refused> {
-        let mut out = FlatContoursBuffer::rows(self.points.len(), self.ranges.len());
+        let mut out = FlatContoursBuffer::rows(self.points.len(), self.ranges.len())?;
         library::simplified_shape(
             &self.points,
             &self.ranges,
@@ -134,7 +136,7 @@ impl FlatContoursBuffer {
 
     /// The set, as a shape, despiked: see [`DeSpikeShape`](crate::int::despike::DeSpikeShape).
     pub fn despiked_shape(&self) -> Result<Cleaned<FlatContoursBuffer>, Refused> {
-        let mut out = FlatContoursBuffer::rows(self.points.len(), self.ranges.len());
+        let mut out = FlatContoursBuffer::rows(self.points.len(), self.ranges.len())?;
         library::despiked_shape(
             &self.points,
             &self.ranges,
@@ -146,14 +148,15 @@ impl FlatContoursBuffer {
     }
 
     /// The contours end to end, as they are.
-    pub(crate) fn of_shape(shape: &[IntContour]) -> Self {
-        let mut set = FlatContoursBuffer::default();
-        for contour in shape {
-            let start = set.points.len();
-            set.points.extend_from_slice(contour);
-            set.ranges.push([start, set.points.len()]);
-        }
-        set
+    pub(crate) fn of_shape(shape: &[IntContour]) -> Result<Self, Refused> {
+        let points = points_in(shape);
+        library::at_most(points)?;
+        let mut set = FlatContoursBuffer {
+            points: Vec::with_capacity(points),
+            ranges: Vec::with_capacity(shape.len()),
+        };
+        append(shape, &mut set.points, &mut set.ranges);
+        Ok(set)
     }
 
     /// The contours of sound ranges.
@@ -161,21 +164,21 @@ impl FlatContoursBuffer {
         parts(&self.points, &self.ranges)
     }
 
-    fn rows(points: usize, contours: usize) -> Self {
-        FlatContoursBuffer {
-            points: vec![IntPoint::ZERO; points],
+    /// Rows to be lent for so many points and contours.
+    fn rows(points: usize, contours: usize) -> Result<Self, Refused> {
+        Ok(FlatContoursBuffer {
+            points: library::room(points)?,
             ranges: vec![[0, 0]; contours],
-        }
+        })
     }
 }
 
 impl FlatShapesBuffer {
+    /// Takes room for so many of each, but for no more than 65,536.
     pub fn with_capacity(points: usize, contours: usize, shapes: usize) -> Self {
-        FlatShapesBuffer {
-            points: Vec::with_capacity(points),
-            contour_ranges: Vec::with_capacity(contours),
-            shape_ranges: Vec::with_capacity(shapes),
-        }
+        let mut set = FlatShapesBuffer::default();
+        set.clear_and_reserve(points, contours, shapes);
+        set
     }
 
     pub fn is_empty(&self) -> bool {
@@ -185,7 +188,7 @@ impl FlatShapesBuffer {
     /// Becomes the set of one shape of one contour; stays as it is where that is refused, as with every `set_with` and
     /// `add`.
     pub fn set_with_contour(&mut self, contour: &[IntPoint]) -> Result<(), Refused> {
-        let mut set = FlatShapesBuffer::rows(contour.len(), 1, 1);
+        let mut set = FlatShapesBuffer::rows(contour.len(), 1, 1)?;
         library::pack_contour(
             contour,
             &mut set.points,
@@ -198,8 +201,8 @@ impl FlatShapesBuffer {
     }
 
     pub fn set_with_shape(&mut self, shape: &[IntContour]) -> Result<(), Refused> {
-        let from = FlatContoursBuffer::of_shape(shape);
-        let mut set = FlatShapesBuffer::rows(from.points.len(), from.ranges.len(), 1);
+        let from = FlatContoursBuffer::of_shape(shape)?;
+        let mut set = FlatShapesBuffer::rows(from.points.len(), from.ranges.len(), 1)?;
         library::pack_shape(
             &from.points,
             &from.ranges,
@@ -213,8 +216,8 @@ impl FlatShapesBuffer {
     }
 
     pub fn set_with_shapes(&mut self, shapes: &[IntShape]) -> Result<(), Refused> {
-        let from = FlatShapesBuffer::of_shapes(shapes);
-        let mut set = from.rows_alike();
+        let from = FlatShapesBuffer::of_shapes(shapes)?;
+        let mut set = from.rows_alike()?;
         library::pack_shapes(
             &from.points,
             &from.contour_ranges,
@@ -228,23 +231,21 @@ impl FlatShapesBuffer {
         Ok(())
     }
 
+    /// Takes room for so many of each, but for no more than 65,536.
     pub fn clear_and_reserve(&mut self, points: usize, contours: usize, shapes: usize) {
-        self.points.clear();
-        self.points.reserve(points);
-        self.contour_ranges.clear();
-        self.contour_ranges.reserve(contours);
-        self.shape_ranges.clear();
-        self.shape_ranges.reserve(shapes);
+        clear_and_reserve(&mut self.points, points);
+        clear_and_reserve(&mut self.contour_ranges, contours);
+        clear_and_reserve(&mut self.shape_ranges, shapes);
     }
 
     /// Adds one shape. The whole set is written anew: make a large one by `set_with_shapes`.
     pub fn add_shape(&mut self, shape: &[IntContour]) -> Result<(), Refused> {
-        let more = FlatContoursBuffer::of_shape(shape);
         let mut set = FlatShapesBuffer::rows(
-            self.points.len() + more.points.len(),
-            self.contour_ranges.len() + more.ranges.len(),
+            self.points.len() + points_in(shape),
+            self.contour_ranges.len() + shape.len(),
             self.shape_ranges.len() + 1,
-        );
+        )?;
+        let more = FlatContoursBuffer::of_shape(shape)?;
         library::add_shape(
             &self.points,
             &self.contour_ranges,
@@ -260,7 +261,9 @@ impl FlatShapesBuffer {
         Ok(())
     }
 
+    /// The shapes by themselves. Refused as `TooMany` or `Ranges`; where the points lie is not asked.
     pub fn to_shapes(&self) -> Result<IntShapes, Refused> {
+        library::at_most(self.points.len())?;
         check_sound(&self.contour_ranges, self.points.len())?;
         check_sound(&self.shape_ranges, self.contour_ranges.len())?;
         Ok(self.shapes())
@@ -278,7 +281,7 @@ impl FlatShapesBuffer {
 
     /// The shapes, each simplified: see [`SimpleShapes`](crate::int::simple::SimpleShapes).
     pub fn simplified(&self) -> Result<Cleaned<FlatShapesBuffer>, Refused> {
-        let mut out = self.rows_alike();
+        let mut out = self.rows_alike()?;
         library::simplified_shapes(
             &self.points,
             &self.contour_ranges,
@@ -293,7 +296,7 @@ impl FlatShapesBuffer {
 
     /// The shapes, each despiked: see [`DeSpikeShapes`](crate::int::despike::DeSpikeShapes).
     pub fn despiked_shapes(&self) -> Result<Cleaned<FlatShapesBuffer>, Refused> {
-        let mut out = self.rows_alike();
+        let mut out = self.rows_alike()?;
         library::despiked_shapes(
             &self.points,
             &self.contour_ranges,
@@ -307,18 +310,20 @@ impl FlatShapesBuffer {
     }
 
     /// The shapes end to end, as they are.
-    pub(crate) fn of_shapes(shapes: &[IntShape]) -> Self {
-        let mut set = FlatShapesBuffer::default();
+    pub(crate) fn of_shapes(shapes: &[IntShape]) -> Result<Self, Refused> {
+        let points = shapes.iter().map(|shape| points_in(shape)).sum();
+        library::at_most(points)?;
+        let mut set = FlatShapesBuffer {
+            points: Vec::with_capacity(points),
+            contour_ranges: Vec::with_capacity(shapes.iter().map(Vec::len).sum()),
+            shape_ranges: Vec::with_capacity(shapes.len()),
+        };
         for shape in shapes {
             let start = set.contour_ranges.len();
-            for contour in shape {
-                let first = set.points.len();
-                set.points.extend_from_slice(contour);
-                set.contour_ranges.push([first, set.points.len()]);
-            }
+            append(shape, &mut set.points, &mut set.contour_ranges);
             set.shape_ranges.push([start, set.contour_ranges.len()]);
         }
-        set
+        Ok(set)
     }
 
     /// The shapes of sound ranges.
@@ -336,7 +341,7 @@ impl FlatShapesBuffer {
         }
     }
 
-    fn rows_alike(&self) -> Self {
+    fn rows_alike(&self) -> Result<Self, Refused> {
         FlatShapesBuffer::rows(
             self.points.len(),
             self.contour_ranges.len(),
@@ -344,12 +349,31 @@ impl FlatShapesBuffer {
         )
     }
 
-    pub(crate) fn rows(points: usize, contours: usize, shapes: usize) -> Self {
-        FlatShapesBuffer {
-            points: vec![IntPoint::ZERO; points],
+    /// Rows to be lent for so many points, contours and shapes.
+    pub(crate) fn rows(points: usize, contours: usize, shapes: usize) -> Result<Self, Refused> {
+        Ok(FlatShapesBuffer {
+            points: library::room(points)?,
             contour_ranges: vec![[0, 0]; contours],
             shape_ranges: vec![[0, 0]; shapes],
-        }
+        })
+    }
+}
+
+fn clear_and_reserve<T>(row: &mut Vec<T>, room: usize) {
+    row.clear();
+    row.reserve(room.min(MOST));
+}
+
+fn points_in(shape: &[IntContour]) -> usize {
+    shape.iter().map(Vec::len).sum()
+}
+
+/// Puts the contours behind the points, and their ranges behind the ranges.
+fn append(shape: &[IntContour], points: &mut Vec<IntPoint>, ranges: &mut Vec<[usize; 2]>) {
+    for contour in shape {
+        let start = points.len();
+        points.extend_from_slice(contour);
+        ranges.push([start, points.len()]);
     }
 }
 

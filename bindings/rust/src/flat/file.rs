@@ -6,8 +6,10 @@ use crate::refused::Refused;
 impl FlatShapesBuffer {
     /// The set of a file.
     pub fn read_set(bytes: &[u8]) -> Result<Self, Refused> {
-        // A point takes eight bytes and a contour two, so these rows hold whatever a file of this length can.
-        let mut set = FlatShapesBuffer::rows(bytes.len() / 8, bytes.len() / 2, bytes.len() / 2);
+        library::at_most(bytes.len())?;
+        // A point takes eight bytes, a contour two, and its count twelve bits: no file of this length holds more.
+        let contours = (bytes.len() / 2).min(4095);
+        let mut set = FlatShapesBuffer::rows(bytes.len() / 8, contours, contours)?;
         let packed = library::read_set(
             bytes,
             &mut set.points,
@@ -19,7 +21,9 @@ impl FlatShapesBuffer {
 
     /// The file of the set.
     pub fn write_set(&self) -> Result<Vec<u8>, Refused> {
-        let mut bytes = vec![0; 2 + 2 * self.contour_ranges.len() + 8 * self.points.len()];
+        let length = 2 + 2 * self.contour_ranges.len() + 8 * self.points.len();
+        library::at_most(length)?;
+        let mut bytes = vec![0; length];
         library::write_set(
             &self.points,
             &self.contour_ranges,

@@ -47,20 +47,20 @@ impl Area for FlatShapesBuffer {
 
 impl Area for [IntContour] {
     fn area_two(&self) -> Result<i64, Refused> {
-        FlatContoursBuffer::of_shape(self).area_two()
+        FlatContoursBuffer::of_shape(self)?.area_two()
     }
 
     fn area(&self) -> Result<i64, Refused> {
-        FlatContoursBuffer::of_shape(self).area()
+        FlatContoursBuffer::of_shape(self)?.area()
     }
 }
 
 impl Area for [IntShape] {
     fn area_two(&self) -> Result<i64, Refused> {
-        FlatShapesBuffer::of_shapes(self).area_two()
+        FlatShapesBuffer::of_shapes(self)?.area_two()
     }
 
     fn area(&self) -> Result<i64, Refused> {
-        FlatShapesBuffer::of_shapes(self).area()
+        FlatShapesBuffer::of_shapes(self)?.area()
     }
 }

@@ -39,29 +39,29 @@ impl DeSpikeContour for [IntPoint] {
     }
 
     fn despiked_contour(&self) -> Result<Cleaned<IntContour>, Refused> {
-        let mut out = vec![IntPoint::ZERO; self.len()];
+        let mut out = library::room(self.len())?;
         library::despiked(self, &mut Scratch::default(), &mut out).read(out)
     }
 }
 
 impl DeSpikeShape for [IntContour] {
     fn has_no_spikes(&self) -> Result<bool, Refused> {
-        FlatContoursBuffer::of_shape(self).has_no_spikes()
+        FlatContoursBuffer::of_shape(self)?.has_no_spikes()
     }
 
     fn despiked_shape(&self) -> Result<Cleaned<IntShape>, Refused> {
-        let cleaned = FlatContoursBuffer::of_shape(self).despiked_shape()?;
+        let cleaned = FlatContoursBuffer::of_shape(self)?.despiked_shape()?;
         Ok(cleaned.map(|flat| flat.contours()))
     }
 }
 
 impl DeSpikeShapes for [IntShape] {
     fn has_no_spikes(&self) -> Result<bool, Refused> {
-        FlatShapesBuffer::of_shapes(self).has_no_spikes()
+        FlatShapesBuffer::of_shapes(self)?.has_no_spikes()
     }
 
     fn despiked_shapes(&self) -> Result<Cleaned<IntShapes>, Refused> {
-        let cleaned = FlatShapesBuffer::of_shapes(self).despiked_shapes()?;
+        let cleaned = FlatShapesBuffer::of_shapes(self)?.despiked_shapes()?;
         Ok(cleaned.map(|flat| flat.shapes()))
     }
 }

@@ -44,22 +44,22 @@ impl SimpleContour for [IntPoint] {
 
 impl SimpleShape for [IntContour] {
     fn is_simple(&self) -> Result<bool, Refused> {
-        FlatContoursBuffer::of_shape(self).is_simple()
+        FlatContoursBuffer::of_shape(self)?.is_simple()
     }
 
     fn simplified(&self) -> Result<Cleaned<IntShape>, Refused> {
-        let cleaned = FlatContoursBuffer::of_shape(self).simplified()?;
+        let cleaned = FlatContoursBuffer::of_shape(self)?.simplified()?;
         Ok(cleaned.map(|flat| flat.contours()))
     }
 }
 
 impl SimpleShapes for [IntShape] {
     fn is_simple(&self) -> Result<bool, Refused> {
-        FlatShapesBuffer::of_shapes(self).is_simple()
+        FlatShapesBuffer::of_shapes(self)?.is_simple()
     }
 
     fn simplified(&self) -> Result<Cleaned<IntShapes>, Refused> {
-        let cleaned = FlatShapesBuffer::of_shapes(self).simplified()?;
+        let cleaned = FlatShapesBuffer::of_shapes(self)?.simplified()?;
         Ok(cleaned.map(|flat| flat.shapes()))
     }
 }
@@ -76,7 +76,7 @@ impl ContourSimplifier {
         &mut self,
         contour: &[IntPoint],
     ) -> Result<Cleaned<IntContour>, Refused> {
-        let mut out = vec![IntPoint::ZERO; contour.len()];
+        let mut out = library::room(contour.len())?;
         library::simplified(contour, &mut self.scratch, &mut out).read(out)
     }
 }

@@ -4,10 +4,30 @@ mod answer;
 mod raw;
 
 use crate::int::point::IntPoint;
+use crate::refused::Refused;
 use answer::{Area, Cleaned, CleanedSet, Packed, Verdict, Written};
 
-/// A start and an end.
+/// A start and an end, laid as `UkmRange` of the header is.
 pub type Range = [usize; 2];
+
+/// The most points of a contour or a set, and the most bytes of a file.
+pub const MOST: usize = 65_536;
+
+/// Refuses more than `MOST` points, or bytes of a file, before anything is allocated for them. Points are whole here, so
+/// there is no odd count, and this is what every function of the library would refuse first.
+pub fn at_most(count: usize) -> Result<(), Refused> {
+    if count <= MOST {
+        Ok(())
+    } else {
+        Err(Refused::TooMany)
+    }
+}
+
+/// A row of n points to be lent.
+pub fn room(n: usize) -> Result<Vec<IntPoint>, Refused> {
+    at_most(n)?;
+    Ok(vec![IntPoint::ZERO; n])
+}
 
 /// The rows that a walk works in.
 #[derive(Debug, Default)]
