@@ -1,4 +1,4 @@
-/* A worked example: ask about a contour, clean it, clean a shape with a hole, and build a set. */
+/* A worked example: ask about a contour, clean it, clean a shape with a hole, ask about shapes, and build a set. */
 #include <inttypes.h>
 #include <stdio.h>
 #include <stdlib.h>
@@ -59,6 +59,20 @@ static void one_shape(void)
         print_points(out, records[i].start, records[i].end);
 }
 
+/* Two shapes, the first with a hole; then the same points with a shape that names contours which are not there. */
+static void two_shapes(void)
+{
+    const int32_t points[] = {0, 0, 8, 0, 8, 8, 0, 8, /* hole */ 2, 2, 2, 6, 6, 6, 6, 2, /* second */ 9, 0, 13, 0, 9, 4};
+    const UkmRange contours[] = {{0, 4}, {4, 8}, {8, 11}};
+    const UkmRange shapes[] = {{0, 2}, {2, 3}}, beyond[] = {{5, 99}};
+
+    UkmArea area = ukm_shapes_area_two(points, LENGTH(points), contours, LENGTH(contours), shapes, LENGTH(shapes));
+    printf("doubled area of the shapes %" PRId64 "\n", area.value);
+
+    area = ukm_shapes_area_two(points, LENGTH(points), contours, LENGTH(contours), beyond, LENGTH(beyond));
+    printf("with a shape of contours 5 to 99: reply %" PRIu32 "\n", area.reply);
+}
+
 /* A set that starts empty, whose rows are then NULL, and is enlarged by a contour. */
 static void a_set(void)
 {
@@ -77,6 +91,7 @@ int main(void)
 {
     one_contour();
     one_shape();
+    two_shapes();
     a_set();
 
     printf("area of nothing: reply %" PRIu32 "\n", ukm_area(NULL, 0).reply);

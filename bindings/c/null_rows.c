@@ -29,7 +29,7 @@ static void due(const char *call, int as_due)
 int main(void)
 {
     static const int32_t triangle[] = {0, 0, 4, 0, 0, 4};
-    static const UkmRange empty_contour[] = {{0, 0}}, three[] = {{0, 3}};
+    static const UkmRange empty_contour[] = {{0, 0}}, one[] = {{0, 1}}, three[] = {{0, 3}};
     int32_t out[6];
     UkmRange records[2], groups[2];
     uint32_t next[3], prev[3];
@@ -61,6 +61,19 @@ int main(void)
     DUE(ukm_set_area(NO, empty_contour, 1), a.reply == 8 && a.value == 0);
     DUE(ukm_in_shape(NO, NO, 1, 1), a.reply == 0 && !a.yes);
     DUE(ukm_in_shape(NO, empty_contour, 1, 1, 1), a.reply == 0 && !a.yes);
+
+    DUE(ukm_shapes_is_simple(NO, NO, NO), a.reply == 0 && a.yes);
+    DUE(ukm_shapes_is_simple(NO, NO, empty_contour, 1), a.reply == 0 && a.yes);
+    DUE(ukm_shapes_is_simple(triangle, 6, three, 1, NO), a.reply == 6 && !a.yes);
+    DUE(ukm_shapes_is_simple(triangle, 6, NO, NO), a.reply == 6 && !a.yes);
+    DUE(ukm_shapes_has_no_spikes(NO, NO, NO), a.reply == 0 && a.yes);
+    DUE(ukm_shapes_has_no_spikes(NO, empty_contour, 1, one, 1), a.reply == 0 && !a.yes);
+    DUE(ukm_shapes_has_no_spikes(NO, empty_contour, 1, NO), a.reply == 6 && !a.yes);
+    DUE(ukm_shapes_area_two(NO, NO, NO), a.reply == 0 && a.value == 0);
+    DUE(ukm_shapes_area_two(triangle, 6, three, 1, NO), a.reply == 6 && a.value == 0);
+    DUE(ukm_shapes_area(NO, NO, NO), a.reply == 0 && a.value == 0);
+    DUE(ukm_shapes_area(NO, empty_contour, 1, one, 1), a.reply == 8 && a.value == 0);
+    DUE(ukm_shapes_area(NO, empty_contour, 1, NO), a.reply == 6 && a.value == 0);
 
     DUE(ukm_simplified_shape(NO, NO, NO_SCRATCH, NO, NO), a.reply == 0 && a.contours == 0 && a.shapes == 1);
     DUE(ukm_despiked_shape(NO, NO, NO_SCRATCH, NO, NO), a.reply == 0 && a.contours == 0 && a.shapes == 1);

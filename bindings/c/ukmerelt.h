@@ -168,8 +168,31 @@ UkmArea ukm_set_area(const int32_t *points, size_t points_len, const UkmRange *r
 UkmVerdict ukm_in_shape(const int32_t *points, size_t points_len, const UkmRange *ranges, size_t ranges_len,
                         int32_t x, int32_t y);
 
-/* Shapes. A contour that already passes (ukm_is_simple, ukm_has_no_spikes) is copied and adds no decisions. A later
- * contour that collapses is dropped. */
+/* Shape sets. 6 also where the shape ranges are not sound. */
+
+/* Whether every contour of every shape is simple. Refuses with 1, 2, 6, 3. */
+UkmVerdict ukm_shapes_is_simple(const int32_t *points, size_t points_len,
+                                const UkmRange *contours, size_t contours_len,
+                                const UkmRange *shapes, size_t shapes_len);
+
+/* Whether no contour of any shape has spikes. Refuses with 1, 2, 6, 3. */
+UkmVerdict ukm_shapes_has_no_spikes(const int32_t *points, size_t points_len,
+                                    const UkmRange *contours, size_t contours_len,
+                                    const UkmRange *shapes, size_t shapes_len);
+
+/* The sum of the contours' doubled areas, modulo 2^64 in the range of int64_t. Refuses with 1, 2, 6, 3, and 8 if a
+ * contour is empty. */
+UkmArea ukm_shapes_area_two(const int32_t *points, size_t points_len,
+                            const UkmRange *contours, size_t contours_len,
+                            const UkmRange *shapes, size_t shapes_len);
+
+/* Its half, cut toward zero. Refuses as ukm_shapes_area_two does. */
+UkmArea ukm_shapes_area(const int32_t *points, size_t points_len,
+                        const UkmRange *contours, size_t contours_len,
+                        const UkmRange *shapes, size_t shapes_len);
+
+/* Cleaning shapes. A contour that already passes (ukm_is_simple, ukm_has_no_spikes) is copied and adds no decisions. A
+ * later contour that collapses is dropped. */
 
 /* The shape with each contour simplified; shapes is 1 on 0. Refuses with 1, 2, 6, 3, with 4 if a scratch row has fewer
  * entries than the whole shape has points, with 5 if out is shorter than points or records than ranges, and with 7 if
@@ -267,12 +290,12 @@ UkmPacked ukm_read_set(const uint8_t *bytes, size_t bytes_len,
                        UkmRange *records, size_t records_len,
                        UkmRange *groups, size_t groups_len);
 
-/* The file of a shape set, in front of out. Refuses with 1, with 2 for too many points or too long a file, with 6, 3,
- * 12, and 5 if out is shorter than the file. */
+/* The file of a shape set, in front of bytes. Refuses with 1, with 2 for too many points or too long a file, with 6, 3,
+ * 12, and 5 if bytes is shorter than the file. */
 UkmWritten ukm_write_set(const int32_t *points, size_t points_len,
                          const UkmRange *contours, size_t contours_len,
                          const UkmRange *shapes, size_t shapes_len,
-                         uint8_t *out, size_t out_len);
+                         uint8_t *bytes, size_t bytes_len);
 
 #ifdef __cplusplus
 }

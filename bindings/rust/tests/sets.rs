@@ -141,12 +141,51 @@ fn ranges_that_are_not_sound() {
     assert_eq!(set.as_first_contour(), []);
     set.ranges = vec![];
     assert_eq!(set.as_first_contour(), square(0, 8));
+}
 
-    let shapes = FlatShapesBuffer {
-        points: square(0, 8),
-        contour_ranges: vec![[0, 4]],
+#[test]
+fn shape_ranges_that_are_not_sound() {
+    for shape_ranges in [
+        vec![],
+        vec![[5, 99]],
+        vec![[0, 2]],
+        vec![[0, 1], [0, 1]],
+        vec![[1, 1]],
+        vec![[0, 1], [1, 0]],
+    ] {
+        let mut set = FlatShapesBuffer {
+            points: square(0, 8),
+            contour_ranges: vec![[0, 4]],
+            shape_ranges,
+        };
+        assert_eq!(set.is_simple(), Err(Refused::Ranges));
+        assert_eq!(set.has_no_spikes(), Err(Refused::Ranges));
+        assert_eq!(set.area_two(), Err(Refused::Ranges));
+        assert_eq!(set.area(), Err(Refused::Ranges));
+        assert_eq!(set.simplified(), Err(Refused::Ranges));
+        assert_eq!(set.despiked_shapes(), Err(Refused::Ranges));
+        assert_eq!(set.to_shapes(), Err(Refused::Ranges));
+        assert_eq!(set.write_set(), Err(Refused::Ranges));
+        assert_eq!(set.add_shape(&[]), Err(Refused::Ranges));
+        set.shape_ranges = vec![[0, 0], [0, 1], [1, 1]];
+        assert_eq!(set.is_simple(), Ok(true));
+        assert_eq!(set.has_no_spikes(), Ok(true));
+        assert_eq!(set.area_two(), Ok(2 * 64));
+        assert_eq!(set.area(), Ok(64));
+    }
+}
+
+#[test]
+fn ranges_come_before_the_grid_and_before_an_empty_contour() {
+    let mut set = FlatShapesBuffer {
+        points: contour([[0, 0], [536_870_913, 0], [0, 1]]),
+        contour_ranges: vec![[0, 3], [3, 3]],
         shape_ranges: vec![],
     };
-    assert_eq!(shapes.to_shapes(), Err(Refused::Ranges));
-    assert_eq!(shapes.simplified(), Err(Refused::Ranges));
+    assert_eq!(set.area(), Err(Refused::Ranges));
+    set.shape_ranges = vec![[0, 2]];
+    assert_eq!(set.area(), Err(Refused::OffGrid));
+    set.points[1].x = 1;
+    assert_eq!(set.area(), Err(Refused::Empty));
+    assert_eq!(set.is_simple(), Ok(false));
 }

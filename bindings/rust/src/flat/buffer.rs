@@ -15,6 +15,9 @@ pub struct FlatContoursBuffer {
 }
 
 /// Shapes: a contour set, and for each shape the start and the end of its contours.
+///
+/// The ranges of the shapes are sound in the same way, the last ending at the count of contours, and with others every
+/// such call is refused too.
 #[derive(Debug, Clone, PartialEq, Eq, Default)]
 pub struct FlatShapesBuffer {
     pub points: Vec<IntPoint>,
@@ -271,12 +274,12 @@ impl FlatShapesBuffer {
 
     /// Whether every contour is simple.
     pub fn is_simple(&self) -> Result<bool, Refused> {
-        library::set_is_simple(&self.points, &self.contour_ranges).read()
+        library::shapes_is_simple(&self.points, &self.contour_ranges, &self.shape_ranges).read()
     }
 
     /// Whether no contour has spikes.
     pub fn has_no_spikes(&self) -> Result<bool, Refused> {
-        library::set_has_no_spikes(&self.points, &self.contour_ranges).read()
+        library::shapes_has_no_spikes(&self.points, &self.contour_ranges, &self.shape_ranges).read()
     }
 
     /// The shapes, each simplified: see [`SimpleShapes`](crate::int::simple::SimpleShapes).

@@ -6,7 +6,7 @@ use crate::refused::Refused;
 
 /// Area, counter-clockwise positive.
 ///
-/// Refused as [`Refused::Empty`] where a contour has no points, and as `TooMany` or `OffGrid`.
+/// Refused as [`Refused::Empty`] where a contour has no points, as `TooMany` or `OffGrid`, and of a set as `Ranges`.
 pub trait Area {
     /// The doubled area, modulo 2^64 in the range of `i64`; of many contours the sum of theirs.
     fn area_two(&self) -> Result<i64, Refused>;
@@ -37,11 +37,11 @@ impl Area for FlatContoursBuffer {
 
 impl Area for FlatShapesBuffer {
     fn area_two(&self) -> Result<i64, Refused> {
-        library::set_area_two(&self.points, &self.contour_ranges).read()
+        library::shapes_area_two(&self.points, &self.contour_ranges, &self.shape_ranges).read()
     }
 
     fn area(&self) -> Result<i64, Refused> {
-        library::set_area(&self.points, &self.contour_ranges).read()
+        library::shapes_area(&self.points, &self.contour_ranges, &self.shape_ranges).read()
     }
 }
 

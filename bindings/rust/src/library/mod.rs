@@ -154,6 +154,22 @@ pub fn in_shape(points: &[IntPoint], ranges: &[Range], p: IntPoint) -> Verdict {
     call!(ukm_in_shape(points, ranges; ; p.x, p.y))
 }
 
+pub fn shapes_is_simple(points: &[IntPoint], contours: &[Range], shapes: &[Range]) -> Verdict {
+    call!(ukm_shapes_is_simple(points, contours, shapes; ;))
+}
+
+pub fn shapes_has_no_spikes(points: &[IntPoint], contours: &[Range], shapes: &[Range]) -> Verdict {
+    call!(ukm_shapes_has_no_spikes(points, contours, shapes; ;))
+}
+
+pub fn shapes_area_two(points: &[IntPoint], contours: &[Range], shapes: &[Range]) -> Area {
+    call!(ukm_shapes_area_two(points, contours, shapes; ;))
+}
+
+pub fn shapes_area(points: &[IntPoint], contours: &[Range], shapes: &[Range]) -> Area {
+    call!(ukm_shapes_area(points, contours, shapes; ;))
+}
+
 pub fn simplified_shape(
     points: &[IntPoint],
     ranges: &[Range],
@@ -269,7 +285,7 @@ pub fn write_set(
     points: &[IntPoint],
     contours: &[Range],
     shapes: &[Range],
-    out: &mut [u8],
+    bytes: &mut [u8],
 ) -> Written {
-    call!(ukm_write_set(points, contours, shapes; out;))
+    call!(ukm_write_set(points, contours, shapes; bytes;))
 }

@@ -4,26 +4,6 @@ use super::answer::{Area, Cleaned, CleanedSet, Packed, Verdict, Written};
 use super::Range;
 
 extern "C" {
-    pub fn ukm_read_set(
-        bytes: *const u8,
-        bytes_len: usize,
-        out: *mut i32,
-        out_len: usize,
-        records: *mut Range,
-        records_len: usize,
-        groups: *mut Range,
-        groups_len: usize,
-    ) -> Packed;
-    pub fn ukm_write_set(
-        points: *const i32,
-        points_len: usize,
-        contours: *const Range,
-        contours_len: usize,
-        shapes: *const Range,
-        shapes_len: usize,
-        out: *mut u8,
-        out_len: usize,
-    ) -> Written;
     pub fn ukm_area_two(points: *const i32, points_len: usize) -> Area;
     pub fn ukm_area(points: *const i32, points_len: usize) -> Area;
     pub fn ukm_is_convex(points: *const i32, points_len: usize) -> Verdict;
@@ -88,6 +68,38 @@ extern "C" {
         x: i32,
         y: i32,
     ) -> Verdict;
+    pub fn ukm_shapes_is_simple(
+        points: *const i32,
+        points_len: usize,
+        contours: *const Range,
+        contours_len: usize,
+        shapes: *const Range,
+        shapes_len: usize,
+    ) -> Verdict;
+    pub fn ukm_shapes_has_no_spikes(
+        points: *const i32,
+        points_len: usize,
+        contours: *const Range,
+        contours_len: usize,
+        shapes: *const Range,
+        shapes_len: usize,
+    ) -> Verdict;
+    pub fn ukm_shapes_area_two(
+        points: *const i32,
+        points_len: usize,
+        contours: *const Range,
+        contours_len: usize,
+        shapes: *const Range,
+        shapes_len: usize,
+    ) -> Area;
+    pub fn ukm_shapes_area(
+        points: *const i32,
+        points_len: usize,
+        contours: *const Range,
+        contours_len: usize,
+        shapes: *const Range,
+        shapes_len: usize,
+    ) -> Area;
     pub fn ukm_simplified_shape(
         points: *const i32,
         points_len: usize,
@@ -226,4 +238,24 @@ extern "C" {
         groups: *mut Range,
         groups_len: usize,
     ) -> Packed;
+    pub fn ukm_read_set(
+        bytes: *const u8,
+        bytes_len: usize,
+        out: *mut i32,
+        out_len: usize,
+        records: *mut Range,
+        records_len: usize,
+        groups: *mut Range,
+        groups_len: usize,
+    ) -> Packed;
+    pub fn ukm_write_set(
+        points: *const i32,
+        points_len: usize,
+        contours: *const Range,
+        contours_len: usize,
+        shapes: *const Range,
+        shapes_len: usize,
+        bytes: *mut u8,
+        bytes_len: usize,
+    ) -> Written;
 }
