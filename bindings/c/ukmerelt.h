@@ -168,7 +168,7 @@ UkmArea ukm_set_area(const int32_t *points, size_t points_len, const UkmRange *r
 UkmVerdict ukm_in_shape(const int32_t *points, size_t points_len, const UkmRange *ranges, size_t ranges_len,
                         int32_t x, int32_t y);
 
-/* Shape sets. 6 also where the shape ranges are not sound. */
+/* Shape sets. The reply is 6 where the contour ranges or the shape ranges are not sound. */
 
 /* Whether every contour of every shape is simple. Refuses with 1, 2, 6, 3. */
 UkmVerdict ukm_shapes_is_simple(const int32_t *points, size_t points_len,

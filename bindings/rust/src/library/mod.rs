@@ -13,8 +13,8 @@ pub type Range = [usize; 2];
 /// The most points of a contour or a set, and the most bytes of a file.
 pub const MOST: usize = 65_536;
 
-/// Refuses more than `MOST` points, or bytes of a file, before anything is allocated for them. Points are whole here, so
-/// there is no odd count, and this is what every function of the library would refuse first.
+/// Refuses more than `MOST` points, or bytes of a file, before anything is allocated for them. No count of coordinates is
+/// odd here, so this is what the library would refuse first, whatever else is wrong.
 pub fn at_most(count: usize) -> Result<(), Refused> {
     if count <= MOST {
         Ok(())
