@@ -9,6 +9,7 @@ use Rattle.grid.specs.Ladder.{first-of}
 use Rattle.grid.specs.Cases.{row}
 use Rattle.buffer.specs.Spans.{spans, sound-from, sound, laid}
 use Rattle.buffer.specs.Sets.{joined, contours, contour-spans}
+use Rattle.buffer.specs.Parts.{Part, lying}
 use Rattle.buffer.specs.Answers.{packed, left, stored}
 use Rattle.buffer.specs.Contours as C
 use Rattle.buffer.specs.Shapes as S
@@ -55,10 +56,24 @@ flat : (joined (triangle ∷ [] ∷ point ∷ []) ≡ four) × (contour-spans (t
 unfolding joined laid
 flat = (refl, refl)
 
+-- the four points as they lie in a block of memory, from its byte 100 on
+abbrev lent : Part
+lent = lying (7, 100) four
+
 -- points without ranges: all of them are the first contour, and every other call answers 6
-loose : (C.first-contour four [] ≡ four) × (C.contour-at four [] 0 ≡ []) × (C.points-count four [] ≡ record { reply = 6; count = 0 })
+loose : (C.first-contour lent [] ≡ lent) × (C.contour-at lent [] 0 ≡ lying (7, 100) []) × (C.points-count four [] ≡ record { reply = 6; count = 0 })
 unfolding limit most on-grid all-on-grid first-of sound-from C.first-contour C.contour-at C.points-count
 loose = (refl, refl, refl)
+
+-- a contour lies where its first number does, and one that is not there lies, empty, at the front
+in-place :
+    (C.contour-at lent three 0 ≡ lying (7, 100) triangle)
+    × (C.contour-at lent three 1 ≡ lying (7, 124) [])
+    × (C.contour-at lent three 2 ≡ lying (7, 124) point)
+    × (C.contour-at lent three 3 ≡ lying (7, 100) [])
+    × (C.first-contour lent three ≡ lying (7, 100) triangle)
+unfolding limit most on-grid all-on-grid first-of sound-from C.first-contour C.contour-at
+in-place = (refl, refl, refl, refl, refl)
 
 -- a set with ranges and no points is empty
 empty : (C.is-empty [] (0 to 0 ∷ []) ≡ record { reply = 0; yes = true }) × (C.contours-count [] (0 to 0 ∷ []) ≡ record { reply = 0; count = 1 })
@@ -72,10 +87,10 @@ grouped = 0 to 0 ∷ 0 to 1 ∷ 1 to 3 ∷ []
 by-number :
     (S.contours-in four three grouped 0 ≡ record { reply = 0; count = 0 })
     × (S.contours-in four three grouped 2 ≡ record { reply = 0; count = 2 })
-    × (S.contour-of four three grouped 1 0 ≡ triangle)
-    × (S.contour-of four three grouped 2 1 ≡ point)
-    × (S.contour-of four three grouped 2 2 ≡ [])
-    × (S.contour-of four three grouped 3 0 ≡ [])
+    × (S.contour-of lent three grouped 1 0 ≡ lying (7, 100) triangle)
+    × (S.contour-of lent three grouped 2 1 ≡ lying (7, 124) point)
+    × (S.contour-of lent three grouped 2 2 ≡ lying (7, 100) [])
+    × (S.contour-of lent three grouped 3 0 ≡ lying (7, 100) [])
 unfolding limit most on-grid all-on-grid first-of sound-from S.contours-in S.contour-of
 by-number = (refl, refl, refl, refl, refl, refl)
 

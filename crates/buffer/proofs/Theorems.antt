@@ -15,6 +15,7 @@ use Rattle.buffer.specs.declared.answer.Packed.{Packed}
 use Rattle.buffer.specs.declared.ranges.Span.{Span}
 use Rattle.buffer.specs.Spans.{spans, rows, sound, sound-from, moved, total, laid}
 use Rattle.buffer.specs.Sets.{cut, joined, doubled, contour, contours, shapes, contour-spans, shape-spans, whole, every, Even}
+use Rattle.buffer.specs.Parts.{lying}
 use Rattle.buffer.specs.Refusals.{both}
 use Rattle.buffer.specs.Answers.{Left, stored, written-points, written-contours, written-shapes}
 use Rattle.buffer.specs.Contours as C
@@ -145,8 +146,8 @@ module _ (o : Left) (ok : o .answer .reply ≡ 0) where
     contour-accepted : Accepted p (sound (whole p ∷ []) (count p))
     contour-accepted = let c = in-domain p (contour-written .clear) in record { even = c .even; few = c .few; sound = whole-sound (count p) (whole p) refl refl; on = c .on }
 
-    pub a-packed-contour-is-unpacked : C.contour-at (written-points o) (written-contours o) 0 ≡ p
-    a-packed-contour-is-unpacked = unpacked-contour _ p (whole p ∷ []) [] o contour-written contour-accepted 0 ∙ whole-is p (contour-accepted .even)
+    pub a-packed-contour-is-unpacked : (at : ℕ × ℕ) → C.contour-at (lying at (written-points o)) (written-contours o) 0 .numbers ≡ p
+    a-packed-contour-is-unpacked at = unpacked-contour _ p (whole p ∷ []) [] o contour-written contour-accepted at 0 ∙ whole-is p (contour-accepted .even)
 
     pub a-packed-contour-is-a-set-that-no-call-refuses : first-of (C.refusals (written-points o) (written-contours o)) ≡ 0
     a-packed-contour-is-a-set-that-no-call-refuses = contours-taken _ p (whole p ∷ []) [] o contour-written contour-accepted
@@ -155,7 +156,7 @@ module _ (o : Left) (ok : o .answer .reply ≡ 0) where
     shape-written : Written (C.refusals p cs) p (spans cs) [] o
     shape-written = written (C.refusals p cs) tt p (spans cs) [] out records [] o e ok
 
-    pub every-contour-of-a-packed-shape-is-unpacked : (k : ℕ) → C.contour-at (written-points o) (written-contours o) k ≡ getD (contours p (spans cs)) k []
+    pub every-contour-of-a-packed-shape-is-unpacked : (at : ℕ × ℕ) (k : ℕ) → C.contour-at (lying at (written-points o)) (written-contours o) k .numbers ≡ getD (contours p (spans cs)) k []
     every-contour-of-a-packed-shape-is-unpacked = unpacked-contour _ p (spans cs) [] o shape-written (accepted p _ (shape-written .clear))
 
     pub a-packed-shape-is-a-set-that-no-call-refuses : first-of (C.refusals (written-points o) (written-contours o)) ≡ 0
@@ -170,16 +171,16 @@ module _ (o : Left) (ok : o .answer .reply ≡ 0) where
         let a = accepted p (sound (spans cs) (count p) && sound (spans ss) (length cs)) (shapes-written .clear) in
         record { even = a .even; few = a .few; sound = and-left (sound (spans cs) (count p)) _ (a .sound); on = a .on }
 
-    pub every-contour-of-packed-shapes-is-unpacked : (k : ℕ) → C.contour-at (written-points o) (written-contours o) k ≡ getD (contours p (spans cs)) k []
+    pub every-contour-of-packed-shapes-is-unpacked : (at : ℕ × ℕ) (k : ℕ) → C.contour-at (lying at (written-points o)) (written-contours o) k .numbers ≡ getD (contours p (spans cs)) k []
     every-contour-of-packed-shapes-is-unpacked = unpacked-contour _ p (spans cs) [] o shapes-written shapes-accepted
 
     pub packed-shapes-are-a-set-that-no-call-refuses : first-of (C.refusals (written-points o) (written-contours o)) ≡ 0
     packed-shapes-are-a-set-that-no-call-refuses = contours-taken _ p (spans cs) [] o shapes-written shapes-accepted
 
   pub a-list-of-contours-is-unpacked-as-it-was : (set : List (List ℤ)) → Even set → (out : List ℤ) (records : List (List ℕ)) → o ≡ C.with-shape (joined set) (rows (contour-spans set)) out records
-      → (k : ℕ) → C.contour-at (written-points o) (written-contours o) k ≡ getD set k []
-  a-list-of-contours-is-unpacked-as-it-was set h out records e k =
-      every-contour-of-a-packed-shape-is-unpacked (joined set) (rows (contour-spans set)) out records e k
+      → (at : ℕ × ℕ) (k : ℕ) → C.contour-at (lying at (written-points o)) (written-contours o) k .numbers ≡ getD set k []
+  a-list-of-contours-is-unpacked-as-it-was set h out records e at k =
+      every-contour-of-a-packed-shape-is-unpacked (joined set) (rows (contour-spans set)) out records e at k
       ∙ ap (λ (l : List Span). getD (contours (joined set) l) k []) (spans-rows (contour-spans set))
       ∙ ap (λ (l : List (List ℤ)). getD l k []) (packing-then-unpacking-gives-back-every-contour set h)
 
@@ -196,8 +197,8 @@ module _ (o : Left) (ok : o .answer .reply ≡ 0) where
         let c = in-domain p (lone-written .clear) in
         record { even = c .even; few = c .few; sound = rw (whole-sound (count p) (whole p) refl refl, whole-sound 1 (every (whole p ∷ [])) refl refl); on = c .on }
 
-    pub a-packed-contour-is-unpacked-from-its-shape : S.contour-of (written-points o) (written-contours o) (written-shapes o) 0 0 ≡ p
-    a-packed-contour-is-unpacked-from-its-shape = unpacked-shape _ p (whole p ∷ []) only o lone-written lone-accepted 0 0 ∙ whole-is p (lone-accepted .even)
+    pub a-packed-contour-is-unpacked-from-its-shape : (at : ℕ × ℕ) → S.contour-of (lying at (written-points o)) (written-contours o) (written-shapes o) 0 0 .numbers ≡ p
+    a-packed-contour-is-unpacked-from-its-shape at = unpacked-shape _ p (whole p ∷ []) only o lone-written lone-accepted at 0 0 ∙ whole-is p (lone-accepted .even)
 
     pub a-packed-contour-is-a-shape-set-that-no-call-refuses : first-of (S.refusals (written-points o) (written-contours o) (written-shapes o)) ≡ 0
     a-packed-contour-is-a-shape-set-that-no-call-refuses = shapes-taken _ p (whole p ∷ []) only o lone-written lone-accepted
@@ -212,10 +213,10 @@ module _ (o : Left) (ok : o .answer .reply ≡ 0) where
         let a = accepted p (sound (spans cs) (count p)) (one-written .clear) in
         record { even = a .even; few = a .few; sound = rw (a .sound, whole-sound (length (spans cs)) (every cs) refl (sym (spans-length cs))); on = a .on }
 
-    pub every-contour-of-a-packed-shape-is-unpacked-from-it : (c : ℕ)
-        → S.contour-of (written-points o) (written-contours o) (written-shapes o) 0 c ≡ getD (contours p (spans cs)) c []
-    every-contour-of-a-packed-shape-is-unpacked-from-it c =
-        unpacked-shape _ p (spans cs) (every cs ∷ []) o one-written one-accepted 0 c
+    pub every-contour-of-a-packed-shape-is-unpacked-from-it : (at : ℕ × ℕ) (c : ℕ)
+        → S.contour-of (lying at (written-points o)) (written-contours o) (written-shapes o) 0 c .numbers ≡ getD (contours p (spans cs)) c []
+    every-contour-of-a-packed-shape-is-unpacked-from-it at c =
+        unpacked-shape _ p (spans cs) (every cs ∷ []) o one-written one-accepted at 0 c
         ∙ ap (λ (l : List (List ℤ)). getD l c []) (all-of (contours p (spans cs)) (every cs) refl (sym (length-map (spans cs) (contour p) ∙ spans-length cs)))
 
     pub a-packed-shape-is-a-shape-set-that-no-call-refuses : first-of (S.refusals (written-points o) (written-contours o) (written-shapes o)) ≡ 0
@@ -229,8 +230,8 @@ module _ (o : Left) (ok : o .answer .reply ≡ 0) where
     all-accepted : Accepted p (sound (spans cs) (count p) && sound (spans ss) (length (spans cs)))
     all-accepted = rw (spans-length cs) (accepted p (sound (spans cs) (count p) && sound (spans ss) (length cs)) (all-written .clear))
 
-    pub every-contour-of-every-packed-shape-is-unpacked : (s c : ℕ)
-        → S.contour-of (written-points o) (written-contours o) (written-shapes o) s c ≡ getD (getD (shapes p (spans cs) (spans ss)) s []) c []
+    pub every-contour-of-every-packed-shape-is-unpacked : (at : ℕ × ℕ) (s c : ℕ)
+        → S.contour-of (lying at (written-points o)) (written-contours o) (written-shapes o) s c .numbers ≡ getD (getD (shapes p (spans cs) (spans ss)) s []) c []
     every-contour-of-every-packed-shape-is-unpacked = unpacked-shape _ p (spans cs) (spans ss) o all-written all-accepted
 
     pub packed-shapes-are-a-shape-set-that-no-call-refuses : first-of (S.refusals (written-points o) (written-contours o) (written-shapes o)) ≡ 0
@@ -259,9 +260,9 @@ module _ (o : Left) (ok : o .answer .reply ≡ 0) where
     an-enlarged-contour-set-is-refused-by-no-call =
         contours-taken _ (p ++ more) (spans cs ++ moved (count p) (whole more) ∷ []) [] o added (grown p more _ taken _ what-adding-a-contour-writes-is-sound)
 
-    pub an-added-contour-stands-behind-the-others-unchanged : (k : ℕ) → C.contour-at (written-points o) (written-contours o) k ≡ getD (contours p (spans cs) ++ more ∷ []) k []
-    an-added-contour-stands-behind-the-others-unchanged k =
-        unpacked-contour _ (p ++ more) (spans cs ++ moved (count p) (whole more) ∷ []) [] o added (grown p more _ taken _ what-adding-a-contour-writes-is-sound) k
+    pub an-added-contour-stands-behind-the-others-unchanged : (at : ℕ × ℕ) (k : ℕ) → C.contour-at (lying at (written-points o)) (written-contours o) k .numbers ≡ getD (contours p (spans cs) ++ more ∷ []) k []
+    an-added-contour-stands-behind-the-others-unchanged at k =
+        unpacked-contour _ (p ++ more) (spans cs ++ moved (count p) (whole more) ∷ []) [] o added (grown p more _ taken _ what-adding-a-contour-writes-is-sound) at k
         ∙ ap (λ (l : List (List ℤ)). getD l k []) (adding-a-contour-appends-exactly-it p (spans cs) (taken .even) (taken .sound) more (taken .more-even))
 
   -- an addition to a shape set
@@ -302,11 +303,11 @@ module _ (o : Left) (ok : o .answer .reply ≡ 0) where
     an-enlarged-shape-set-is-refused-by-no-call =
         shapes-taken _ (p ++ more) all-contours all-shapes o shape-added (grown p more _ shape-taken _ what-adding-a-shape-writes-is-sound)
 
-    pub an-added-shape-stands-behind-the-others-unchanged : (s c : ℕ)
-        → S.contour-of (written-points o) (written-contours o) (written-shapes o) s c ≡ getD (getD (shapes p (spans cs) (spans ss) ++ contours more (spans mcs) ∷ []) s []) c []
-    an-added-shape-stands-behind-the-others-unchanged s c =
+    pub an-added-shape-stands-behind-the-others-unchanged : (at : ℕ × ℕ) (s c : ℕ)
+        → S.contour-of (lying at (written-points o)) (written-contours o) (written-shapes o) s c .numbers ≡ getD (getD (shapes p (spans cs) (spans ss) ++ contours more (spans mcs) ∷ []) s []) c []
+    an-added-shape-stands-behind-the-others-unchanged at s c =
         let grouped : sound (spans ss) (length (spans cs)) ≡ true = ap (sound (spans ss)) (spans-length cs) ∙ parts .shapes in
-        unpacked-shape _ (p ++ more) all-contours all-shapes o shape-added (grown p more _ shape-taken _ what-adding-a-shape-writes-is-sound) s c
+        unpacked-shape _ (p ++ more) all-contours all-shapes o shape-added (grown p more _ shape-taken _ what-adding-a-shape-writes-is-sound) at s c
         ∙ ap (λ (l : List (List (List ℤ))). getD (getD l s []) c [])
         (ap₂ (λ (n m : ℕ). shapes (p ++ more) all-contours (spans ss ++ moved n (record { start = 0; end = m }) ∷ [])) (sym (spans-length cs)) (sym (spans-length mcs))
         ∙ adding-a-shape-appends-exactly-it p (spans cs) (spans ss) (shape-taken .even) (parts .contours) grouped more (spans mcs))

@@ -19,12 +19,14 @@ use Rattle.buffer.specs.declared.ranges.Span.{Span}
 use Rattle.buffer.specs.Spans.{spans, row, rows, sound}
 use Rattle.buffer.specs.Sets.{contours, shapes}
 use Rattle.grid.specs.Rows.{front}
+use Rattle.buffer.specs.Parts.{lying}
 use Rattle.buffer.specs.Refusals.{room, set}
 use Rattle.buffer.specs.Answers.{packed, Left, written-points, written-contours, written-shapes, enough, outcome, stored}
 use Rattle.buffer.specs.Contours as C
 use Rattle.buffer.specs.Shapes as S
 use Rattle.buffer.proofs.RefusalLaws.{Accepted}
 use Rattle.buffer.proofs.RowLaws.{spans-length}
+use Rattle.buffer.proofs.PartLaws.{part-holds, shape-part-holds}
 
 pub spans-rows : (l : List Span) → spans (rows l) ≡ l
 spans-rows [] = refl
@@ -81,9 +83,9 @@ refused-unchanged l p cs ss out contours shapes o e n = go (first-of (l ++ room 
 
 -- unpacked by number
 module _ (l : List Rung) (p : List ℤ) (cs ss : List Span) (o : Left) (w : Written l p cs ss o) where
-  pub unpacked-contour : Accepted p (sound cs (count p)) → (k : ℕ) → C.contour-at (written-points o) (written-contours o) k ≡ getD (contours p cs) k []
+  pub unpacked-contour : Accepted p (sound cs (count p)) → (at : ℕ × ℕ) (k : ℕ) → C.contour-at (lying at (written-points o)) (written-contours o) k .numbers ≡ getD (contours p cs) k []
   unfolding C.contour-at
-  unpacked-contour a k = rw (w .points (a .even), w .contours, accepted-clear p (sound cs (count p)) a)
+  unpacked-contour a at k = rw (w .points (a .even), w .contours, accepted-clear p (sound cs (count p)) a) (part-holds (lying at p) cs k)
 
   pub contours-taken : Accepted p (sound cs (count p)) → first-of (C.refusals (written-points o) (written-contours o)) ≡ 0
   contours-taken a = rw (w .points (a .even), w .contours) (accepted-clear p (sound cs (count p)) a)
@@ -93,9 +95,9 @@ module _ (l : List Rung) (p : List ℤ) (cs ss : List Span) (o : Left) (w : Writ
       let n : length (written-contours o) ≡ length cs = sym (spans-length (written-contours o)) ∙ ap length (w .contours) in
       rw (w .points (a .even), n, w .contours, w .shapes) (accepted-clear p (sound cs (count p) && sound ss (length cs)) a)
 
-  pub unpacked-shape : Accepted p (sound cs (count p) && sound ss (length cs)) → (s c : ℕ)
-      → S.contour-of (written-points o) (written-contours o) (written-shapes o) s c ≡ getD (getD (shapes p cs ss) s []) c []
+  pub unpacked-shape : Accepted p (sound cs (count p) && sound ss (length cs)) → (at : ℕ × ℕ) (s c : ℕ)
+      → S.contour-of (lying at (written-points o)) (written-contours o) (written-shapes o) s c .numbers ≡ getD (getD (shapes p cs ss) s []) c []
   unfolding S.contour-of
-  unpacked-shape a s c =
+  unpacked-shape a at s c =
       let n : length (written-contours o) ≡ length cs = sym (spans-length (written-contours o)) ∙ ap length (w .contours) in
-      rw (w .points (a .even), n, w .contours, w .shapes, accepted-clear p (sound cs (count p) && sound ss (length cs)) a)
+      rw (w .points (a .even), n, w .contours, w .shapes, accepted-clear p (sound cs (count p) && sound ss (length cs)) a) (shape-part-holds (lying at p) cs ss s c)

@@ -19,11 +19,6 @@ abbrev pub counted : ℕ → ℕ → Counted
 counted zero n = record { reply = 0; count = n }
 counted (suc k) n = record { reply = suc k; count = 0 }
 
--- a part, or the empty one where the call is refused
-abbrev pub part : {A : Type 0} → ℕ → List A → List A
-part zero l = l
-part (suc k) l = []
-
 -- an answer of packing
 abbrev pub packed : ℕ → ℕ → ℕ → ℕ → Packed
 packed reply points contours shapes = record { reply = reply; points = points; contours = contours; shapes = shapes }

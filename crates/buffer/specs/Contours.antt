@@ -10,9 +10,10 @@ use Rattle.grid.specs.Domain.{count, domain}
 use Rattle.grid.specs.Verdicts.{verdict}
 use Rattle.buffer.specs.declared.answer.Counted.{Counted}
 use Rattle.buffer.specs.Spans.{spans, sound, moved}
-use Rattle.buffer.specs.Sets.{contours, whole}
+use Rattle.buffer.specs.Sets.{whole}
+use Rattle.buffer.specs.Parts.{Part, none, contour-parts, handed}
 use Rattle.buffer.specs.Refusals.{set, both}
-use Rattle.buffer.specs.Answers.{counted, part, Left, stored}
+use Rattle.buffer.specs.Answers.{counted, Left, stored}
 use Rattle.buffer.specs.Shapes.{refusals as shape-refusals}
 
 -- what every call asks of a contour set
@@ -35,13 +36,13 @@ points-count p ranges = counted (first-of (refusals p ranges)) (count p)
 unfoldable pub contours-count : List ℤ → List (List ℕ) → Counted
 contours-count p ranges = counted (first-of (refusals p ranges)) (length ranges)
 
--- contour number k, or the empty part where it is not there
-unfoldable pub contour-at : List ℤ → List (List ℕ) → ℕ → List ℤ
-contour-at p ranges k = part (first-of (refusals p ranges)) (getD (contours p (spans ranges)) k [])
+-- contour number k, or the empty part of the points where it is not there
+unfoldable pub contour-at : Part → List (List ℕ) → ℕ → Part
+contour-at p ranges k = handed (first-of (refusals (p .numbers) ranges)) p (getD (contour-parts p (spans ranges)) k (none p))
 
 -- the first contour; all points where there are no ranges
-unfoldable pub first-contour : List ℤ → List (List ℕ) → List ℤ
-first-contour p [] = part (first-of (domain p)) p
+unfoldable pub first-contour : Part → List (List ℕ) → Part
+first-contour p [] = handed (first-of (domain (p .numbers))) p p
 first-contour p (r ∷ ranges) = contour-at p (r ∷ ranges) 0
 
 -- a set of one contour

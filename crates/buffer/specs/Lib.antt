@@ -1,5 +1,6 @@
 pub mod Spans
 pub mod Sets
+pub mod Parts
 pub mod Rows
 pub mod Refusals
 pub mod Answers

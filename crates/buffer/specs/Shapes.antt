@@ -11,9 +11,10 @@ use Rattle.grid.specs.Domain.{count, domain}
 use Rattle.grid.specs.Verdicts.{verdict}
 use Rattle.buffer.specs.declared.answer.Counted.{Counted}
 use Rattle.buffer.specs.Spans.{spans, sound, moved}
-use Rattle.buffer.specs.Sets.{contours, shapes, whole, every}
+use Rattle.buffer.specs.Sets.{shapes, whole, every}
+use Rattle.buffer.specs.Parts.{Part, none, shape-parts, handed}
 use Rattle.buffer.specs.Refusals.{set, both}
-use Rattle.buffer.specs.Answers.{counted, part, Left, stored}
+use Rattle.buffer.specs.Answers.{counted, Left, stored}
 
 -- what every call asks of a shape set: its contours and its shapes have sound ranges
 abbrev pub refusals : List ℤ → List (List ℕ) → List (List ℕ) → List Rung
@@ -39,9 +40,9 @@ shapes-count p cs ss = counted (first-of (refusals p cs ss)) (length ss)
 unfoldable pub contours-in : List ℤ → List (List ℕ) → List (List ℕ) → ℕ → Counted
 contours-in p cs ss s = counted (first-of (refusals p cs ss)) (length (getD (shapes p (spans cs) (spans ss)) s []))
 
--- contour number c of shape number s, or the empty part where it is not there
-unfoldable pub contour-of : List ℤ → List (List ℕ) → List (List ℕ) → ℕ → ℕ → List ℤ
-contour-of p cs ss s c = part (first-of (refusals p cs ss)) (getD (getD (shapes p (spans cs) (spans ss)) s []) c [])
+-- contour number c of shape number s, or the empty part of the points where it is not there
+unfoldable pub contour-of : Part → List (List ℕ) → List (List ℕ) → ℕ → ℕ → Part
+contour-of p cs ss s c = handed (first-of (refusals (p .numbers) cs ss)) p (getD (getD (shape-parts p (spans cs) (spans ss)) s []) c (none p))
 
 -- a set of one shape, of one contour
 abbrev pub with-contour : List ℤ → List ℤ → List (List ℕ) → List (List ℕ) → Left

@@ -4,6 +4,7 @@ ghost use mathlib.Core.List.{[]};
 ghost use Rattle.grid.specs.Ladder.{first-of};
 ghost use Rattle.buffer.specs.Spans.{spans, Movable};
 ghost use Rattle.buffer.specs.Refusals.{told};
+ghost use Rattle.buffer.specs.Parts.{part};
 ghost use Rattle.buffer.specs.Answers.{left, stored};
 ghost use Rattle.buffer.specs.Contours.{refusals, is-empty, is-single, points-count, contours-count, contour-at, first-contour, with-contour, with-shape, with-shapes, with-one-more};
 use crate::answer;
@@ -52,9 +53,9 @@ pub fn contours_count(points: &[i32], ranges: &[[usize; 2]]) -> Counted
     answer::count(refused(points, ranges), ranges.len())
 }
 
-// Contour number k, as a part of the points; the empty part where it is not there.
+// Contour number k, as a part of the points; the empty part at their front where it is not there.
 pub fn contour<'a>(points: &'a [i32], ranges: &[[usize; 2]], k: usize) -> &'a [i32]
-    ensures { λ r. ⌜ now r ≡ contour-at (now (points .entry)) (now (ranges .entry)) k ⌝ }
+    ensures { λ r. ⌜ part r ≡ contour-at (part (points .entry)) (now (ranges .entry)) k ⌝ }
 {
     if refused(points, ranges) != 0 {
         return &points[..0];
@@ -67,7 +68,7 @@ pub fn contour<'a>(points: &'a [i32], ranges: &[[usize; 2]], k: usize) -> &'a [i
 
 // The first contour, as a part of the points: all of them where there are no ranges.
 pub fn first_contour<'a>(points: &'a [i32], ranges: &[[usize; 2]]) -> &'a [i32]
-    ensures { λ r. ⌜ now r ≡ first-contour (now (points .entry)) (now (ranges .entry)) ⌝ }
+    ensures { λ r. ⌜ part r ≡ first-contour (part (points .entry)) (now (ranges .entry)) ⌝ }
 {
     if ranges.len() != 0 {
         return contour(points, ranges, 0);

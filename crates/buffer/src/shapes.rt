@@ -3,6 +3,7 @@ ghost use mathlib.Core.Path.{_≡_};
 ghost use Rattle.grid.specs.Ladder.{first-of};
 ghost use Rattle.buffer.specs.Spans.{spans, Movable};
 ghost use Rattle.buffer.specs.Refusals.{told};
+ghost use Rattle.buffer.specs.Parts.{part};
 ghost use Rattle.buffer.specs.Answers.{left, stored};
 ghost use Rattle.buffer.specs.Shapes.{refusals, is-empty, points-count, contours-count, shapes-count, contours-in, contour-of, with-contour, with-shape, with-shapes, with-one-more, both-sound};
 use crate::answer;
@@ -71,7 +72,7 @@ pub fn contours_in(
     answer::count(grid::reply::DONE, shapes[s][1] - shapes[s][0])
 }
 
-// Contour number c of shape number s, as a part of the points; the empty part where it is not there.
+// Contour number c of shape number s, as a part of the points; the empty part at their front where it is not there.
 pub fn contour_of<'a>(
     points: &'a [i32],
     contours: &[[usize; 2]],
@@ -79,7 +80,7 @@ pub fn contour_of<'a>(
     s: usize,
     c: usize,
 ) -> &'a [i32]
-    ensures { λ r. ⌜ now r ≡ contour-of (now (points .entry)) (now (contours .entry)) (now (shapes .entry)) s c ⌝ }
+    ensures { λ r. ⌜ part r ≡ contour-of (part (points .entry)) (now (contours .entry)) (now (shapes .entry)) s c ⌝ }
 {
     let inside = contours_in(points, contours, shapes, s);
     if inside.count <= c {

@@ -5,4 +5,5 @@ pub mod Picked
 pub mod Theorems
 pub mod Unchanged
 pub mod Cases
+pub mod PartCases
 pub mod Idle

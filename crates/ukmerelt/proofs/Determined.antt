@@ -1,4 +1,4 @@
--- Each public function's contract leaves one outcome: any two that it allows on the same inputs are identical, the answer and every lent row. `Learnt` is the contract in `src/`, as the checker reads it.
+-- Each public function's contract leaves one outcome: any two that it allows on the same inputs are identical, the answer and every lent row, and of a part that is handed out the place too. `Learnt` is the contract in `src/`, as the checker reads it.
 use mathlib.Core.Path.{_≡_}
 use mathlib.Core.List.{List, []}
 use mathlib.Core.Bool.{Bool}
@@ -7,6 +7,7 @@ use denote.Ref.{now}
 use Rattle.clean.specs.Outcome as Cleaned
 use Rattle.buffer.specs.declared.ranges.Span.{Span}
 use Rattle.buffer.specs.Spans.{sound}
+use Rattle.buffer.specs.Parts.{part}
 use Rattle.buffer.specs.Answers as Packed
 use Rattle.sets.specs.Outcome as Sets
 use Rattle.setfile.specs.Writing as Written
@@ -90,7 +91,7 @@ simplified = by-its-definition _ (λ κs a x e h. h)
 pub despiked : Determined clean·despike·despiked.Learnt (λ κs x e. five e (λ points next prev mark out. Cleaned.left x (now next) (now prev) (now mark) (now out)))
 despiked = by-its-definition _ (λ κs a x e h. h)
 
-pub kept-part : Determined clean·kept-part.Learnt (λ κs x e. now x)
+pub kept-part : Determined clean·kept-part.Learnt (λ κs x e. part x)
 kept-part = by-its-definition _ (λ κs a x e h. h)
 
 -- Ranges.
@@ -120,10 +121,10 @@ contours-points-count = by-its-definition _ (λ κs a x e h. h)
 pub contours-contours-count : Determined buffer·contours·contours-count.Learnt (λ κs x e. x)
 contours-contours-count = by-its-definition _ (λ κs a x e h. h)
 
-pub contours-contour : Determined buffer·contours·contour.Learnt (λ κs x e. now x)
+pub contours-contour : Determined buffer·contours·contour.Learnt (λ κs x e. part x)
 contours-contour = by-its-definition _ (λ κs a x e h. h)
 
-pub contours-first-contour : Determined buffer·contours·first-contour.Learnt (λ κs x e. now x)
+pub contours-first-contour : Determined buffer·contours·first-contour.Learnt (λ κs x e. part x)
 contours-first-contour = by-its-definition _ (λ κs a x e h. h)
 
 pub contours-set-with-contour : Determined buffer·contours·set-with-contour.Learnt (λ κs x e. three e (λ contour out records. Packed.left x (now out) (now records) []))
@@ -157,7 +158,7 @@ shapes-shapes-count = by-its-definition _ (λ κs a x e h. h)
 pub shapes-contours-in : Determined buffer·shapes·contours-in.Learnt (λ κs x e. x)
 shapes-contours-in = by-its-definition _ (λ κs a x e h. h)
 
-pub shapes-contour-of : Determined buffer·shapes·contour-of.Learnt (λ κs x e. now x)
+pub shapes-contour-of : Determined buffer·shapes·contour-of.Learnt (λ κs x e. part x)
 shapes-contour-of = by-its-definition _ (λ κs a x e h. h)
 
 pub shapes-set-with-contour : Determined buffer·shapes·set-with-contour.Learnt (λ κs x e. four e (λ contour out records groups. Packed.left x (now out) (now records) (now groups)))

@@ -1,5 +1,6 @@
 -- `buffer::contours::contour` meets its contract.
 use mathlib.Core.Path.{_∙_}
+use Rattle.buffer.specs.Parts.{part}
 use Rattle.buffer.proofs.PartLaws.{contour-refused, contour-absent, contour-there, contour-named}
 use borrow.Author.Needs.{needs}
 use Rattle.buffer.proofs.contours.contour.Statement.{statement}
@@ -14,7 +15,7 @@ slice-aggregate-result c = search needs
 returns : tie.Need-returns
 returns c =
     let s = c .before .before .before .args in
-    contour-refused (s .points .now) (s .ranges .now) (s .k) _ (c .before .before .refused .ensures) (c .before .if1 .taken)
+    contour-refused (part (s .points)) (s .ranges .now) (s .k) _ (c .before .before .refused .ensures) (c .before .if1 .taken)
 
 slice-aggregate-result-2 : tie.Need-slice-aggregate-result-2
 slice-aggregate-result-2 c = search needs
@@ -22,7 +23,7 @@ slice-aggregate-result-2 c = search needs
 returns-2 : tie.Need-returns-2
 returns-2 c =
     let s = c .before .before .before .before .args in
-    contour-absent (s .points .now) (s .ranges .now) (s .k) _ (c .before .before .before .refused .ensures) (c .before .before .if1 .left) (c .before .if2 .taken)
+    contour-absent (part (s .points)) (s .ranges .now) (s .k) _ (c .before .before .before .refused .ensures) (c .before .before .if1 .left) (c .before .if2 .taken)
 
 named-requires : tie.Need-named-requires
 named-requires c κs =
@@ -32,7 +33,7 @@ named-requires c κs =
 returns-3 : tie.Need-returns-3
 returns-3 c =
     let s = c .before .before .before .before .args in
-    c .named .ensures ∙ contour-there (s .points .now) (s .ranges .now) (s .k) _ (c .before .before .before .refused .ensures) (c .before .before .if1 .left) (c .before .if2 .left)
+    c .named .ensures ∙ contour-there (part (s .points)) (s .ranges .now) (s .k) _ (c .before .before .before .refused .ensures) (c .before .before .if1 .left) (c .before .if2 .left)
 
 pub contour-spec : {M : Type 1} → statement M
 contour-spec =

@@ -1,5 +1,6 @@
 -- `buffer::contours::first_contour` meets its contract.
 use mathlib.Core.Path.{_∙_}
+use Rattle.buffer.specs.Parts.{part}
 use Rattle.buffer.proofs.PartLaws.{first-there, first-refused, first-loose}
 use borrow.Author.Needs.{needs}
 use Rattle.buffer.proofs.contours.first_contour.Statement.{statement}
@@ -11,7 +12,7 @@ contour-requires c κs = search needs
 returns : tie.Need-returns
 returns c =
     let s = c .before .before .args in
-    c .contour .ensures ∙ first-there (s .points .now) (s .ranges .now) (c .before .if1 .taken)
+    c .contour .ensures ∙ first-there (part (s .points)) (s .ranges .now) (c .before .if1 .taken)
 
 domain-requires : tie.Need-domain-requires
 domain-requires c κs = search needs
@@ -22,12 +23,12 @@ slice-aggregate-result c = search needs
 returns-2 : tie.Need-returns-2
 returns-2 c =
     let s = c .before .before .before .before .args in
-    first-refused (s .points .now) (s .ranges .now) (c .before .before .before .if1 .left) _ (c .before .before .domain .ensures) (c .before .if2 .taken)
+    first-refused (part (s .points)) (s .ranges .now) (c .before .before .before .if1 .left) _ (c .before .before .domain .ensures) (c .before .if2 .taken)
 
 returns-3 : tie.Need-returns-3
 returns-3 c =
     let s = c .before .before .before .args in
-    first-loose (s .points .now) (s .ranges .now) (c .before .before .if1 .left) _ (c .before .domain .ensures) (c .if2 .left)
+    first-loose (part (s .points)) (s .ranges .now) (c .before .before .if1 .left) _ (c .before .domain .ensures) (c .if2 .left)
 
 pub first-contour-spec : {M : Type 1} → statement M
 first-contour-spec =

@@ -1,5 +1,6 @@
 -- `buffer::shapes::contour_of` meets its contract.
 use mathlib.Core.Path.{_∙_}
+use Rattle.buffer.specs.Parts.{part}
 use Rattle.buffer.proofs.PartLaws.{not-inside, inside}
 use borrow.Author.Needs.{needs}
 use Rattle.buffer.proofs.shapes.contour_of.Statement.{statement}
@@ -14,13 +15,13 @@ slice-aggregate-result c = search needs
 returns : tie.Need-returns
 returns c =
     let s = c .before .before .before .before .args in
-    not-inside (s .points .now) (s .contours .now) (s .shapes .now) (s .s) (s .c) _ (c .before .before .before .contours-in .ensures) (c .before .if1 .taken)
+    not-inside (part (s .points)) (s .contours .now) (s .shapes .now) (s .s) (s .c) _ (c .before .before .before .contours-in .ensures) (c .before .if1 .taken)
 
 mul-first : tie.Need-mul-first
 mul-first c =
     let s = c .before .before .before .args in
     let i =
-    inside (s .points .now) (s .contours .now) (s .shapes .now) (s .s) (s .c) _
+    inside (part (s .points)) (s .contours .now) (s .shapes .now) (s .s) (s .c) _
     (c .before .before .contours-in .ensures) (c .if1 .left) in
     let h = i .shape in
     search needs
@@ -29,7 +30,7 @@ index-1-first : tie.Need-index-1-first
 index-1-first c =
     let s = c .before .before .before .args in
     let i =
-    inside (s .points .now) (s .contours .now) (s .shapes .now) (s .s) (s .c) _
+    inside (part (s .points)) (s .contours .now) (s .shapes .now) (s .s) (s .c) _
     (c .before .before .contours-in .ensures) (c .if1 .left) in
     i .shape
 
@@ -40,24 +41,24 @@ add-named : tie.Need-add-named
 add-named c =
     let s = c .before .before .before .before .args in
     let i =
-    inside (s .points .now) (s .contours .now) (s .shapes .now) (s .s) (s .c) _
+    inside (part (s .points)) (s .contours .now) (s .shapes .now) (s .s) (s .c) _
     (c .before .before .before .contours-in .ensures) (c .before .if1 .left) in
-    let h = i .named .there in
+    let h = i .names .there in
     search needs
 
 named-requires : tie.Need-named-requires
 named-requires c κs =
     let s = c .before .before .before .before .args in
     let i =
-    inside (s .points .now) (s .contours .now) (s .shapes .now) (s .s) (s .c) _
+    inside (part (s .points)) (s .contours .now) (s .shapes .now) (s .s) (s .c) _
     (c .before .before .before .contours-in .ensures) (c .before .if1 .left) in
-    i .named
+    i .names
 
 returns-2 : tie.Need-returns-2
 returns-2 c =
     let s = c .before .before .before .before .before .args in
     let i =
-    inside (s .points .now) (s .contours .now) (s .shapes .now) (s .s) (s .c) _
+    inside (part (s .points)) (s .contours .now) (s .shapes .now) (s .s) (s .c) _
     (c .before .before .before .before .contours-in .ensures) (c .before .before .if1 .left) in
     c .named .ensures ∙ i .is
 

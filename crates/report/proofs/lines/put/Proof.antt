@@ -3,6 +3,7 @@ use mathlib.Core.Path.{_≡_, refl, _∙_}
 use Prim.Native.Nat.{_-_}
 use borrow.Author.Needs.{needs}
 use lib.ListN.{length}
+use Rattle.buffer.proofs.PartLaws.{same-numbers}
 use Rattle.report.proofs.LinesLaws.{part-cleanable, Lining, lining-none, lining-room, lining-more, lining-all}
 use Rattle.report.proofs.lines.put.Statement.{statement}
 use Rattle.report.proofs.lines.put.Tie as tie
@@ -29,7 +30,7 @@ put-requires c κs =
     let s = c .before .before .before .before .before .before .before .before .before .before .before .before in
     let v = c .before .before .before .before .before .before .before .loop .inv in
     let h = c .before .before .before .before .before .before .loop-test .taken in
-    rw (c .before .before .before .before .before .named .ensures)
+    rw (same-numbers (c .before .before .before .before .before .named .ensures))
     (part-cleanable _ _ _ _ _ _ (s .pre .0) _ h _ _ _ _ (v .1) (v .2) (v .3) (v .4), lining-room (v .0) h)
 
 add-i : tie.Need-add-i Inv-loop μ-loop
@@ -42,7 +43,7 @@ loop-again : tie.Need-loop-again Inv-loop μ-loop
 loop-again c =
     let v = c .before .before .before .before .before .before .before .before .before .before .before .before .before .before .before .before .before .loop .inv in
     let k = c .before .before .before .before .before .before .before .before .before .put .kept .1 .1 in
-    let q = rw (c .before .before .before .before .before .before .before .before .before .before .before .before .before .before .before .named .ensures) at (c .before .before .before .before .before .before .before .before .before .put .ensures) in
+    let q = rw (same-numbers (c .before .before .before .before .before .before .before .before .before .before .before .before .before .before .before .named .ensures)) at (c .before .before .before .before .before .before .before .before .before .put .ensures) in
     (lining-more (v .0) (c .before .before .before .before .before .before .before .before .before .before .before .before .before .before .before .before .loop-test .taken) q, k .0 ∙ v .1, k .1 .0 ∙ v .2, k .1 .1 .0 ∙ v .3, k .1 .1 .1 .0 ∙ v .4)
 
 same-length : tie.Need-same-length Inv-loop μ-loop

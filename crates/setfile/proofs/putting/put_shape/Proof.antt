@@ -3,6 +3,7 @@ use borrow.Author.Needs.{needs}
 use Prim.Native.Nat.{_-_, _≤_}
 use native.Mathlib.Omega.{arith}
 use lib.Dec.{eqb}
+use Rattle.buffer.proofs.PartLaws.{same-numbers}
 use Rattle.setfile.specs.Inside.{coded-contours}
 use Rattle.setfile.specs.InsideWriting.{between, coded-shape}
 use Rattle.setfile.proofs.WriteLaws.{Writing, none-written, part-room, part-written, all-written}
@@ -30,7 +31,7 @@ put-contour-requires c κs =
     let s = c .before .before .before .before .before in
     let v = c .before .before .before .loop .inv in
     let h = c .before .before .loop-test .taken in
-    part-room (v .0) (next-contour (s .args .points .now) (s .args .ranges .now) (s .args .from) (c .before .before .before .loop .k) (s .args .to) (v .1) h (s .pre .0 _ h .there) _ (c .before .named .ensures))
+    part-room (v .0) (next-contour (s .args .points .now) (s .args .ranges .now) (s .args .from) (c .before .before .before .loop .k) (s .args .to) (v .1) h (s .pre .0 _ h .there) _ (same-numbers (c .before .named .ensures)))
 
 add-k : tie.Need-add-k Inv-loop μ-loop
 add-k c = search needs
@@ -44,7 +45,7 @@ loop-again c =
     let v = c .before .before .before .before .before .before .loop .inv in
     let h = c .before .before .before .before .before .loop-test .taken in (
       part-written (v .0)
-          (next-contour (s .args .points .now) (s .args .ranges .now) (s .args .from) (c .before .before .before .before .before .before .loop .k) (s .args .to) (v .1) h (s .pre .0 _ h .there) _ (c .before .before .before .before .named .ensures))
+          (next-contour (s .args .points .now) (s .args .ranges .now) (s .args .from) (c .before .before .before .before .before .before .loop .k) (s .args .to) (v .1) h (s .pre .0 _ h .there) _ (same-numbers (c .before .before .before .before .named .ensures)))
           (c .before .before .put-contour .ensures),
       omega (arith, v .1),
     )

@@ -6,6 +6,7 @@ use native.Mathlib.Omega.{arith}
 use lib.ListN.{length, length-map}
 use Rattle.buffer.specs.Spans.{span, spans}
 use Rattle.buffer.specs.Sets.{contour}
+use Rattle.buffer.proofs.PartLaws.{same-numbers}
 use Rattle.sets.proofs.LaterLaws.{Laying, laying-none, laying-placeable, laying-more, laying-all}
 use Rattle.sets.proofs.cleaning.later.Statement.{statement}
 use Rattle.sets.proofs.cleaning.later.Tie as tie
@@ -30,7 +31,7 @@ behind-requires c κs =
     let l = c .before .before .before .before .before .before .before in
     let v = l .loop .inv in
     let g = c .before .before .before .before .before .before .before .before .before .before .before .pre in
-    rw (c .before .before .before .before .before .named .ensures)
+    rw (same-numbers (c .before .before .before .before .before .named .ensures))
     (laying-placeable (v .0) (g .named) (c .before .before .before .before .before .before .loop-test .taken) _ _ _
     (record { in-next = omega (arith, v .1, g .scratch .in-next); in-prev = omega (arith, v .2, g .scratch .in-prev); in-mark = omega (arith, v .3, g .scratch .in-mark) }))
 
@@ -47,7 +48,7 @@ loop-again c =
     let b = c .before .before .before .before .before .before .before .before .before in
     let k = b .behind .kept .1 .1 .1 in
     let v = c .before .before .before .before .before .before .before .before .before .before .before .before .before .before .before .before .before .loop .inv in (
-      laying-more (v .0) (c .before .before .before .before .before .before .before .before .before .before .before .before .before .before .before .before .before .before .before .before .before .pre .named) (c .before .before .before .before .before .before .before .before .before .before .before .before .before .before .before .before .loop-test .taken) _ (c .before .before .before .before .before .before .before .before .before .before .before .before .before .before .before .named .ensures) _ _ _ (b .behind .ensures) (k .1 .1 .1 .0) (k .1 .1 .1 .1 .0),
+      laying-more (v .0) (c .before .before .before .before .before .before .before .before .before .before .before .before .before .before .before .before .before .before .before .before .before .pre .named) (c .before .before .before .before .before .before .before .before .before .before .before .before .before .before .before .before .loop-test .taken) _ (same-numbers (c .before .before .before .before .before .before .before .before .before .before .before .before .before .before .before .named .ensures)) _ _ _ (b .behind .ensures) (k .1 .1 .1 .0) (k .1 .1 .1 .1 .0),
       k .0 ∙ v .1,
       k .1 .0 ∙ v .2,
       k .1 .1 .0 ∙ v .3,

@@ -1,6 +1,7 @@
 -- `sets::cleaning::shape` meets its contract: empty, fallen with its first contour, or standing.
 use borrow.Author.Needs.{needs}
 use mathlib.Core.Path.{_∙_}
+use Rattle.buffer.proofs.PartLaws.{same-numbers}
 use Rattle.sets.proofs.ShapeLaws.{shape-empty, first-named, first-placeable, shape-fallen, rest-going, shape-stands}
 use Rattle.sets.proofs.cleaning.shape.Statement.{statement}
 use Rattle.sets.proofs.cleaning.shape.Tie as tie
@@ -16,7 +17,7 @@ named-requires c κs =
 behind-requires : tie.Need-behind-requires
 behind-requires c κs =
     let s = c .before .before .before .before .before .before .before .before .before .before in
-    rw (c .before .before .before .before .before .named .ensures) (first-placeable (s .args .rule) (s .args .points .now) (s .args .ranges .now) (s .args .at) (s .args .next .now) (s .args .prev .now) (s .args .mark .now) (s .args .out .now) (s .args .records .now) (s .pre) (c .before .before .before .before .before .before .if1 .left))
+    rw (same-numbers (c .before .before .before .before .before .named .ensures)) (first-placeable (s .args .rule) (s .args .points .now) (s .args .ranges .now) (s .args .at) (s .args .next .now) (s .args .prev .now) (s .args .mark .now) (s .args .out .now) (s .args .records .now) (s .pre) (c .before .before .before .before .before .before .if1 .left))
 
 same-length : tie.Need-same-length
 same-length c = c .before .before .before .before .before .before .before .before .before .before .before .behind .kept .1 .1 .1 .0
@@ -36,7 +37,7 @@ same-length-5 c = c .before .before .before .before .before .before .before .bef
 returns-2 : tie.Need-returns-2
 returns-2 c =
     let s = c .before .before .before .before .before .before .before .before .before .before .before .before .before .before .before .before .before .before .before .before .before .before in
-    shape-fallen (s .args .rule) (s .args .points .now) (s .args .ranges .now) (s .args .at) (s .args .next .now) (s .args .prev .now) (s .args .mark .now) (s .args .out .now) (s .args .records .now) (s .pre) (c .before .before .before .before .before .before .before .before .before .before .before .before .before .before .before .before .before .before .if1 .left) _ (c .before .before .before .before .before .before .before .before .before .before .before .before .before .before .before .before .before .named .ensures) _ _ _ (c .before .before .before .before .before .before .before .before .before .before .before .behind .ensures) (c .if2 .taken)
+    shape-fallen (s .args .rule) (s .args .points .now) (s .args .ranges .now) (s .args .at) (s .args .next .now) (s .args .prev .now) (s .args .mark .now) (s .args .out .now) (s .args .records .now) (s .pre) (c .before .before .before .before .before .before .before .before .before .before .before .before .before .before .before .before .before .before .if1 .left) _ (same-numbers (c .before .before .before .before .before .before .before .before .before .before .before .before .before .before .before .before .before .named .ensures)) _ _ _ (c .before .before .before .before .before .before .before .before .before .before .before .behind .ensures) (c .if2 .taken)
 
 sub-later : tie.Need-sub-later
 sub-later c = search needs
@@ -51,7 +52,7 @@ later-requires : tie.Need-later-requires
 later-requires c κs =
     let s = c .before .before .before .before .before .before .before .before .before .before .before .before .before .before .before .before .before .before .before .before .before .before .before .before .before .before .before .before in
     let k = c .before .before .before .before .before .before .before .before .before .before .before .before .before .before .before .before .before .behind .kept .1 .1 .1 in
-    rest-going (s .args .rule) (s .args .points .now) (s .args .ranges .now) (s .args .at) (s .args .next .now) (s .args .prev .now) (s .args .mark .now) (s .args .out .now) (s .args .records .now) (s .pre) (c .before .before .before .before .before .before .before .before .before .before .before .before .before .before .before .before .before .before .before .before .before .before .before .before .if1 .left) _ (c .before .before .before .before .before .before .before .before .before .before .before .before .before .before .before .before .before .before .before .before .before .before .before .named .ensures) _ _ _ (c .before .before .before .before .before .before .before .before .before .before .before .before .before .before .before .before .before .behind .ensures) (c .before .before .before .before .before .before .if2 .left) (k .1 .1 .1 .0) (k .1 .1 .1 .1 .0) _ _ _ (k .0) (k .1 .0) (k .1 .1 .0)
+    rest-going (s .args .rule) (s .args .points .now) (s .args .ranges .now) (s .args .at) (s .args .next .now) (s .args .prev .now) (s .args .mark .now) (s .args .out .now) (s .args .records .now) (s .pre) (c .before .before .before .before .before .before .before .before .before .before .before .before .before .before .before .before .before .before .before .before .before .before .before .before .if1 .left) _ (same-numbers (c .before .before .before .before .before .before .before .before .before .before .before .before .before .before .before .before .before .before .before .before .before .before .before .named .ensures)) _ _ _ (c .before .before .before .before .before .before .before .before .before .before .before .before .before .before .before .before .before .behind .ensures) (c .before .before .before .before .before .before .if2 .left) (k .1 .1 .1 .0) (k .1 .1 .1 .1 .0) _ _ _ (k .0) (k .1 .0) (k .1 .1 .0)
 
 same-length-6 : tie.Need-same-length-6
 same-length-6 c = c .before .before .before .before .before .before .before .before .later .kept .1 .1 .1 .1 .0 ∙ c .before .before .before .before .before .before .before .before .before .before .before .before .before .before .before .before .before .before .before .before .before .before .before .before .before .before .behind .kept .1 .1 .1 .0
@@ -72,7 +73,7 @@ returns-3 : tie.Need-returns-3
 returns-3 c =
     let s = c .before .before .before .before .before .before .before .before .before .before .before .before .before .before .before .before .before .before .before .before .before .before .before .before .before .before .before .before .before .before .before .before .before .before .before .before .before in
     let k = c .before .before .before .before .before .before .before .before .before .before .before .before .before .before .before .before .before .before .before .before .before .before .before .before .before .before .behind .kept .1 .1 .1 in
-    shape-stands (s .args .rule) (s .args .points .now) (s .args .ranges .now) (s .args .at) (s .args .next .now) (s .args .prev .now) (s .args .mark .now) (s .args .out .now) (s .args .records .now) (s .pre) (c .before .before .before .before .before .before .before .before .before .before .before .before .before .before .before .before .before .before .before .before .before .before .before .before .before .before .before .before .before .before .before .before .before .if1 .left) _ (c .before .before .before .before .before .before .before .before .before .before .before .before .before .before .before .before .before .before .before .before .before .before .before .before .before .before .before .before .before .before .before .before .named .ensures) _ _ _ (c .before .before .before .before .before .before .before .before .before .before .before .before .before .before .before .before .before .before .before .before .before .before .before .before .before .before .behind .ensures) (c .before .before .before .before .before .before .before .before .before .before .before .before .before .before .before .if2 .left) (k .1 .1 .1 .0) (k .1 .1 .1 .1 .0) _ (c .before .before .before .before .before .before .before .before .later .ensures)
+    shape-stands (s .args .rule) (s .args .points .now) (s .args .ranges .now) (s .args .at) (s .args .next .now) (s .args .prev .now) (s .args .mark .now) (s .args .out .now) (s .args .records .now) (s .pre) (c .before .before .before .before .before .before .before .before .before .before .before .before .before .before .before .before .before .before .before .before .before .before .before .before .before .before .before .before .before .before .before .before .before .if1 .left) _ (same-numbers (c .before .before .before .before .before .before .before .before .before .before .before .before .before .before .before .before .before .before .before .before .before .before .before .before .before .before .before .before .before .before .before .before .named .ensures)) _ _ _ (c .before .before .before .before .before .before .before .before .before .before .before .before .before .before .before .before .before .before .before .before .before .before .before .before .before .before .behind .ensures) (c .before .before .before .before .before .before .before .before .before .before .before .before .before .before .before .if2 .left) (k .1 .1 .1 .0) (k .1 .1 .1 .1 .0) _ (c .before .before .before .before .before .before .before .before .later .ensures)
 
 pub shape-spec : {M : Type 1} → statement M
 shape-spec =

@@ -13,6 +13,7 @@ use Rattle.grid.specs.Domain.{domain}
 use Rattle.ring.specs.declared.Rule.{Rule}
 use Rattle.buffer.specs.Spans.{span}
 use Rattle.buffer.specs.Sets.{contour}
+use Rattle.buffer.proofs.PartLaws.{same-numbers}
 use Rattle.sets.specs.Verdicts.{passes}
 use Rattle.sets.proofs.PartLaws.{part-named, part-in-domain, Left, one-fails, one-passes, all-pass}
 use Rattle.sets.proofs.passing.all_pass.Statement.{statement}
@@ -31,7 +32,7 @@ abbrev μ-loop : tie.MeasureT-loop
 -- what the part that is named says
 here : (c : tie.After-passes Inv-loop μ-loop) → let l = c .before .before .before in let s = l .before in
     c .passes .result ≡ test (s .args .rule) (contour (s .args .points .now) (span (getD (s .args .ranges .now) (l .loop .i) [])))
-here c = c .passes .ensures ∙ ap (test (c .before .before .before .before .args .rule)) (c .before .named .ensures)
+here c = c .passes .ensures ∙ ap (test (c .before .before .before .before .args .rule)) (same-numbers (c .before .named .ensures))
 
 loop-holds : tie.Need-loop-holds Inv-loop μ-loop
 loop-holds c = refl
@@ -42,7 +43,7 @@ named-requires c κs = let s = c .before .before in part-named (s .args .points 
 passes-requires : tie.Need-passes-requires Inv-loop μ-loop
 passes-requires c κs =
     let s = c .before .before .before in
-    ap (λ (row : List ℤ). first-of (domain row)) (c .named .ensures) ∙ part-in-domain (s .args .points .now) (s .args .ranges .now) (c .before .before .loop .i) (s .pre) (c .before .loop-test .taken)
+    ap (λ (row : List ℤ). first-of (domain row)) (same-numbers (c .named .ensures)) ∙ part-in-domain (s .args .points .now) (s .args .ranges .now) (c .before .before .loop .i) (s .pre) (c .before .loop-test .taken)
 
 returns : tie.Need-returns Inv-loop μ-loop
 returns c =

@@ -12,6 +12,7 @@ use Rattle.grid.specs.Domain.{domain}
 use Rattle.area.specs.Answers.{doubled}
 use Rattle.buffer.specs.Spans.{span, spans}
 use Rattle.buffer.specs.Sets.{contour, contours}
+use Rattle.buffer.proofs.PartLaws.{same-numbers}
 use Rattle.sets.specs.Area.{filled}
 use Rattle.sets.proofs.PartLaws.{part-named, part-in-domain, one-fails, all-pass}
 use Rattle.sets.proofs.AreaLaws.{part-empty, part-filled, part-value, set-empty, set-filled, Gathered, gathered-none, gathered-more, gathered-all}
@@ -31,7 +32,7 @@ module _ (c : tie.After-area-two Inv-loop μ-loop) where
 
   answered : c .area-two .result ≡ doubled part
   unfolding part
-  answered = c .area-two .ensures ∙ ap doubled (c .before .named .ensures)
+  answered = c .area-two .ensures ∙ ap doubled (same-numbers (c .before .named .ensures))
 
   in-domain : first-of (domain part) ≡ 0
   unfolding part
