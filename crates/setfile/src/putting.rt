@@ -75,20 +75,20 @@ fn put_shape(
 // The shapes of a set.
 pub fn put_shapes(
     points: &[i32],
-    ranges: &[[usize; 2]],
-    groups: &[[usize; 2]],
+    contours: &[[usize; 2]],
+    shapes: &[[usize; 2]],
     bytes: &mut [u8],
     at: usize,
 ) -> usize
-    requires { ⌜ Named (now points) (now ranges) (length (now ranges)) × Grouped (now groups) (length (now ranges)) × Room at (coded-shapes (now points) (now ranges) (now groups)) (now bytes) ⌝ }
-    ensures { λ r. ⌜ Put at (coded-shapes (now (points .entry)) (now (ranges .entry)) (now (groups .entry))) (now (bytes .entry)) r (now (bytes .exit)) ⌝ }
+    requires { ⌜ Named (now points) (now contours) (length (now contours)) × Grouped (now shapes) (length (now contours)) × Room at (coded-shapes (now points) (now contours) (now shapes)) (now bytes) ⌝ }
+    ensures { λ r. ⌜ Put at (coded-shapes (now (points .entry)) (now (contours .entry)) (now (shapes .entry))) (now (bytes .entry)) r (now (bytes .exit)) ⌝ }
 {
     let mut place = at;
     let mut i: usize = 0;
-    while i < groups.len() {
-        let from = groups[i][0];
-        let to = groups[i][1];
-        place = put_shape(points, ranges, from, to, bytes, place);
+    while i < shapes.len() {
+        let from = shapes[i][0];
+        let to = shapes[i][1];
+        place = put_shape(points, contours, from, to, bytes, place);
         i += 1;
     }
     place

@@ -9,27 +9,27 @@ use buffer::Packed;
 // Reads the set that a file carries to the front of the rows, or refuses it and leaves them.
 pub fn read(
     bytes: &[u8],
-    points: &mut [i32],
-    contours: &mut [[usize; 2]],
-    shapes: &mut [[usize; 2]],
+    out: &mut [i32],
+    records: &mut [[usize; 2]],
+    groups: &mut [[usize; 2]],
 ) -> Packed
     ensures { λ r. ⌜
-        left r (now (points .exit)) (now (contours .exit)) (now (shapes .exit))
-        ≡ outcome (now (bytes .entry)) (now (points .entry)) (now (contours .entry)) (now (shapes .entry))
+        left r (now (out .exit)) (now (records .exit)) (now (groups .exit))
+        ≡ outcome (now (bytes .entry)) (now (out .entry)) (now (records .entry)) (now (groups .entry))
         ⌝ }
 {
     let file = judging::judge(bytes);
-    let room = (file.numbers <= points.len())
-        & (file.contours <= contours.len())
-        & (file.shapes <= shapes.len());
+    let room = (file.numbers <= out.len())
+        & (file.contours <= records.len())
+        & (file.shapes <= groups.len());
     let first = buffer::refusal::or_room(file.reply, room);
     if first != 0 {
         return buffer::answer::refused(first);
     }
     let n = file.contours;
-    filling::points(bytes, n, points);
-    filling::contours(bytes, n, contours);
-    filling::shapes(bytes, n, shapes);
+    filling::points(bytes, n, out);
+    filling::contours(bytes, n, records);
+    filling::shapes(bytes, n, groups);
     Packed {
         reply: grid::reply::DONE,
         points: file.numbers / 2,

@@ -214,7 +214,7 @@ pub despiked-shapes : Determined sets·despike·despiked-shapes.Learnt (λ κs x
 despiked-shapes = by-its-definition _ (λ κs a x e h. h)
 
 -- Set files.
-pub read : Determined setfile·read.Learnt (λ κs x e. four e (λ bytes points contours shapes. Packed.left x (now points) (now contours) (now shapes)))
+pub read : Determined setfile·read.Learnt (λ κs x e. four e (λ bytes out records groups. Packed.left x (now out) (now records) (now groups)))
 read = by-its-definition _ (λ κs a x e h. h)
 
 pub write : Determined setfile·write.Learnt (λ κs x e. four e (λ points contours shapes bytes. Written.left (x .reply) (x .bytes) (now bytes)))

@@ -10,11 +10,11 @@ use Rattle.setfile.proofs.putting.put_shapes.Statement.{statement}
 use Rattle.setfile.proofs.putting.put_shapes.Tie as tie
 
 abbrev Inv-loop : tie.InvT-loop
-Inv-loop points ranges groups bytes₀ at place₀ i₀ bytes place i =
-    Writing at (coded-shapes points ranges groups) bytes₀ place (coded-shapes points ranges (drop i groups)) bytes
+Inv-loop points contours shapes bytes₀ at place₀ i₀ bytes place i =
+    Writing at (coded-shapes points contours shapes) bytes₀ place (coded-shapes points contours (drop i shapes)) bytes
 
 abbrev μ-loop : tie.MeasureT-loop
-μ-loop points ranges groups bytes₀ at place₀ i₀ bytes place i = length groups - i
+μ-loop points contours shapes bytes₀ at place₀ i₀ bytes place i = length shapes - i
 
 loop-holds : tie.Need-loop-holds Inv-loop μ-loop
 loop-holds c = none-written _ _ _ (c .before .pre .2)
@@ -42,7 +42,7 @@ put-shape-requires c κs =
     let s = c .before .before .before .before .before .before in
     let h = c .before .before .before .loop-test .taken in (
       λ k l. s .pre .0 k (omega (arith, l, s .pre .1 (c .before .before .before .before .loop .i) h)),
-      part-room (c .before .before .before .before .loop .inv) (next-shape (s .args .points .now) (s .args .ranges .now) (s .args .groups .now) (c .before .before .before .before .loop .i) h),
+      part-room (c .before .before .before .before .loop .inv) (next-shape (s .args .points .now) (s .args .contours .now) (s .args .shapes .now) (c .before .before .before .before .loop .i) h),
     )
 
 add-i : tie.Need-add-i Inv-loop μ-loop
@@ -54,7 +54,7 @@ loop-less c = search needs
 loop-again : tie.Need-loop-again Inv-loop μ-loop
 loop-again c =
     let s = c .before .before .before .before .before .before .before .before .before .args in
-    part-written (c .before .before .before .before .before .before .before .loop .inv) (next-shape (s .points .now) (s .ranges .now) (s .groups .now) (c .before .before .before .before .before .before .before .loop .i) (c .before .before .before .before .before .before .loop-test .taken))
+    part-written (c .before .before .before .before .before .before .before .loop .inv) (next-shape (s .points .now) (s .contours .now) (s .shapes .now) (c .before .before .before .before .before .before .before .loop .i) (c .before .before .before .before .before .before .loop-test .taken))
     (c .before .before .put-shape .ensures)
 
 same-length : tie.Need-same-length Inv-loop μ-loop
@@ -63,7 +63,7 @@ same-length c = c .before .loop .inv .long
 returns : tie.Need-returns Inv-loop μ-loop
 returns c =
     let s = c .before .before .before .args in
-    all-written (c .before .loop .inv) (no-shape (s .points .now) (s .ranges .now) (s .groups .now) (c .before .loop .i) (omega arith))
+    all-written (c .before .loop .inv) (no-shape (s .points .now) (s .contours .now) (s .shapes .now) (c .before .loop .i) (omega arith))
 
 pub put-shapes-spec : {M : Type 1} → statement M
 put-shapes-spec =

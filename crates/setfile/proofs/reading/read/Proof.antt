@@ -9,10 +9,10 @@ bytes-of : (c : tie.After-shared-slice-known) → Bytes (c .before .args .bytes 
 bytes-of c = λ i h. c .shared-slice-known .given i .fits
 
 -- the file is not refused
-not-refused : (c : tie.Else1) → let s = c .before .before .before .before .before .before .before .args in Accepted (s .bytes .now) (s .points .now) (s .contours .now) (s .shapes .now) (c .before .before .before .before .before .judge .result)
+not-refused : (c : tie.Else1) → let s = c .before .before .before .before .before .before .before .args in Accepted (s .bytes .now) (s .out .now) (s .records .now) (s .groups .now) (c .before .before .before .before .before .judge .result)
 not-refused c =
     let s = c .before .before .before .before .before .before .before .args in
-    accepted (s .bytes .now) (s .points .now) (s .contours .now) (s .shapes .now) (c .before .before .before .before .before .judge .result) (c .before .before .before .before .before .judge .ensures) (bytes-of (c .before .before .before .before .before .before)) _ (c .before .or-room .ensures) (c .if1 .left)
+    accepted (s .bytes .now) (s .out .now) (s .records .now) (s .groups .now) (c .before .before .before .before .before .judge .result) (c .before .before .before .before .before .judge .ensures) (bytes-of (c .before .before .before .before .before .before)) _ (c .before .or-room .ensures) (c .if1 .left)
 
 judge-requires : tie.Need-judge-requires
 judge-requires c κs = search needs
@@ -26,7 +26,7 @@ refused-requires c κs = search needs
 returns : tie.Need-returns
 returns c =
     let s = c .before .before .before .before .before .before .before .before .args in
-    read-refused (s .bytes .now) (s .points .now) (s .contours .now) (s .shapes .now) (c .before .before .before .before .before .before .judge .result) (c .before .before .before .before .before .before .judge .ensures) (bytes-of (c .before .before .before .before .before .before .before)) _ (c .before .before .or-room .ensures)
+    read-refused (s .bytes .now) (s .out .now) (s .records .now) (s .groups .now) (c .before .before .before .before .before .before .judge .result) (c .before .before .before .before .before .before .judge .ensures) (bytes-of (c .before .before .before .before .before .before .before)) _ (c .before .before .or-room .ensures)
     _ (c .refused .ensures) (c .before .if1 .taken)
 
 points-requires : tie.Need-points-requires
@@ -50,7 +50,7 @@ same-length-3 c = search needs
 returns-2 : tie.Need-returns-2
 returns-2 c =
     let s = c .before .before .before .before .before .before .before .before .before .before .before .before .before .before .before .before .before .args in
-    read-done (s .bytes .now) (s .points .now) (s .contours .now) (s .shapes .now) (c .before .before .before .before .before .before .before .before .before .before .before .before .before .before .before .judge .result) (c .before .before .before .before .before .before .before .before .before .before .before .before .before .before .before .judge .ensures) (bytes-of (c .before .before .before .before .before .before .before .before .before .before .before .before .before .before .before .before)) _ (c .before .before .before .before .before .before .before .before .before .before .before .or-room .ensures) (c .before .before .before .before .before .before .before .before .before .before .if1 .left)
+    read-done (s .bytes .now) (s .out .now) (s .records .now) (s .groups .now) (c .before .before .before .before .before .before .before .before .before .before .before .before .before .before .before .judge .result) (c .before .before .before .before .before .before .before .before .before .before .before .before .before .before .before .judge .ensures) (bytes-of (c .before .before .before .before .before .before .before .before .before .before .before .before .before .before .before .before)) _ (c .before .before .before .before .before .before .before .before .before .before .before .or-room .ensures) (c .before .before .before .before .before .before .before .before .before .before .if1 .left)
     _ _ _ (c .before .before .before .before .before .before .before .before .points .ensures) (c .before .before .before .before .before .contours .ensures) (c .before .before .shapes .ensures)
 
 pub read-spec : {M : Type 1} → statement M
