@@ -1,10 +1,12 @@
 -- Down a ladder of refusals: past the rungs that do not hold, to the first that does, or to the foot.
 use mathlib.Core.Path.{_≡_, refl}
-use mathlib.Core.Bool.{Bool, true, false}
+use mathlib.Core.Bool.{Bool, true, false, _&&_}
 use mathlib.Core.List.{List, [], _∷_, _++_}
-use Prim.Native.Nat.{ℕ, zero, suc}
+use Prim.Native.Nat.{ℕ, zero, suc, _≤_}
 use native.Mathlib.Omega.{arith}
-use lib.Dec.{T}
+use lib.Dec.{T, leb}
+use borrow.Author.Tests.{leb-true}
+use Rattle.integers.proofs.Logic.{and-left, and-right}
 use Rattle.grid.specs.Ladder.{Rung, first-of}
 
 pub data First : List Rung → ℕ → Type 0 where
@@ -56,3 +58,14 @@ cleared [] b t e = (refl, e)
 cleared ((c, zero) ∷ a) b t e = absurd t
 cleared ((true, suc k) ∷ a) b t e = absurd (omega arith)
 cleared ((false, suc k) ∷ a) b t e = cleared a b t e
+
+-- no rung's number is above n, and so no refusal's
+abbrev pub within : ℕ → List Rung → Bool
+within n [] = true
+within n (r ∷ l) = leb (r .1) n && within n l
+
+pub first-within : (n : ℕ) (l : List Rung) → within n l ≡ true → first-of l ≤ n
+unfolding first-of
+first-within n [] e = omega arith
+first-within n ((true, k) ∷ l) e = leb-true k n (and-left (leb k n) (within n l) e)
+first-within n ((false, k) ∷ l) e = first-within n l (and-right (leb k n) (within n l) e)
