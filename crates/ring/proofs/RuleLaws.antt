@@ -18,7 +18,7 @@ use Rattle.grid.proofs.AroundLaws.{corner}
 use Rattle.grid.proofs.EdgeLaws.{moving, moving-before, straight-edges, back-edges, same-before, same-after}
 use Rattle.ring.specs.declared.Rule.{Rule}
 use Rattle.ring.specs.declared.Rule.the-variants.{Collinear, Spike}
-use Rattle.ring.specs.Rule.{goes-at, goes-along}
+use Rattle.ring.specs.Rule.{goes-at, cross-at, CrossZero, goes-along}
 
 module _ (rule : Rule) (u v : Edge) where
   -- where the way turns the vertex stays
@@ -61,10 +61,6 @@ sign-zero (pos zero) e = refl
 sign-zero (pos (suc n)) e = absurd (one-zero (ap natAbs e))
 sign-zero (negsuc n) e = absurd (one-zero (ap natAbs e))
 
--- the cross at a corner
-abbrev pub cross-at : Corner → ℤ
-cross-at k = bend (k .before) (k .vertex) (k .after)
-
 straight-cross : (k : Corner) → straight k ≡ true → cross-at k ≡ pos 0
 straight-cross k e = sign-zero (cross-at k) (eqZ-true (sign (cross-at k)) (pos 0) e)
 
@@ -83,7 +79,7 @@ ends-still a c =
     (a .x ∷ a .y ∷ c .x ∷ c .y ∷ []) refl
 
 -- by either rule a vertex that goes has cross 0
-pub goes-cross : (rule : Rule) (k : Corner) → goes-at rule k ≡ true → cross-at k ≡ pos 0
+pub goes-cross : (rule : Rule) → CrossZero (goes-at rule)
 unfolding goes-at
 goes-cross Collinear k e = straight-cross k e
 goes-cross Spike k e = before (same (k .vertex) (k .before)) refl e

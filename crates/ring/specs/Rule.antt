@@ -4,10 +4,10 @@ use mathlib.Core.Bool.{Bool, true, _||_}
 use mathlib.Core.List.{List}
 use Prim.Native.Nat.{ℕ, _+_, _*_, _<_}
 use lib.ListN.{length}
-use lib.IntN.{ℤ}
+use lib.IntN.{ℤ, pos}
 use Rattle.grid.specs.Limits.{all-on-grid}
 use Rattle.grid.specs.declared.Edge.{Edge}
-use Rattle.grid.specs.Points.{at, same, still, parallel, opposed}
+use Rattle.grid.specs.Points.{at, same, bend, still, parallel, opposed}
 use Rattle.grid.specs.Corners.{Corner, straight, back}
 use Rattle.ring.specs.declared.Rule.{Rule}
 use Rattle.ring.specs.declared.Rule.the-variants.{Collinear, Spike}
@@ -26,9 +26,21 @@ goes-along Spike u v = still u || (still v || opposed u v)
 abbrev pub corner-of : List ℤ → ℕ → ℕ → ℕ → Corner
 corner-of row a c b = record { before = at row a; vertex = at row c; after = at row b }
 
--- The rule on the positions of a row.
+-- A rule says of a corner whether its vertex is to go. Any rule, on the positions of a row.
+abbrev pub goes-in : (Corner → Bool) → List ℤ → ℕ → ℕ → ℕ → Bool
+goes-in goes row a c b = goes (corner-of row a c b)
+
+-- One of the two rules.
 abbrev pub goes : Rule → List ℤ → ℕ → ℕ → ℕ → Bool
-goes rule row a c b = goes-at rule (corner-of row a c b)
+goes rule = goes-in (goes-at rule)
+
+-- The cross at a corner.
+abbrev pub cross-at : Corner → ℤ
+cross-at k = bend (k .before) (k .vertex) (k .after)
+
+-- By a rule, whichever it is, a vertex that is to go has cross 0.
+abbrev pub CrossZero : (Corner → Bool) → Type 0
+CrossZero goes = (k : Corner) → goes k ≡ true → cross-at k ≡ pos 0
 
 -- Three positions of a row on the grid.
 pub record Vertices (row : List ℤ) (a c b : ℕ) : Type 0 where
