@@ -15,7 +15,7 @@ use Rattle.ring.specs.declared.Rule.{Rule}
 use Rattle.ring.specs.declared.Rule.the-variants.{Collinear, Spike}
 use Rattle.ring.specs.Walk.{survivors-from, others, successor, predecessor, count, unmark, unmark-about, remove, decide, look, looks, walk}
 use Rattle.ring.specs.Rule.{goes-at}
-use Rattle.clean.specs.Outcome.{chosen, outcome}
+use Rattle.clean.specs.Outcome.{chosen, outcome-by, outcome}
 
 -- three rows of scratch of the same length, all 0
 abbrev scratch : ℕ → List ℕ
@@ -25,7 +25,7 @@ abbrev room : ℕ → List ℤ
 room n = replicate n (pos 0)
 
 w3-kept : (rule : Rule) → outcome rule W3 (scratch 3) (scratch 3) (scratch 3) (room 6) .answer .reply ≡ 0
-unfolding survivors-from others successor predecessor count unmark unmark-about remove decide look looks walk goes-at bend reverses limit most on-grid all-on-grid around exact points first-of chosen outcome
+unfolding survivors-from others successor predecessor count unmark unmark-about remove decide look looks walk goes-at bend reverses limit most on-grid all-on-grid around exact points first-of chosen outcome-by
 w3-kept Collinear = refl
 w3-kept Spike = refl
 
@@ -34,7 +34,7 @@ pub always-seven : (rule : Rule) → ((row : List ℤ) (next prev mark : List �
 always-seven rule f = let z : _≡_ {A = ℕ} 0 7 = sym (w3-kept rule) ∙ f W3 (scratch 3) (scratch 3) (scratch 3) (room 6) in omega arith
 
 w4-cleaned : getD (outcome Collinear W4 (scratch 5) (scratch 5) (scratch 5) (room 10) .out) 2 (pos 0) ≡ pos 4
-unfolding survivors-from others successor predecessor count unmark unmark-about remove decide look looks walk goes-at bend reverses limit most on-grid all-on-grid around exact points first-of chosen outcome
+unfolding survivors-from others successor predecessor count unmark unmark-about remove decide look looks walk goes-at bend reverses limit most on-grid all-on-grid around exact points first-of chosen outcome-by
 w4-cleaned = refl
 
 -- copying the contour through is not cleaning, since W4 loses its second point

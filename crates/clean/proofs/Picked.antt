@@ -1,5 +1,6 @@
 -- The points at some positions of a row, and what the walk's words say of them.
 use mathlib.Core.Path.{_≡_, refl, sym, _∙_, ap}
+use mathlib.Core.Bool.{Bool}
 use mathlib.Core.List.{List, [], _∷_, map}
 use Prim.Native.Nat.{ℕ, zero, suc, _+_, _-_, _<_}
 use native.Mathlib.Omega.{arith}
@@ -8,13 +9,12 @@ use lib.IntN.{ℤ}
 use lib.ListN.{length, getD, drop, length-map, List·getD-map}
 use Rattle.grid.specs.declared.Point.{Point}
 use Rattle.grid.specs.Points.{at, origin, points}
-use Rattle.grid.specs.Corners.{corner-in}
+use Rattle.grid.specs.Corners.{Corner, corner-in}
 use Rattle.grid.specs.Neighbours.{preceding, following, leaving-out}
 use Rattle.grid.specs.Domain.{Contour}
 use Rattle.grid.proofs.RowLaws.{points-more, points-done}
-use Rattle.ring.specs.declared.Rule.{Rule}
 use Rattle.ring.specs.Walk.{survivors-from, survivors, fresh, to-go}
-use Rattle.ring.specs.Rule.{goes-at, goes, corner-of}
+use Rattle.ring.specs.Rule.{corner-of, goes-in}
 use Rattle.ring.specs.Promises.{would-go}
 use Rattle.ring.proofs.Filling.{fresh-stands}
 use Rattle.ring.proofs.Listed.{to-go-listed}
@@ -54,8 +54,8 @@ module _ (row : List ℤ) where
   pub picked-corner : (s : List ℕ) (j : ℕ) → j < length s → corner-in (picked s) j ≡ corner-of row (preceding 0 s j) (getD s j 0) (following 0 s j)
   picked-corner s j h = rw (picked-before s j h, picked-at s j h, picked-after s j h)
 
-  pub would-go-picked : (rule : Rule) (s : List ℕ) (j : ℕ) → j < length s → would-go (goes rule row) s j ≡ goes-at rule (corner-in (picked s) j)
-  would-go-picked rule s j h = ap (goes-at rule) (sym (picked-corner s j h))
+  pub would-go-picked : (goes : Corner → Bool) (s : List ℕ) (j : ℕ) → j < length s → would-go (goes-in goes row) s j ≡ goes (corner-in (picked s) j)
+  would-go-picked goes s j h = ap goes (sym (picked-corner s j h))
 
   -- all positions
   module _ {n : ℕ} (c : Contour row n) where
@@ -70,7 +70,7 @@ module _ (row : List ℤ) where
     picked-all = all-from n 0 (omega arith)
 
     -- what the rule says of a position of the ring it says of the contour's corner there
-    pub ring-corner : (rule : Rule) (j : ℕ) → j < n → to-go (goes rule row) (fresh n) j ≡ goes-at rule (corner-in (points row) j)
-    ring-corner rule j h =
+    pub ring-corner : (goes : Corner → Bool) (j : ℕ) → j < n → to-go (goes-in goes row) (fresh n) j ≡ goes (corner-in (points row) j)
+    ring-corner goes j h =
         let a = fresh-stands n j h in
-        to-go-listed (goes rule row) a ∙ would-go-picked rule (survivors (fresh n)) j (a .inside) ∙ ap (λ (l : List Point). goes-at rule (corner-in l j)) picked-all
+        to-go-listed (goes-in goes row) a ∙ would-go-picked goes (survivors (fresh n)) j (a .inside) ∙ ap (λ (l : List Point). goes (corner-in l j)) picked-all

@@ -1,4 +1,5 @@
 pub mod Verdicts
 pub mod Outcome
+pub mod Promises
 pub mod Part
 pub mod Inside

@@ -1,4 +1,5 @@
--- What a cleaning answers, and what it leaves in the rows that are lent to it.
+-- What a cleaning answers, and what it leaves in the rows that are lent to it. Any rule may say of a corner whether its vertex is to go; the two cleaners have one each.
+use mathlib.Core.Bool.{Bool}
 use mathlib.Core.List.{List, [], _∷_, _++_}
 use Prim.Native.Nat.{ℕ, zero, suc, _+_, _*_}
 use lib.ListN.{length, getD, replicate}
@@ -6,11 +7,12 @@ use lib.IntN.{ℤ, pos}
 use lib.Dec.{ltb}
 use Rattle.grid.specs.Ladder.{Rung, first-of}
 use Rattle.grid.specs.Rows.{front}
+use Rattle.grid.specs.Corners.{Corner}
 use Rattle.grid.specs.Domain.{count, domain}
 use Rattle.ring.specs.declared.Rule.{Rule}
 use Rattle.ring.specs.Walk.{Stage, walk}
 use Rattle.ring.specs.Walk.Stage.{under-way, kept, collapsed}
-use Rattle.ring.specs.Rule.{goes}
+use Rattle.ring.specs.Rule.{goes-at, goes-in}
 use Rattle.clean.specs.declared.cleaning.Cleaned.{Cleaned}
 
 -- 4: a scratch row has fewer entries than there are points
@@ -25,9 +27,13 @@ room n out = (ltb out (2 * n), 5) ∷ []
 abbrev pub refusals : List ℤ → ℕ → ℕ → ℕ → ℕ → List Rung
 refusals row next prev mark out = domain row ++ (scratch (count row) next prev mark ++ room (count row) out)
 
--- the walk of the contour by a rule
+-- the walk of the contour by any rule
+abbrev pub walked-by : (Corner → Bool) → List ℤ → Stage
+walked-by goes row = walk (goes-in goes row) (count row)
+
+-- by one of the two
 abbrev pub walked : Rule → List ℤ → Stage
-walked rule row = walk (goes rule row) (count row)
+walked rule = walked-by (goes-at rule)
 
 -- the numbers of a row's points at some positions
 unfoldable pub chosen : List ℤ → List ℕ → List ℤ
@@ -64,10 +70,14 @@ pub record Left : Type 0 where
 abbrev pub left : Cleaned → List ℕ → List ℕ → List ℕ → List ℤ → Left
 left r next prev mark out = record { answer = r; next = next; prev = prev; mark = mark; out = out }
 
--- what a cleaning comes to, whatever it is called with: a refusal leaves all as it was, and otherwise the scratch is zeroed
-unfoldable pub outcome : Rule → List ℤ → List ℕ → List ℕ → List ℕ → List ℤ → Left
-outcome rule row next prev mark out =
+-- what a cleaning by any rule comes to, whatever it is called with: a refusal leaves all as it was, and otherwise the scratch is zeroed
+unfoldable pub outcome-by : (Corner → Bool) → List ℤ → List ℕ → List ℕ → List ℕ → List ℤ → Left
+outcome-by goes row next prev mark out =
     elim (first-of (refusals row (length next) (length prev) (length mark) (length out))) [
       | suc k ↦ left (answer (suc k) 0 0) next prev mark out
-      | zero ↦ left (told (walked rule row)) (zeroed (count row) next) (zeroed (count row) prev) (zeroed (count row) mark) (written row (walked rule row) out)
+      | zero ↦ left (told (walked-by goes row)) (zeroed (count row) next) (zeroed (count row) prev) (zeroed (count row) mark) (written row (walked-by goes row) out)
     ]
+
+-- what the two cleaners come to
+abbrev pub outcome : Rule → List ℤ → List ℕ → List ℕ → List ℕ → List ℤ → Left
+outcome rule = outcome-by (goes-at rule)

@@ -1,15 +1,15 @@
 -- `clean::cleaning::clean` meets its contract: it refuses, or cuts every row to its length and hands it on.
 use borrow.Author.Needs.{needs}
 use mathlib.Core.Path.{sym, _∙_}
-use lib.ListN.{length}
 use lib.Seq.{length-take-le}
-use Rattle.clean.proofs.OutcomeLaws.{Accepted, accepted, outcome-refused, ready-parts, joined}
+use Rattle.clean.specs.Promises.{InDomainWithRoom}
+use Rattle.clean.proofs.OutcomeLaws.{accepted, outcome-refused, ready-parts, joined}
 use Rattle.clean.proofs.cleaning.clean.Statement.{statement}
 use Rattle.clean.proofs.cleaning.clean.Tie as tie
 
 -- what is not refused has room everywhere
 fits : (c : tie.Else1) → let s = c .before .before .before .before .before .args in
-    Accepted (s .points .now) (length (s .next .now)) (length (s .prev .now)) (length (s .mark .now)) (length (s .out .now))
+    InDomainWithRoom (s .points .now) (s .next .now) (s .prev .now) (s .mark .now) (s .out .now)
 fits c = accepted _ _ _ _ _ (sym (c .before .refusal .ensures) ∙ c .if1 .left)
 
 refusal-requires : tie.Need-refusal-requires
@@ -19,22 +19,22 @@ returns : tie.Need-returns
 returns c = outcome-refused _ _ _ _ _ _ _ (c .before .refusal .ensures) (c .if1 .taken)
 
 slice-relend-prefix-sweep : tie.Need-slice-relend-prefix-sweep
-slice-relend-prefix-sweep c = fits c .in-next
+slice-relend-prefix-sweep c = fits c .room-in-next
 
 slice-aggregate-sweep : tie.Need-slice-aggregate-sweep
-slice-aggregate-sweep c = sym (length-take-le _ _ (fits (c .before) .in-next))
+slice-aggregate-sweep c = sym (length-take-le _ _ (fits (c .before) .room-in-next))
 
 slice-relend-prefix-sweep-2 : tie.Need-slice-relend-prefix-sweep-2
-slice-relend-prefix-sweep-2 c = fits (c .before) .in-prev
+slice-relend-prefix-sweep-2 c = fits (c .before) .room-in-prev
 
 slice-aggregate-sweep-2 : tie.Need-slice-aggregate-sweep-2
-slice-aggregate-sweep-2 c = sym (length-take-le _ _ (fits (c .before .before) .in-prev))
+slice-aggregate-sweep-2 c = sym (length-take-le _ _ (fits (c .before .before) .room-in-prev))
 
 slice-relend-prefix-sweep-3 : tie.Need-slice-relend-prefix-sweep-3
-slice-relend-prefix-sweep-3 c = fits (c .before .before) .in-mark
+slice-relend-prefix-sweep-3 c = fits (c .before .before) .room-in-mark
 
 slice-aggregate-sweep-3 : tie.Need-slice-aggregate-sweep-3
-slice-aggregate-sweep-3 c = sym (length-take-le _ _ (fits (c .before .before .before) .in-mark))
+slice-aggregate-sweep-3 c = sym (length-take-le _ _ (fits (c .before .before .before) .room-in-mark))
 
 sweep-requires : tie.Need-sweep-requires
 sweep-requires c κs = ready-parts _ _ _ _ _ (fits (c .before .before .before .before))

@@ -5,6 +5,7 @@ use native.Mathlib.Omega.{arith}
 use Rattle.grid.proofs.DomainLaws.{in-domain}
 use Rattle.grid.proofs.VerdictLaws.{verdict-refused, verdict-given}
 use Rattle.ring.specs.declared.Rule.the-variants.{Collinear}
+use Rattle.ring.specs.Rule.{goes-at}
 use Rattle.clean.specs.Verdicts.{simple}
 use Rattle.clean.proofs.VerdictLaws.{simple-few, simple-many}
 use Rattle.clean.proofs.Unchanged.{standing-all}
@@ -30,7 +31,7 @@ unfolding simple
 returns-3 c =
     let d = c .before .before in
     let e = sym (d .before .domain .ensures) ∙ d .if1 .left in
-    verdict-given _ _ _ e (standing-all Collinear _ (in-domain _ e) (c .standing .ensures) ∙ simple-many _ (c .before .if2 .left))
+    verdict-given _ _ _ e (standing-all (goes-at Collinear) _ (in-domain _ e) (c .standing .ensures) ∙ simple-many _ (c .before .if2 .left))
 
 pub is-simple-spec : {M : Type 1} → statement M
 is-simple-spec =

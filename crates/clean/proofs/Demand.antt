@@ -1,0 +1,45 @@
+-- What is demanded of both cleaners, sentence by sentence; o is whatever the contract allows.
+use mathlib.Core.Path.{_≡_}
+use mathlib.Core.Bool.{false}
+use mathlib.Core.List.{List}
+use Prim.Native.Nat.{ℕ, _-_, _*_, _<_, _≤_}
+use lib.IntN.{ℤ, pos}
+use Rattle.grid.specs.Points.{points}
+use Rattle.grid.specs.Corners.{corner-in}
+use Rattle.grid.specs.Area.{exact}
+use Rattle.grid.specs.Domain.{count}
+use Rattle.ring.specs.declared.Rule.{Rule}
+use Rattle.ring.specs.Rule.{goes-at}
+use Rattle.ring.proofs.RuleLaws.{goes-cross}
+use Rattle.clean.specs.Outcome.{Left, outcome}
+use Rattle.clean.specs.Promises.{InDomainWithRoom, kept-points, Keeps, Stands, Unchanged}
+use Rattle.clean.proofs.Theorems as by-any-rule
+use Rattle.clean.proofs.Unchanged as by-any-rule-unchanged
+
+module _ (rule : Rule) (row : List ℤ) (next prev mark : List ℕ) (out : List ℤ) (o : Left) (is : o ≡ outcome rule row next prev mark out) where
+  -- Demand 3, of a contour of three points or more, in the domain, with room.
+  module _ (many : 3 ≤ count row) (fits : InDomainWithRoom row next prev mark out) where
+    -- it is kept if its exact doubled area isn't zero
+    pub kept-if-area : (exact (points row) ≡ pos 0 → ⊥) → o .answer .reply ≡ 0
+    kept-if-area = by-any-rule.kept-if-area (goes-at rule) row next prev mark out o is many fits (goes-cross rule)
+
+    module _ (zero-reply : o .answer .reply ≡ 0) where
+      -- a kept contour has its points in their old order
+      pub kept-in-order : Keeps (goes-at rule) row out o
+      kept-in-order = by-any-rule.kept-in-order (goes-at rule) row next prev mark out o is many fits zero-reply
+
+      -- the same exact doubled area
+      pub kept-same-area : exact (kept-points o) ≡ exact (points row)
+      kept-same-area = by-any-rule.kept-same-area (goes-at rule) row next prev mark out o is many fits zero-reply (goes-cross rule)
+
+      -- and no vertex the rule would remove
+      pub nothing-left-to-remove : (j : ℕ) → j < o .answer .points → goes-at rule (corner-in (kept-points o) j) ≡ false
+      nothing-left-to-remove = by-any-rule.nothing-left-to-remove (goes-at rule) row next prev mark out o is many fits zero-reply
+
+    -- it takes at most 4n - 9 decisions
+    pub decisions-at-most-4n-9 : o .answer .decisions ≤ 4 * count row - 9
+    decisions-at-most-4n-9 = by-any-rule.decisions-at-most-4n-9 (goes-at rule) row next prev mark out o is many fits
+
+    -- with nothing to remove it comes back unchanged after n
+    pub nothing-to-remove : Stands (goes-at rule) (points row) → Unchanged row o
+    nothing-to-remove = by-any-rule-unchanged.nothing-to-remove (goes-at rule) row next prev mark out o is many fits

@@ -1,0 +1,52 @@
+-- The words in which the theorems say what a cleaning may count on, and what it leaves.
+use mathlib.Core.Path.{_≡_}
+use mathlib.Core.Bool.{Bool, true, false}
+use mathlib.Core.List.{List, map}
+use Prim.Native.Nat.{ℕ, _*_, _<_, _≤_}
+use lib.ListN.{length, take, drop}
+use lib.IntN.{ℤ}
+use Rattle.grid.specs.declared.Point.{Point}
+use Rattle.grid.specs.Limits.{most, all-on-grid}
+use Rattle.grid.specs.Points.{at, points}
+use Rattle.grid.specs.Corners.{Corner, corner-in}
+use Rattle.grid.specs.Ladder.{first-of}
+use Rattle.grid.specs.Domain.{count}
+use Rattle.ring.specs.Walk.Stage.{kept}
+use Rattle.ring.specs.Promises.{Rising}
+use Rattle.clean.specs.Outcome.{refusals, walked-by, answer, Left}
+
+-- no rung refuses a call
+abbrev pub NotRefused : List ℤ → List ℕ → List ℕ → List ℕ → List ℤ → Type 0
+NotRefused row next prev mark out = first-of (refusals row (length next) (length prev) (length mark) (length out)) ≡ 0
+
+-- a contour in the domain: an even count of numbers, at most 65,536 points, every coordinate within the limit; with room: each scratch row has an entry for each point, and the output one for each number
+pub record InDomainWithRoom (row : List ℤ) (next prev mark : List ℕ) (out : List ℤ) : Type 0 where
+  pub even-count : length row ≡ 2 * count row
+  pub at-most-65536 : count row ≤ most
+  pub on-the-grid : all-on-grid row ≡ true
+  pub room-in-next : count row ≤ length next
+  pub room-in-prev : count row ≤ length prev
+  pub room-in-mark : count row ≤ length mark
+  pub room-in-out : 2 * count row ≤ length out
+
+-- the contour that is kept: the written part of the output
+abbrev pub kept-points : Left → List Point
+kept-points o = points (take (2 * o .answer .points) (o .out))
+
+-- a contour is kept in its old order: the positions that the walk by a rule keeps rise, the kept points are those at them, as many as is answered, and behind them the output is as it was
+pub record Keeps (goes : Corner → Bool) (row out : List ℤ) (o : Left) : Type 0 where
+  pub positions : List ℕ
+  pub rising : Rising 0 (count row) positions
+  pub walk-is : walked-by goes row ≡ kept positions (o .answer .decisions)
+  pub count-is : o .answer .points ≡ length positions
+  pub points-are : kept-points o ≡ map (at row) positions
+  pub rest-is : drop (2 * o .answer .points) (o .out) ≡ drop (2 * o .answer .points) out
+
+-- no vertex of a contour would go by a rule
+abbrev pub Stands : (Corner → Bool) → List Point → Type 0
+Stands goes l = (j : ℕ) → j < length l → goes (corner-in l j) ≡ false
+
+-- the contour came back as it was: all its points, after as many decisions
+pub record Unchanged (row : List ℤ) (o : Left) : Type 0 where
+  pub answer-is : o .answer ≡ answer 0 (count row) (count row)
+  pub points-are : take (2 * count row) (o .out) ≡ row
