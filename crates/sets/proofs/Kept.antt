@@ -19,9 +19,10 @@ use Rattle.area.proofs.Removal.{few-points}
 use Rattle.ring.specs.declared.Rule.{Rule}
 use Rattle.ring.specs.Walk.{Stage}
 use Rattle.ring.specs.Walk.Stage.{under-way, kept, collapsed}
-use Rattle.ring.specs.Rule.{goes}
+use Rattle.ring.specs.Rule.{goes-at, goes}
 use Rattle.ring.specs.Promises.{EndedWithin}
 use Rattle.ring.proofs.Cases.{less?}
+use Rattle.ring.proofs.RuleLaws.{goes-cross}
 use Rattle.ring.proofs.Theorems.{ends-in-4n-9}
 use Rattle.clean.specs.Outcome.{walked}
 use Rattle.clean.proofs.RowLaws.{length-chosen}
@@ -61,9 +62,9 @@ module _ (rule : Rule) where
       walk-right (under-way m p k) e = absurd (subst (EndedWithin (4 * count c - 9)) e (ends-in-4n-9 (goes rule c) (count c)))
       walk-right (collapsed k) e = ⊎-elim
           (λ few. few-points (points c) (omega (arith, points-count c)))
-          (λ many. collapsed-area rule c h many e)
+          (λ many. collapsed-area (goes-at rule) (goes-cross rule) c h many e)
           (less? (count c) 3)
-      walk-right (kept s k) e = (ap exact (points-chosen c s) ∙ kept-area rule c h e, omega (arith, length-chosen c s))
+      walk-right (kept s k) e = (ap exact (points-chosen c s) ∙ kept-area (goes-at rule) (goes-cross rule) c h e, omega (arith, length-chosen c s))
 
       go : (b : Bool) → passes rule (points c) ≡ b → Right c (elim b [ true ↦ stays c 0 | false ↦ walk-fate c (walked rule c) ])
       go true e = (refl, h .even)
