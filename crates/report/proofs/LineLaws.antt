@@ -2,27 +2,26 @@
 use mathlib.Core.Path.{_≡_, refl, sym, _∙_, ap}
 use mathlib.Core.Bool.{Bool, true, false}
 use mathlib.Core.List.{List, [], _∷_, _++_, append-assoc, append-nil}
-use Prim.Native.Nat.{ℕ, _*_}
+use Prim.Native.Nat.{ℕ}
 use native.Mathlib.Omega.{arith}
-use borrow.Author.Tests.{eq-eqb, ne-eqb, le-ltb, eqb-true, eqb-false}
+use borrow.Author.Tests.{eq-eqb, ne-eqb, eqb-true, eqb-false}
 use lib.Dec.{eqb}
-use lib.ListN.{length}
 use lib.IntN.{ℤ}
 use Rattle.grid.specs.Points.{points}
 use Rattle.grid.specs.Area.{reported}
-use Rattle.grid.specs.Domain.{count, domain, Contour}
-use Rattle.grid.proofs.LadderLaws.{First, first-is, onward}
-use Rattle.grid.proofs.LadderLaws.First.{past, foot}
+use Rattle.grid.specs.Domain.{count, Contour}
 use Rattle.grid.proofs.DomainLaws.{contour-clear}
 use Rattle.ring.specs.declared.Rule as R
 use Rattle.ring.specs.Walk.{Stage}
 use Rattle.ring.specs.Walk.Stage.{under-way, kept, collapsed}
+use Rattle.ring.specs.Rule.{goes-at}
 use Rattle.area.specs.Answers.{doubled}
 use Rattle.area.proofs.AnswerLaws.{doubled-empty, doubled-done}
 use Rattle.area.specs.declared.answer.Area.{Area}
 use Rattle.clean.specs.declared.cleaning.Cleaned.{Cleaned}
-use Rattle.clean.specs.Outcome.{refusals, told, left, Left, outcome}
-use Rattle.clean.proofs.OutcomeLaws.{outcome-done}
+use Rattle.clean.specs.Outcome.{told, left, Left, outcome}
+use Rattle.clean.specs.Promises.{InDomainWithRoom}
+use Rattle.clean.proofs.OutcomeLaws.{not-refused, outcome-done}
 use Rattle.buffer.specs.Sets.{joined}
 use Rattle.report.specs.Text.{decimal, signed, dash, space, line-end}
 use Rattle.report.specs.Listing.{after, decisions, area2, cleaned, line}
@@ -84,12 +83,15 @@ line-is k c x r e a f =
 pub cleaned-told : (c : List ℤ) (next prev mark : List ℕ) (out : List ℤ) → Cleanable c next prev mark out
     → (r : Cleaned) (next′ prev′ mark′ : List ℕ) (out′ : List ℤ) → left r next′ prev′ mark′ out′ ≡ outcome R.Rule.Collinear c next prev mark out → r ≡ told (cleaned c)
 cleaned-told c next prev mark out x r next′ prev′ mark′ out′ e =
-    ap (λ (l : Left). l .answer) (e ∙ outcome-done R.Rule.Collinear c next prev mark out (sym (first-is _ 0 clear)))
+    ap (λ (l : Left). l .answer) (e ∙ outcome-done (goes-at R.Rule.Collinear) c next prev mark out (not-refused fits))
   where
-    clear : First (refusals c (length next) (length prev) (length mark) (length out)) 0
-    clear =
-        onward (domain c) _ 0 tt (contour-clear c (x .contour))
-        (past (le-ltb _ _ (x .in-next))
-        (past (le-ltb _ _ (x .in-prev))
-        (past (le-ltb _ _ (x .in-mark))
-        (past (le-ltb (length out) (2 * count c) (omega (arith, x .contour .even, x .in-out))) foot))))
+    fits : InDomainWithRoom c next prev mark out
+    fits = record {
+      even-count = x .contour .even;
+      at-most-65536 = x .contour .few;
+      on-the-grid = x .contour .on;
+      room-in-next = x .in-next;
+      room-in-prev = x .in-prev;
+      room-in-mark = x .in-mark;
+      room-in-out = omega (arith, x .contour .even, x .in-out);
+    }
