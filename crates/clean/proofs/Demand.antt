@@ -12,11 +12,20 @@ use Rattle.ring.specs.declared.Rule.{Rule}
 use Rattle.ring.specs.Rule.{goes-at}
 use Rattle.ring.proofs.RuleLaws.{goes-cross}
 use Rattle.clean.specs.Outcome.{Left, outcome}
-use Rattle.clean.specs.Promises.{InDomainWithRoom, kept-points, Keeps, Stands, Unchanged}
+use Rattle.clean.specs.Promises.{InDomainWithRoom, Untouched, OnlyZeroed, kept-points, Keeps, Stands, Unchanged}
 use Rattle.clean.proofs.Theorems as by-any-rule
 use Rattle.clean.proofs.Unchanged as by-any-rule-unchanged
 
+-- Demand 1, of any call.
 module _ (rule : Rule) (row : List ℤ) (next prev mark : List ℕ) (out : List ℤ) (o : Left) (is : o ≡ outcome rule row next prev mark out) where
+  -- a refusal, which is any reply but 0 and 7, leaves every lent row as it was
+  pub a-refusal-leaves-every-row-as-it-was : (o .answer .reply ≡ 0 → ⊥) → (o .answer .reply ≡ 7 → ⊥) → Untouched next prev mark out o
+  a-refusal-leaves-every-row-as-it-was = by-any-rule.a-refusal-leaves-every-row-as-it-was (goes-at rule) row next prev mark out o is
+
+  -- a collapse, which is the reply 7, leaves the output as it was and the scratch zeroed
+  pub a-collapse-only-zeroes-the-scratch : o .answer .reply ≡ 7 → OnlyZeroed (count row) next prev mark out o
+  a-collapse-only-zeroes-the-scratch = by-any-rule.a-collapse-only-zeroes-the-scratch (goes-at rule) row next prev mark out o is
+
   -- Demand 3, of a contour of three points or more, in the domain, with room.
   module _ (many : 3 ≤ count row) (fits : InDomainWithRoom row next prev mark out) where
     -- it is kept if its exact doubled area isn't zero

@@ -5,13 +5,14 @@ use Prim.Native.Nat.{ℕ, suc, _+_, _*_, _<_, _≤_}
 use native.Mathlib.Omega.{arith}
 use native.Mathlib.Numerals.{add-one}
 use lib.IntN.{ℤ, pos}
-use lib.ListN.{length, getD, set, drop, replicate, length-set, length-append, drop-of-length-le}
-use lib.Seq.{drop-cons, drop-length}
+use lib.ListN.{length, getD, set, drop, replicate, length-set, length-append, length-replicate, drop-of-length-le}
+use lib.Seq.{drop-cons, drop-length, take-at, drop-at}
 use borrow.Author.Fill.{fill-none, fill-more}
 use Rattle.grid.specs.Rows.{front}
 use Rattle.ring.specs.Walk.{survivors-from, survivors}
 use Rattle.ring.proofs.Survivors.{survivors-yes, survivors-no}
-use Rattle.clean.specs.Outcome.{chosen}
+use Rattle.clean.specs.Outcome.{chosen, zeroed}
+use Rattle.clean.specs.Promises.{Zeroed}
 
 pub length-chosen : (row : List ℤ) (s : List ℕ) → length (chosen row s) ≡ 2 * length s
 unfolding chosen
@@ -106,3 +107,9 @@ pub zeroing-all : {row₀ row : List ℕ} {i : ℕ} → Zeroing row₀ row i →
 zeroing-all {row₀} {row} {i} x h =
     let e : i ≡ length row₀ = omega (arith, x .long, x .high) in
     x .is ∙ rw (e, drop-length row₀) (append-nil (replicate (length row₀) 0))
+
+-- so much of a zeroed row is 0, and the rest as it was
+pub zeroed-is : (n : ℕ) (row : List ℕ) → Zeroed n row (zeroed n row)
+zeroed-is n row =
+    let e : length {A = ℕ} (replicate n 0) ≡ n = length-replicate n 0 in
+    record { first-n = take-at (replicate n 0) _ n e; later = drop-at (replicate n 0) _ n e ∙ rw e }

@@ -13,18 +13,20 @@ use Rattle.grid.specs.Points.{at, points}
 use Rattle.grid.specs.Corners.{Corner, corner-in}
 use Rattle.grid.specs.Neighbours.{leaving-out}
 use Rattle.grid.specs.Area.{exact}
+use Rattle.grid.specs.Ladder.{first-of}
 use Rattle.grid.specs.Domain.{count, Contour}
 use Rattle.grid.specs.Rows.{front}
+use Rattle.grid.proofs.LadderLaws.{first-within}
 use Rattle.area.proofs.Removal.{removed, three-points, bend-turned}
 use Rattle.ring.specs.Walk.{Stage, walk}
 use Rattle.ring.specs.Walk.Stage.{under-way, kept, collapsed}
 use Rattle.ring.specs.Rule.{goes-in, cross-at, CrossZero}
 use Rattle.ring.specs.Promises.{EndedWithin, Preserved}
 use Rattle.ring.proofs.Theorems.{ends-in-4n-9, kept-rising, kept-clean, kept-preserves, collapsed-at-three}
-use Rattle.clean.specs.Outcome.{walked-by, chosen, zeroed, answer, told, written, Left, left, outcome-by}
-use Rattle.clean.specs.Promises.{InDomainWithRoom, kept-points, Keeps}
-use Rattle.clean.proofs.OutcomeLaws.{contour, not-refused, outcome-done}
-use Rattle.clean.proofs.RowLaws.{length-chosen}
+use Rattle.clean.specs.Outcome.{refusals, walked-by, chosen, zeroed, answer, told, written, Left, left, outcome-by}
+use Rattle.clean.specs.Promises.{InDomainWithRoom, Untouched, OnlyZeroed, kept-points, Keeps}
+use Rattle.clean.proofs.OutcomeLaws.{contour, not-refused, outcome-refused, outcome-done}
+use Rattle.clean.proofs.RowLaws.{length-chosen, zeroed-is}
 use Rattle.clean.proofs.Picked.{picked, points-chosen, picked-leaving, would-go-picked, picked-all}
 
 -- three points at one of which the cross is 0 have no area
@@ -58,12 +60,57 @@ module _ (goes : Corner → Bool) (cross-zero : CrossZero goes) (row : List ℤ)
         sym (x .same ∙ ap exact (picked-all row c))
         ∙ three-flat (picked row (x .left)) (x .j) (length-map (x .left) (at row) ∙ x .three) (x .inside) (cross-zero _ t)
 
--- A call by any rule; o is whatever the contract allows.
+-- Any call by any rule; o is whatever the contract allows.
 module _ (goes : Corner → Bool) (row : List ℤ) (next prev mark : List ℕ) (out : List ℤ) (o : Left) (is : o ≡ outcome-by goes row next prev mark out) where
+  abbrev refusal : ℕ
+  refusal = first-of (refusals row (length next) (length prev) (length mark) (length out))
+
+  refused : (k : ℕ) → refusal ≡ suc k → o ≡ left (answer (suc k) 0 0) next prev mark out
+  refused k e = is ∙ sym (outcome-refused goes row next prev mark out (suc k) (sym e) (λ z. omega arith))
+
+  done : refusal ≡ 0 → o ≡ left (told (walked-by goes row)) (zeroed (count row) next) (zeroed (count row) prev) (zeroed (count row) mark) (written row (walked-by goes row) out)
+  done e = is ∙ outcome-done goes row next prev mark out e
+
+  -- a refusal, which is any reply but 0 and 7, leaves every lent row as it was
+  pub a-refusal-leaves-every-row-as-it-was : (o .answer .reply ≡ 0 → ⊥) → (o .answer .reply ≡ 7 → ⊥) → Untouched next prev mark out o
+  a-refusal-leaves-every-row-as-it-was zero-not seven-not = go refusal refl
+    where
+      answered : (w : Stage) → o .answer ≡ told w → ⊥
+      answered (kept s k) e = zero-not (rw e)
+      answered (collapsed k) e = seven-not (rw e)
+      answered (under-way m p k) e = seven-not (rw e)
+
+      go : (r : ℕ) → refusal ≡ r → Untouched next prev mark out o
+      go zero e = absurd (answered (walked-by goes row) (ap (λ (w : Left). w .answer) (done e)))
+      go (suc k) e = let d = refused k e in record { next-is = rw d; prev-is = rw d; mark-is = rw d; out-is = rw d }
+
+  -- a collapse, which is the reply 7, leaves the output as it was and the scratch zeroed
+  pub a-collapse-only-zeroes-the-scratch : o .answer .reply ≡ 7 → OnlyZeroed (count row) next prev mark out o
+  a-collapse-only-zeroes-the-scratch seven = go refusal refl
+    where
+      fallen : (w : Stage) → told w .reply ≡ 7 → written row w out ≡ out
+      fallen (kept s k) e = absurd (omega arith)
+      fallen (collapsed k) e = refl
+      fallen (under-way m p k) e = refl
+
+      go : (r : ℕ) → refusal ≡ r → OnlyZeroed (count row) next prev mark out o
+      go zero e =
+          let d = done e in
+          record {
+            next-zeroed = rw d (zeroed-is (count row) next);
+            prev-zeroed = rw d (zeroed-is (count row) prev);
+            mark-zeroed = rw d (zeroed-is (count row) mark);
+            out-is = rw d (fallen (walked-by goes row) (sym (ap (λ (w : Left). w .answer .reply) d) ∙ seven));
+          }
+      go (suc k) e =
+          let s : suc k ≡ 7 = sym (ap (λ (w : Left). w .answer .reply) (refused k e)) ∙ seven in
+          let n : refusal ≤ 5 = first-within 5 (refusals row (length next) (length prev) (length mark) (length out)) refl in
+          absurd (omega arith)
+
   -- A contour of three points or more, in the domain, with room.
   module _ (many : 3 ≤ count row) (fits : InDomainWithRoom row next prev mark out) where
     cleaned : o ≡ left (told (walked-by goes row)) (zeroed (count row) next) (zeroed (count row) prev) (zeroed (count row) mark) (written row (walked-by goes row) out)
-    cleaned = is ∙ outcome-done goes row next prev mark out (not-refused fits)
+    cleaned = done (not-refused fits)
 
     -- the walk ends one way or the other
     abbrev End : Type 0

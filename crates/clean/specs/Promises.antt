@@ -3,7 +3,7 @@ use mathlib.Core.Path.{_≡_}
 use mathlib.Core.Bool.{Bool, true, false}
 use mathlib.Core.List.{List, map}
 use Prim.Native.Nat.{ℕ, _*_, _<_, _≤_}
-use lib.ListN.{length, take, drop}
+use lib.ListN.{length, take, drop, replicate}
 use lib.IntN.{ℤ}
 use Rattle.grid.specs.declared.Point.{Point}
 use Rattle.grid.specs.Limits.{most, all-on-grid}
@@ -28,6 +28,25 @@ pub record InDomainWithRoom (row : List ℤ) (next prev mark : List ℕ) (out : 
   pub room-in-prev : count row ≤ length prev
   pub room-in-mark : count row ≤ length mark
   pub room-in-out : 2 * count row ≤ length out
+
+-- every lent row is as it was
+pub record Untouched (next prev mark : List ℕ) (out : List ℤ) (o : Left) : Type 0 where
+  pub next-is : o .next ≡ next
+  pub prev-is : o .prev ≡ prev
+  pub mark-is : o .mark ≡ mark
+  pub out-is : o .out ≡ out
+
+-- the first n entries of a row are 0, and the later ones as they were
+pub record Zeroed (n : ℕ) (before after : List ℕ) : Type 0 where
+  pub first-n : take n after ≡ replicate n 0
+  pub later : drop n after ≡ drop n before
+
+-- the output is as it was, and the scratch is zeroed
+pub record OnlyZeroed (n : ℕ) (next prev mark : List ℕ) (out : List ℤ) (o : Left) : Type 0 where
+  pub next-zeroed : Zeroed n next (o .next)
+  pub prev-zeroed : Zeroed n prev (o .prev)
+  pub mark-zeroed : Zeroed n mark (o .mark)
+  pub out-is : o .out ≡ out
 
 -- the contour that is kept: the written part of the output
 abbrev pub kept-points : Left → List Point
