@@ -1,4 +1,4 @@
--- The words in which the theorems say what a cleaning may count on, and what it leaves.
+-- The words in which the theorems say what a cleaning may count on, what it leaves, and what it is not.
 use mathlib.Core.Path.{_≡_}
 use mathlib.Core.Bool.{Bool, true, false}
 use mathlib.Core.List.{List, map}
@@ -11,9 +11,11 @@ use Rattle.grid.specs.Points.{at, points}
 use Rattle.grid.specs.Corners.{Corner, corner-in}
 use Rattle.grid.specs.Ladder.{first-of}
 use Rattle.grid.specs.Domain.{count}
+use Rattle.grid.specs.Rows.{front}
+use Rattle.ring.specs.declared.Rule.{Rule}
 use Rattle.ring.specs.Walk.Stage.{kept}
 use Rattle.ring.specs.Promises.{Rising}
-use Rattle.clean.specs.Outcome.{refusals, walked-by, answer, Left}
+use Rattle.clean.specs.Outcome.{refusals, walked-by, answer, Left, outcome}
 
 -- no rung refuses a call
 abbrev pub NotRefused : List ℤ → List ℕ → List ℕ → List ℕ → List ℤ → Type 0
@@ -69,3 +71,19 @@ Stands goes l = (j : ℕ) → j < length l → goes (corner-in l j) ≡ false
 pub record Unchanged (row : List ℤ) (o : Left) : Type 0 where
   pub answer-is : o .answer ≡ answer 0 (count row) (count row)
   pub points-are : take (2 * count row) (o .out) ≡ row
+
+-- a program, by what it answers and leaves of each call
+abbrev pub Program : Type 0
+Program = List ℤ → List ℕ → List ℕ → List ℕ → List ℤ → Left
+
+-- it meets the contract of one of the two cleaners
+abbrev pub Meets : Rule → Program → Type 0
+Meets rule f = (row : List ℤ) (next prev mark : List ℕ) (out : List ℤ) → f row next prev mark out ≡ outcome rule row next prev mark out
+
+-- it answers 7 to each call that no rung refuses
+abbrev pub AlwaysSeven : Program → Type 0
+AlwaysSeven f = (row : List ℤ) (next prev mark : List ℕ) (out : List ℤ) → NotRefused row next prev mark out → f row next prev mark out .answer .reply ≡ 7
+
+-- it copies the contour to the front of the output, on each call that no rung refuses
+abbrev pub CopiesThrough : Program → Type 0
+CopiesThrough f = (row : List ℤ) (next prev mark : List ℕ) (out : List ℤ) → NotRefused row next prev mark out → f row next prev mark out .out ≡ front row out
