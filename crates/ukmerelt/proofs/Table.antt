@@ -15,7 +15,7 @@ use Rattle.path.specs.Contains.{crosses, odd, contained, contains}
 use Rattle.ring.specs.Walk.{survivors-from, others, successor, predecessor, count, unmark, unmark-about, remove, decide, look, looks, walk}
 use Rattle.ring.specs.Rule.{goes-at}
 use Rattle.clean.specs.Verdicts.{is-simple, no-spike-left, no-spikes, simple, spike-free}
-use Rattle.clean.specs.Outcome.{chosen, outcome}
+use Rattle.clean.specs.Outcome.{chosen, outcome-by}
 use Rattle.buffer.specs.Spans.{laid, sound-from}
 use Rattle.buffer.specs.Sets.{joined}
 use Rattle.sets.specs.Fates.{fate, later, shape-fate}
@@ -23,5 +23,5 @@ use Rattle.sets.specs.Outcome.{shape-outcome}
 use Rattle.ukmerelt.specs.Table.{answers, table}
 
 pub the-table-holds : map answers table ≡ table
-unfolding xor mod64 limit most on-grid all-on-grid points bend reverses last differing distinct-neighbours corners-from corners some around exact wrapped first-of doubled half convex-left is-convex convex clockwise crosses odd contained contains survivors-from others successor predecessor count unmark unmark-about remove decide look looks walk goes-at is-simple no-spike-left no-spikes simple spike-free chosen outcome laid sound-from joined fate later shape-fate shape-outcome
+unfolding xor mod64 limit most on-grid all-on-grid points bend reverses last differing distinct-neighbours corners-from corners some around exact wrapped first-of doubled half convex-left is-convex convex clockwise crosses odd contained contains survivors-from others successor predecessor count unmark unmark-about remove decide look looks walk goes-at is-simple no-spike-left no-spikes simple spike-free chosen outcome-by laid sound-from joined fate later shape-fate shape-outcome
 the-table-holds = refl
