@@ -1,13 +1,13 @@
 -- Worked cases of the fates.
 use mathlib.Core.Path.{_≡_, refl}
-use mathlib.Core.List.{List, [], _∷_}
+use mathlib.Core.List.{List, [], _∷_, _++_}
 use lib.ListN.{replicate}
 use lib.IntN.{ℤ}
 use Rattle.grid.specs.Limits.{limit, most, on-grid, all-on-grid}
 use Rattle.grid.specs.Points.{points, bend, reverses}
 use Rattle.grid.specs.Corners.{last, differing, distinct-neighbours, corners-from, corners, some}
 use Rattle.grid.specs.Ladder.{first-of}
-use Rattle.grid.specs.Cases.{row, W4, W7, W9}
+use Rattle.grid.specs.Cases.{row, W3, W4, W7, W9}
 use Rattle.ring.specs.declared.Rule.the-variants.{Collinear, Spike}
 use Rattle.ring.specs.Walk.{survivors-from, others, successor, predecessor, count, unmark, unmark-about, remove, decide, look, looks, walk}
 use Rattle.ring.specs.Rule.{goes-at}
@@ -35,6 +35,23 @@ w7-stays = refl
 line-falls : shape-fate Collinear (line ∷ W4 ∷ []) ≡ fallen 1
 unfolding survivors-from others successor predecessor count unmark unmark-about remove decide look looks walk goes-at points bend reverses limit most on-grid all-on-grid first-of last differing distinct-neighbours corners-from corners some is-simple chosen fate later shape-fate
 line-falls = refl
+
+-- the line with W3 behind it, in rows of 9s: 7 leaves every output row as it was, and of the scratch the first six entries are zeroed
+line-and-w3 : shape-outcome Collinear (line ++ W3) ((0 ∷ 3 ∷ []) ∷ (3 ∷ 6 ∷ []) ∷ [])
+    (record { next = replicate 7 9; prev = replicate 7 9; mark = replicate 7 9; points = row (replicate 13 9); contours = replicate 3 (9 ∷ 9 ∷ []); shapes = [] })
+    ≡ record {
+      answer = answer 7 0 0 0 1;
+      rows = record {
+        next = 0 ∷ 0 ∷ 0 ∷ 0 ∷ 0 ∷ 0 ∷ 9 ∷ [];
+        prev = 0 ∷ 0 ∷ 0 ∷ 0 ∷ 0 ∷ 0 ∷ 9 ∷ [];
+        mark = 0 ∷ 0 ∷ 0 ∷ 0 ∷ 0 ∷ 0 ∷ 9 ∷ [];
+        points = row (replicate 13 9);
+        contours = replicate 3 (9 ∷ 9 ∷ []);
+        shapes = [];
+      };
+    }
+unfolding survivors-from others successor predecessor count unmark unmark-about remove decide look looks walk goes-at points bend reverses limit most on-grid all-on-grid first-of last differing distinct-neighbours corners-from corners some is-simple chosen fate later shape-fate shape-outcome laid joined sound-from
+line-and-w3 = refl
 
 -- W4, then the square: the square's range is shifted down
 w4-and-square : shape-outcome Collinear (row (0 ∷ 0 ∷ 2 ∷ 0 ∷ 4 ∷ 0 ∷ 4 ∷ 4 ∷ 0 ∷ 4 ∷ 0 ∷ 0 ∷ 9 ∷ 0 ∷ 9 ∷ 9 ∷ 0 ∷ 9 ∷ [])) ((0 ∷ 5 ∷ []) ∷ (5 ∷ 9 ∷ []) ∷ [])

@@ -1,4 +1,5 @@
 pub mod RefusalLaws
+pub mod Untouched
 pub mod PartLaws
 pub mod PassLaws
 pub mod ContainsLaws

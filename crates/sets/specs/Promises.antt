@@ -1,6 +1,8 @@
 -- The words in which the theorems say what a cleaning of shapes keeps.
 use mathlib.Core.Path.{_≡_}
 use mathlib.Core.List.{List, [], _∷_}
+use Prim.Native.Nat.{ℕ}
+use lib.ListN.{take, drop, replicate}
 use lib.IntN.{ℤ, pos}
 use Rattle.grid.specs.Points.{points}
 use Rattle.grid.specs.Area.{exact}
@@ -27,3 +29,8 @@ pub data ShapesFollow : List (List (List ℤ)) → List (List (List ℤ)) → Ty
   no-shapes : ShapesFollow [] []
   stands : {s t : List (List ℤ)} {l m : List (List (List ℤ))} → Follow s t → ShapesFollow l m → ShapesFollow (s ∷ l) (t ∷ m)
   falls : {c : List ℤ} {s : List (List ℤ)} {l m : List (List (List ℤ))} → exact (points c) ≡ pos 0 → ShapesFollow l m → ShapesFollow ((c ∷ s) ∷ l) m
+
+-- a row of scratch, before and after: its first n entries are zeroed, and the later ones as they were
+pub record FirstZeroed (n : ℕ) (before after : List ℕ) : Type 0 where
+  pub first : take n after ≡ replicate n 0
+  pub later : drop n after ≡ drop n before
