@@ -12,6 +12,7 @@ pub mod LaidLaws
 pub mod AfterLaws
 pub mod EachLaws
 pub mod Kept
+pub mod Follows
 pub mod ShapesLaws
 pub mod CleanLaws
 pub mod Cases

@@ -1,13 +1,13 @@
--- The refusals of a set: of which only the number is left, those of a shape set beside those of its contours, and the numbers that no refusal has.
+-- The refusals of a set: of which only the number is left, and those of a shape set beside those of its contours.
 use mathlib.Core.Path.{_≡_, refl, sym, _∙_, ap}
-use mathlib.Core.Bool.{Bool, true, false, not, _&&_}
-use mathlib.Core.List.{List, [], _∷_, _++_}
+use mathlib.Core.Bool.{not}
+use mathlib.Core.List.{List, _++_}
 use Prim.Native.Nat.{ℕ, zero, suc}
 use native.Mathlib.Omega.{arith}
-use lib.Dec.{T, eqb, eqb·suc-zero}
+use lib.Dec.{T, eqb·suc-zero}
 use lib.IntN.{ℤ}
-use borrow.Author.Tests.{eqb-false, not-true, not-false}
-use Rattle.integers.proofs.Logic.{and-left, and-right}
+use borrow.Author.Tests.{not-false}
+use Rattle.integers.proofs.Logic.{and-left}
 use Rattle.grid.specs.Ladder.{Rung, first-of}
 use Rattle.grid.specs.Domain.{count}
 use Rattle.grid.proofs.LadderLaws.{first-is, numbered, clear, stopped, onward}
@@ -30,15 +30,3 @@ contours-taken p cs ss z =
     let c = clear (shape-refusals p cs ss) tt z in
     let s = and-left (sound (spans cs) (count p)) _ (not-false _ (c .1 .1 .0)) in
     sym (first-is (contour-refusals p cs) 0 (past (c .0) (past (c .1 .0) (past (ap not s) (past (c .1 .1 .1 .0) foot)))))
-
--- no rung has the number k
-abbrev pub lacks : ℕ → List Rung → Bool
-lacks k [] = true
-lacks k (r ∷ l) = not (eqb k (r .1)) && lacks k l
-
--- so it is never told
-pub never-told : (l : List Rung) (k : ℕ) → lacks k l ≡ true → (k ≡ 0 → ⊥) → first-of l ≡ k → ⊥
-unfolding first-of
-never-told [] k t n e = n (sym e)
-never-told ((true, j) ∷ l) k t n e = eqb-false k j (not-true _ (and-left (not (eqb k j)) (lacks k l) t)) (sym e)
-never-told ((false, j) ∷ l) k t n e = never-told l k (and-right (not (eqb k j)) (lacks k l) t) n e

@@ -5,13 +5,13 @@ use mathlib.Core.Bool.{true}
 use mathlib.Core.List.{List, [], _++_}
 use Prim.Native.Nat.{ℕ, zero, suc}
 use native.Mathlib.Omega.{arith}
-use lib.ListN.{length, drop, replicate, length-replicate}
-use lib.Seq.{take-at, drop-at}
 use lib.IntN.{ℤ}
 use Rattle.grid.specs.Ladder.{Rung, first-of}
 use Rattle.grid.specs.Domain.{count}
+use Rattle.grid.proofs.LadderLaws.{within, first-within}
 use Rattle.ring.specs.declared.Rule.{Rule}
-use Rattle.clean.specs.Outcome.{zeroed}
+use Rattle.clean.specs.Promises.{Zeroed}
+use Rattle.clean.proofs.RowLaws.{zeroed-is}
 use Rattle.buffer.specs.Spans.{spans}
 use Rattle.buffer.specs.Sets.{contours, shapes}
 use Rattle.buffer.specs.Contours.{refusals as contour-refusals}
@@ -19,14 +19,12 @@ use Rattle.buffer.specs.Shapes.{refusals as shape-refusals}
 use Rattle.sets.specs.Fates.{ShapeFate, shape-fate, shapes-fate}
 use Rattle.sets.specs.Fates.ShapeFate.{stands, fallen}
 use Rattle.sets.specs.Outcome.{Lent, Left, swept, lacking, outcome, shape-left, shape-outcome, shapes-left, shapes-outcome}
-use Rattle.sets.specs.Promises.{FirstZeroed}
-use Rattle.sets.proofs.RefusalLaws.{lacks, never-told}
 
 reply-of : {o u : Left} → o ≡ u → o .answer .reply ≡ u .answer .reply
 reply-of e = ap (λ (w : Left). w .answer .reply) e
 
 -- a call was not refused, or its reply is neither 0 nor 7 and every row is as it was
-pub ended : (rungs : List Rung) → lacks 7 rungs ≡ true → (l : Lent) (done o : Left) → o ≡ outcome (first-of rungs) l done
+pub ended : (rungs : List Rung) → within 6 rungs ≡ true → (l : Lent) (done o : Left) → o ≡ outcome (first-of rungs) l done
     → ((first-of rungs ≡ 0) × (o ≡ done)) ⊎ ((o .answer .reply ≡ 0 → ⊥) × (o .answer .reply ≡ 7 → ⊥) × (o .rows ≡ l))
 ended rungs t l done o e = go (first-of rungs) refl e
   where
@@ -34,15 +32,9 @@ ended rungs t l done o e = go (first-of rungs) refl e
     go zero f e = inl (f, e)
     go (suc k) f e = inr (
       (λ z. let y : _≡_ {A = ℕ} (suc k) 0 = sym (reply-of e) ∙ z in omega arith),
-      (λ z. never-told rungs 7 t (λ y. omega arith) (f ∙ sym (reply-of e) ∙ z)),
+      (λ z. let y : suc k ≡ 7 = sym (reply-of e) ∙ z in omega (arith, f, first-within 6 rungs t)),
       ap (λ (w : Left). w .rows) e,
     )
-
-zeroed-first : (n : ℕ) (row : List ℕ) → FirstZeroed n row (zeroed n row)
-zeroed-first n row =
-    let zeros : List ℕ = replicate n 0 in
-    let m : length zeros ≡ n = length-replicate n 0 in
-    record { first = take-at zeros _ n m; later = drop-at zeros _ n m ∙ ap (λ (k : ℕ). drop k row) m }
 
 -- One shape, whatever the call; o is what the contract allows.
 module _ (rule : Rule) (p : List ℤ) (cs : List (List ℕ)) (l : Lent) (o : Left) (is : o ≡ shape-outcome rule p cs l) where
@@ -83,8 +75,8 @@ module _ (rule : Rule) (p : List ℤ) (cs : List (List ℕ)) (l : Lent) (o : Lef
 
     -- and the scratch zeroed, as far as the set has points
     pub a-collapsed-shape-leaves-the-scratch-zeroed :
-        FirstZeroed (count p) (l .next) (o .rows .next) × FirstZeroed (count p) (l .prev) (o .rows .prev) × FirstZeroed (count p) (l .mark) (o .rows .mark)
-    a-collapsed-shape-leaves-the-scratch-zeroed = rw collapsed-rows (zeroed-first (count p) (l .next), zeroed-first (count p) (l .prev), zeroed-first (count p) (l .mark))
+        Zeroed (count p) (l .next) (o .rows .next) × Zeroed (count p) (l .prev) (o .rows .prev) × Zeroed (count p) (l .mark) (o .rows .mark)
+    a-collapsed-shape-leaves-the-scratch-zeroed = rw collapsed-rows (zeroed-is (count p) (l .next), zeroed-is (count p) (l .prev), zeroed-is (count p) (l .mark))
 
 -- Shapes, whatever the call; o is what the contract allows.
 module _ (rule : Rule) (p : List ℤ) (cs ss : List (List ℕ)) (l : Lent) (o : Left) (is : o ≡ shapes-outcome rule p cs ss l) where

@@ -1,6 +1,6 @@
 -- `sets::passing::verdict` meets its contract.
 use borrow.Author.Needs.{needs}
-use mathlib.Core.Path.{sym, _∙_, ap}
+use mathlib.Core.Path.{sym, _∙_}
 use Rattle.sets.specs.Verdicts.{verdict-by}
 use Rattle.sets.proofs.passing.verdict.Statement.{statement}
 use Rattle.sets.proofs.passing.verdict.Tie as tie

@@ -1,7 +1,5 @@
 -- `sets::sums::asked` meets its contract.
 use mathlib.Core.Path.{_∙_}
-use Rattle.buffer.specs.Spans.{spans}
-use Rattle.buffer.specs.Sets.{contours}
 use Rattle.sets.proofs.AreaLaws.{set-refused, set-taken}
 use Rattle.sets.proofs.sums.asked.Statement.{statement}
 use Rattle.sets.proofs.sums.asked.Tie as tie
