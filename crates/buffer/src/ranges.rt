@@ -3,6 +3,8 @@ ghost use mathlib.Core.Path.{_≡_};
 ghost use mathlib.Core.Bool.{_&&_};
 ghost use Rattle.buffer.specs.Spans.{follows, spans, sound as sound-of};
 
+// A range as a struct, which lies in memory as a row of two numbers does.
+#[repr(C)]
 pub struct Span {
     pub start: usize,
     pub end: usize,
@@ -46,11 +48,4 @@ pub fn sound_spans(ranges: &[Span], count: usize) -> bool
         i += 1;
     }
     joins(all, at, count, count)
-}
-
-// The same, of an outline and one hole.
-pub fn sound_pair(pair: [Span; 2], count: usize) -> bool
-    ensures { λ r. ⌜ r ≡ sound-of pair count ⌝ }
-{
-    sound_spans(&pair, count)
 }

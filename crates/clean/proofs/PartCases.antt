@@ -1,7 +1,6 @@
 -- What is handed back after a cleaning, and from which row.
 use mathlib.Core.Path.{_≡_, refl}
 use mathlib.Core.List.{[], _∷_, _++_}
-use Prim.Native.Nat.{ℕ}
 use Rattle.grid.specs.Cases.{row, W4, W9}
 use Rattle.buffer.specs.Parts.{Part, lying}
 use Rattle.clean.specs.Part.{kept-part}

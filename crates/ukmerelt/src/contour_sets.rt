@@ -1,18 +1,19 @@
 // Questions about a contour set: points, and the ranges of its contours.
 ghost use mathlib.Core.Path.{_≡_};
-ghost use Rattle.buffer.specs.Spans.{spans, sound};
+ghost use Rattle.buffer.specs.Spans.{sound};
 ghost use Rattle.sets.specs.Area.{doubled, half};
 ghost use Rattle.sets.specs.Contains.{in-shape};
 ghost use Rattle.sets.specs.Verdicts.{simple, spike-free};
 use area::Area;
+use buffer::ranges::Span;
 use grid::Verdict;
 
 // Whether the ranges name parts from 0 to the count, one behind the other.
 #[no_mangle]
-pub extern "C" fn ukm_ranges_sound(ranges: &[[usize; 2]], count: usize) -> bool
-    ensures { λ r. ⌜ r ≡ sound (spans (now (ranges .entry))) count ⌝ }
+pub extern "C" fn ukm_ranges_sound(ranges: &[Span], count: usize) -> bool
+    ensures { λ r. ⌜ r ≡ sound (now (ranges .entry)) count ⌝ }
 {
-    buffer::ranges::sound(ranges, count)
+    buffer::ranges::sound_spans(ranges, count)
 }
 
 // Whether every contour of the set is simple.
