@@ -1,7 +1,7 @@
 //! The answers to a case: document 01's refusals, and past them the Rust original.
 
 use crate::case::{Case, Kind};
-use crate::checksum::checksum;
+use crate::checksum::{checksum, part};
 use crate::cleaner::{contour, row, Cleaner, Walked};
 use crate::point::Point;
 use crate::reply::{domain, not_empty, on_grid, Reply, COLLAPSED};
@@ -20,6 +20,7 @@ pub fn answer(case: &Case) -> String {
     match case.kind {
         Kind::Contour { asked } => Answers::new(asked, &case.of.all()).to_string(),
         Kind::Cleaning { cleaner, lent } => rows::answer(cleaner, lent, &case.of.all()).to_string(),
+        Kind::Kept(call) => part(call.part(&case.of.all())),
     }
 }
 
@@ -137,8 +138,19 @@ mod tests {
     #[test]
     fn a_cleaning_is_answered_with_its_rows() {
         for (line, expected) in [
-            ("w 0 3 3 3 6 0 0 4 0 0 4", "0 3 3 0 0 0 119168"),
-            ("w 1 3 3 4 6 0 0 1 0 2 0", "7 0 1 0 0 7 4087883104"),
+            ("w 0 3 3 3 6 0 0 4 0 0 4", "0 3 3 0 0 0 119168 6:119168"),
+            ("w 1 3 3 4 6 0 0 1 0 2 0", "7 0 1 0 0 7 4087883104 0:0"),
+        ] {
+            assert_eq!(answer(&line.parse().unwrap()), expected);
+        }
+    }
+
+    #[test]
+    fn a_second_call_is_answered_with_the_part() {
+        for (line, expected) in [
+            ("k 0 1 0 5 6", "2:161"),
+            ("k 0 1 2 1 2 3 5 6", "2:161"),
+            ("k 0 1 2 5 5 6", "0:0"),
         ] {
             assert_eq!(answer(&line.parse().unwrap()), expected);
         }

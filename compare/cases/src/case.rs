@@ -1,6 +1,7 @@
 //! One line of the list of contours.
 
 use crate::cleaner::Cleaner;
+use crate::kept;
 use crate::line::{self, length, next_number, Part, Row, Words, NO_KIND};
 use crate::point::Point;
 use crate::rows::{Lengths, MOST_OUT, MOST_SCRATCH};
@@ -10,6 +11,7 @@ use std::fmt;
 /// The first byte of a line names its kind.
 const CONTOUR: &str = "c";
 const CLEANING: &str = "w";
+const KEPT: &str = "k";
 
 /// What is asked of a contour, and the contour's row.
 pub type Case = line::Case<Kind, Row>;
@@ -20,6 +22,8 @@ pub enum Kind {
     Contour { asked: Point },
     /// One cleaning, with rows of these lengths.
     Cleaning { cleaner: Cleaner, lent: Lengths },
+    /// What a cleaning kept; the output stands behind the contour.
+    Kept(kept::Call),
 }
 
 impl Case {
@@ -45,6 +49,7 @@ impl fmt::Display for Kind {
             Kind::Cleaning { cleaner, lent } => {
                 write!(out, "{CLEANING} {} {lent}", cleaner.number())
             }
+            Kind::Kept(call) => write!(out, "{KEPT} {call}"),
         }
     }
 }
@@ -63,6 +68,7 @@ impl Part for Kind {
                     out: length(words, MOST_OUT)?,
                 },
             }),
+            Some(KEPT) => Ok(Kind::Kept(kept::Call::read(words)?)),
             _ => Err(NO_KIND.into()),
         }
     }
@@ -83,6 +89,8 @@ mod tests {
             "w 0 3 3 3 6 0 0 4 0 0 4",
             "w 1 0 0 0 0",
             "w 1 65600 0 65600 131200 -5 7 *16384",
+            "k 0 2 3 1 2 3 4 -7 -8 -9",
+            "k 2147483648 2147483648 131074",
         ]);
     }
 
@@ -101,5 +109,7 @@ mod tests {
         refused::<Case>(&["c 0 0 1 *2 3", "c *2", "c 0 0 1 *+2", "w", "w 0 1 1 1"]);
         refused::<Case>(&["w 2 1 1 1 2", "w 0 -1 1 1 2", "w 0 65601 1 1 2"]);
         refused::<Case>(&["w 0 1 65601 1 2", "w 0 1 1 65601 2", "w 0 1 1 1 131201"]);
+        refused::<Case>(&["k", "k 0 0", "k 2147483649 0 0", "k 0 2147483649 0"]);
+        refused::<Case>(&["k 0 0 131075", "k 0 -1 0"]);
     }
 }

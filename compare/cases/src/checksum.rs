@@ -9,6 +9,11 @@ pub fn checksum<T: Copy + Into<i64>>(row: &[T]) -> u32 {
     })
 }
 
+/// How many numbers a part has, and their checksum.
+pub fn part(numbers: &[i32]) -> String {
+    format!("{}:{}", numbers.len(), checksum(numbers))
+}
+
 #[cfg(test)]
 mod tests {
     use super::checksum;

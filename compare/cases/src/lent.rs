@@ -193,7 +193,7 @@ mod tests {
     fn replies(cases: Vec<super::Case>, asked: Cleaner) -> BTreeSet<String> {
         let by_it = |case: &super::Case| match case.kind {
             Kind::Cleaning { cleaner, .. } => cleaner == asked,
-            Kind::Contour { .. } => false,
+            _ => false,
         };
         let reply = |case| answer(&case).split(' ').next().unwrap().to_string();
         cases.into_iter().filter(by_it).map(reply).collect()

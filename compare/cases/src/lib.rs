@@ -9,6 +9,7 @@ pub mod cleaning;
 pub mod counted;
 pub mod damaged;
 pub mod files;
+pub mod kept;
 mod known;
 pub mod lent;
 pub mod line;
@@ -29,7 +30,7 @@ use std::collections::HashSet;
 use std::fmt::Display;
 
 /// Every case of a contour, in the order of the list: contours of every form, then those for the
-/// cleaners, then the cleanings with rows of given lengths.
+/// cleaners, then the cleanings with rows of given lengths, then what is handed out after one.
 pub fn list() -> Vec<Case> {
     [
         known::worked(),
@@ -50,6 +51,9 @@ pub fn list() -> Vec<Case> {
         lent::chosen(),
         lent::random(),
         lent::large(),
+        kept::small(),
+        kept::wrapping(),
+        kept::long(),
     ]
     .concat()
 }

@@ -1,7 +1,7 @@
 //! The rows lent to a cleaning: as they are before the call, and as document 01 has
 //! them after it.
 
-use crate::checksum::checksum;
+use crate::checksum::{checksum, part};
 use crate::cleaner::{contour, row, Cleaner, Walked};
 use crate::reply::{domain, refused_if, Reply, COLLAPSED, DONE, ROOM};
 use crate::scratch::{self, Scratch};
@@ -88,17 +88,19 @@ impl Rows {
     }
 }
 
+/// Last, what the second call hands out: the points kept, which stand in front of the output too.
 impl fmt::Display for Cleaning {
     fn fmt(&self, out: &mut fmt::Formatter) -> fmt::Result {
         let rows = &self.rows;
         write!(
             out,
-            "{} {} {} {} {}",
+            "{} {} {} {} {} {}",
             self.reply,
             self.points,
             self.decisions,
             rows.scratch,
             checksum(&rows.out),
+            part(&rows.out[..2 * self.points]),
         )
     }
 }
@@ -174,10 +176,10 @@ mod tests {
 
     #[test]
     fn the_line_has_the_checksums_of_the_rows() {
-        assert_eq!(asked("w 0 0 0 0 0").to_string(), "7 0 0 0 0 0 0");
+        assert_eq!(asked("w 0 0 0 0 0").to_string(), "7 0 0 0 0 0 0 0:0");
         assert_eq!(
             asked("w 0 2 1 2 1").to_string(),
-            "7 0 0 224 7 224 4294967289"
+            "7 0 0 224 7 224 4294967289 0:0"
         );
     }
 }

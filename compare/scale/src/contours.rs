@@ -23,6 +23,7 @@ impl Input for Case {
                 }
             }
             Kind::Cleaning { cleaner, lent } => cleaning(&mut found, cleaner, lent, &row),
+            Kind::Kept(_) => unreachable!("the library does not export the second call"),
         }
         found.hold_unchanged(&self.of.all(), &row);
         found

@@ -37,7 +37,7 @@ impl Found {
     }
 
     /// What is only read.
-    pub fn hold_unchanged<T: Debug + PartialEq>(&mut self, before: &T, after: &T) {
+    pub fn hold_unchanged<T: Debug + PartialEq + ?Sized>(&mut self, before: &T, after: &T) {
         self.hold("what is only read", before, after);
     }
 

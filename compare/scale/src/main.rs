@@ -7,6 +7,7 @@ mod files;
 mod input;
 mod kinds;
 mod library;
+mod ranges;
 mod sets;
 mod tally;
 

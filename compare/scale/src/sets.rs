@@ -3,13 +3,14 @@
 use crate::contours::hold_scratch;
 use crate::input::{Found, Input};
 use crate::library::answer::{CleanedSet, Packed};
-use crate::library::{ranges_sound, Flat, Rows, Scratch};
+use crate::library::{Flat, Rows, Scratch};
+use crate::ranges;
 use cases::cleaner::Cleaner;
 use cases::cleaning::case::{Form, Lengths};
 use cases::cleaning::{self, cleaned, Verdicts};
 use cases::counted::COUNTED;
 use cases::point::Point;
-use cases::sets::flat::{sound, Record, Set};
+use cases::sets::flat::Set;
 use cases::sets::packing::{self, Call, Packed as What};
 use cases::sets::{self, case::Kind};
 
@@ -106,7 +107,13 @@ impl Input for sets::Case {
         let mut found = Found::default();
         let (before, all) = (self.clone(), self.of.points.all());
         match &self.kind {
-            Kind::Asked => ranges(&mut found, &self.of, all.len() / 2),
+            Kind::Asked => {
+                let Set {
+                    contours, shapes, ..
+                } = &self.of;
+                ranges::hold(&mut found, contours, all.len() / 2);
+                ranges::hold(&mut found, shapes, contours.len());
+            }
             Kind::Packing(call) => {
                 let original = packing::answer(call, &self.of);
                 let (points, more) = call.split(&all);
@@ -130,18 +137,6 @@ impl Input for sets::Case {
     fn size(&self) -> usize {
         size_of(&self.of)
     }
-}
-
-fn ranges(found: &mut Found, set: &Set, points: usize) {
-    let mut hold = |ranges: &[Record], count| {
-        found.hold(
-            "ranges_sound",
-            sound(ranges, count),
-            ranges_sound(ranges, count),
-        );
-    };
-    hold(&set.contours, points);
-    hold(&set.shapes, set.contours.len());
 }
 
 /// The name of the library's call, and its answer.

@@ -54,3 +54,16 @@ fn wide_mark(x: u8) -> u64
 {
     x as u64
 }
+
+// A part that was handed out: how many numbers it has, and their checksum.
+pub struct Part {
+    pub count: usize,
+    pub checksum: u64,
+}
+
+pub fn of_part(numbers: &[i32]) -> Part {
+    Part {
+        count: numbers.len(),
+        checksum: of_numbers(numbers),
+    }
+}

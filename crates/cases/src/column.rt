@@ -1,5 +1,6 @@
 // The columns of a line of answers, each put into a text after a space.
 ghost use Prim.Native.Nat.{_+_, _≤_};
+use crate::checksum::Part;
 use crate::number;
 use crate::text;
 use crate::text::TEXT;
@@ -56,4 +57,13 @@ pub fn put_reply(text: &mut [u8; TEXT], at: usize, reply: u32) -> usize
 {
     let behind = text::put(text, at, b" !");
     number::put_unsigned(text, behind, reply as u64)
+}
+
+// Puts a space, how many numbers a part has and their checksum into `text` from `at` on.
+pub fn put_part(text: &mut [u8; TEXT], at: usize, part: Part) -> usize
+    requires { ⌜ at + 42 ≤ 512 ⌝ }
+    ensures { λ r. ⌜ r ≤ at + 42 ⌝ }
+{
+    let behind = put_number(text, at, part.count as u64);
+    put_after(text, behind, b":", part.checksum)
 }

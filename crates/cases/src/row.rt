@@ -107,3 +107,13 @@ fn fill(row: &mut [i32; ROW], count: usize, all: usize)
         row[i] = value;
     }
 }
+
+// Where the last `more` of `count` numbers begin: at 0 where there are fewer.
+pub fn before(count: usize, more: usize) -> usize
+    ensures { λ r. ⌜ r ≤ count ⌝ }
+{
+    if count < more {
+        return 0;
+    }
+    count - more
+}

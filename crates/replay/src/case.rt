@@ -2,6 +2,7 @@
 ghost use Prim.Native.Nat.{_≤_};
 ghost use Rattle.cases.specs.Buffer.{Held};
 use crate::contour;
+use crate::kept;
 use crate::lent;
 use cases::line::Replayed;
 use cases::row::ROW;
@@ -24,6 +25,7 @@ pub fn replay(
     let kind = start.here;
     match kind {
         b'c' => contour::replay(start.step(bytes), bytes, row, text, case),
+        b'k' => kept::replay(start.step(bytes), bytes, row, text, case),
         b'w' => lent::replay(start.step(bytes), bytes, row, text, case),
         _ => Replayed {
             length: 0,

@@ -4,6 +4,7 @@ ghost use Rattle.replay.specs.Lengths.{Lendable};
 use crate::cleaner;
 use crate::cleaner::Cleaner;
 use cases::checksum;
+use cases::checksum::Part;
 use cases::column;
 use cases::number;
 use cases::text;
@@ -23,13 +24,15 @@ pub struct Lengths {
     pub out: usize,
 }
 
-// What the library answers of a cleaning, and the checksums of the rows that it was lent.
+// What the library answers of a cleaning, the checksums of the rows that it was lent, and the part that it hands out
+// of them.
 pub struct Cleaning {
     pub cleaned: Cleaned,
     pub next: u64,
     pub prev: u64,
     pub mark: u64,
     pub out: u64,
+    pub part: Part,
 }
 
 // Cleans the contour with rows full of canaries, and adds the rows up after the call.
@@ -70,6 +73,7 @@ fn summed(
         prev: checksum::of_positions(prev),
         mark: checksum::of_marks(mark),
         out: checksum::of_numbers(out),
+        part: checksum::of_part(clean::kept_part(points, out, cleaned.points)),
     }
 }
 
@@ -78,9 +82,11 @@ pub fn put_cleaning(text: &mut [u8; TEXT], case: u64, cleaning: Cleaning) -> usi
     ensures { λ r. ⌜ r ≤ 512 ⌝ }
 {
     let cleaned = cleaning.cleaned;
+    let part = cleaning.part;
     let mut at = number::put_unsigned(text, 0, case);
     at = put_cleaned(text, at, cleaned);
     at = put_checksums(text, at, cleaning);
+    at = column::put_part(text, at, part);
     text::put(text, at, b"\n")
 }
 

@@ -7,6 +7,7 @@ mod case;
 mod cleaner;
 mod cleaning;
 mod contour;
+mod kept;
 mod lent;
 mod list;
 mod outcome;

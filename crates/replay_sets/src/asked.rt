@@ -16,6 +16,7 @@ use cases::source::BUFFER;
 use cases::source::Source;
 use cases::text;
 use cases::text::TEXT;
+use grid::Verdict;
 use grid::reply;
 
 // Reads the case from behind its kind, and puts its answers into `text`.
@@ -81,7 +82,9 @@ fn put_answers(
     ensures { λ r. ⌜ r ≤ 512 ⌝ }
 {
     let mut at = number::put_unsigned(text, 0, case);
+    at = put_sound(text, at, contours, points.len() / 2);
     at = put_contour_set(text, at, points, contours);
+    at = put_sound(text, at, shapes, contours.len());
     at = put_shape_set(text, at, points, contours, shapes);
     text::put(text, at, b"\n")
 }
@@ -110,11 +113,8 @@ fn put_contour_set(
         counted,
         buffer::contours::contours_count(points, contours),
     );
-    let first = put_part(
-        text,
-        counts,
-        buffer::contours::first_contour(points, contours),
-    );
+    let part = checksum::of_part(buffer::contours::first_contour(points, contours));
+    let first = column::put_part(text, counts, part);
     column::put_number(text, first, parts::of_contours(points, contours))
 }
 
@@ -140,6 +140,22 @@ fn put_shape_set(
     column::put_number(text, counts, parts::of_shapes(points, contours, shapes))
 }
 
+// Puts a space and whether the ranges are sound over so many into `text` from `at` on.
+fn put_sound(text: &mut [u8; TEXT], at: usize, ranges: &[[usize; 2]], count: usize) -> usize
+    requires { ⌜ at + 22 ≤ 512 ⌝ }
+    ensures { λ r. ⌜ r ≤ at + 22 ⌝ }
+{
+    let yes = buffer::ranges::sound(ranges, count);
+    column::put_verdict(
+        text,
+        at,
+        Verdict {
+            reply: reply::DONE,
+            yes,
+        },
+    )
+}
+
 // Puts a space and a count, or why there is none, into `text` from `at` on.
 fn put_counted(text: &mut [u8; TEXT], at: usize, counted: Counted) -> usize
     requires { ⌜ at + 22 ≤ 512 ⌝ }
@@ -149,13 +165,4 @@ fn put_counted(text: &mut [u8; TEXT], at: usize, counted: Counted) -> usize
         return column::put_reply(text, at, counted.reply);
     }
     column::put_number(text, at, counted.count as u64)
-}
-
-// Puts a space, the length of a part and its checksum into `text` from `at` on.
-fn put_part(text: &mut [u8; TEXT], at: usize, part: &[i32]) -> usize
-    requires { ⌜ at + 42 ≤ 512 ⌝ }
-    ensures { λ r. ⌜ r ≤ at + 42 ⌝ }
-{
-    let behind = column::put_number(text, at, part.len() as u64);
-    column::put_after(text, behind, b":", checksum::of_numbers(part))
 }

@@ -11,6 +11,7 @@ use cases::line::Replayed;
 use cases::number;
 use cases::records;
 use cases::records::RECORDS;
+use cases::row;
 use cases::row::ROW;
 use cases::set;
 use cases::source::BUFFER;
@@ -79,7 +80,7 @@ fn put(
     let contours_end = asked.contours;
     let shapes_end = asked.shapes;
     let ranges_end = asked.ranges;
-    let middle = before(points_end, asked.more);
+    let middle = row::before(points_end, asked.more);
     let lengths = asked.lengths;
     let all_points: &[i32] = row;
     let all_contours: &[[usize; 2]] = contours;
@@ -95,16 +96,6 @@ fn put(
         &all_ranges[0..ranges_end],
     );
     packing::put(text, case, packing)
-}
-
-// Where the last `more` of `count` numbers begin: at 0 where there are fewer.
-fn before(count: usize, more: usize) -> usize
-    ensures { λ r. ⌜ r ≤ count ⌝ }
-{
-    if count < more {
-        return 0;
-    }
-    count - more
 }
 
 // Reads the whole case: what is asked for, the ranges of what is added, and the set, its row with what is added last.

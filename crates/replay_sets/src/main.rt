@@ -21,7 +21,7 @@ fn main() {
     let mut text = [0u8; TEXT];
     if io::write_all(
         STDOUT_FILENO,
-        b"case empty single points contours first parts empty points contours shapes parts\n",
+        b"case sound empty single points contours first parts sound empty points contours shapes parts\n",
     ) {
         list::replay(&mut bytes, &mut row, &mut text);
     }

@@ -4,14 +4,14 @@ use super::case::{Case, Kind};
 use super::flat::{contour_set, refusal, shape_set, sound, Record, Set};
 use super::packing;
 use crate::answers::{column, yes_or_no};
-use crate::checksum::checksum;
+use crate::checksum::{checksum, part};
 use crate::cleaner::{row, Contour};
 use crate::reply::domain;
 use i_shape::int::count::PointsCount;
 
 /// The columns of a set's line: as a contour set, then as a shape set.
 pub const HEADER: &str =
-    "case empty single points contours first parts empty points contours shapes parts";
+    "case sound empty single points contours first parts sound empty points contours shapes parts";
 
 /// One line of answers, without its number.
 pub fn answer(case: &Case) -> String {
@@ -28,6 +28,7 @@ fn of_contour_set(set: &Set) -> Vec<String> {
     let original = || contour_set(&points, &set.contours);
     let contours = refusal.map(|()| set.to_contours());
     vec![
+        yes_or_no(&set.sound_contours()),
         column(&refusal.map(|()| original().is_empty()), yes_or_no),
         column(&refusal.map(|()| original().is_single_contour()), yes_or_no),
         column(
@@ -47,6 +48,7 @@ fn of_shape_set(set: &Set) -> Vec<String> {
     let shapes = refusal.map(|()| set.to_shapes());
     let contours = shapes.clone().map(|shapes| shapes.concat());
     vec![
+        yes_or_no(&sound(&set.shapes, set.contours.len())),
         column(&refusal.map(|()| original().is_empty()), yes_or_no),
         column(&count(&shapes, |all| all.points_count()), usize::to_string),
         column(&count(&contours, |all| all.len()), usize::to_string),
@@ -67,11 +69,6 @@ fn first_contour(points: &[i32], contours: &[Record]) -> Vec<i32> {
     };
     let first = || contour_set(points, contours).as_first_contour().to_vec();
     refusal.map(|()| row(&first())).unwrap_or_default()
-}
-
-/// How many numbers a part has, and their checksum.
-fn part(numbers: &[i32]) -> String {
-    format!("{}:{}", numbers.len(), checksum(numbers))
 }
 
 /// The length and the checksum of each contour, and of the empty part past the end.
@@ -104,25 +101,34 @@ mod tests {
     }
 
     #[test]
-    fn a_set_is_answered_in_eleven_columns() {
-        assert_eq!(answered("s 0 0"), "yes no 0 0 0:0 0 yes 0 0 0 0");
+    fn a_set_is_answered_in_thirteen_columns() {
+        assert_eq!(answered("s 0 0"), "yes yes no 0 0 0:0 0 yes yes 0 0 0 0");
         let numbers = checksum(&[5, 6]);
         let contours = checksum(&[2, numbers, 0, 0]);
         let shapes = checksum(&[1, 2, numbers, 0, 0, 0, 0, 0]);
         assert_eq!(
             answered("s 1 0 1 1 0 1 5 6"),
-            format!("no yes 1 1 2:{numbers} {contours} no 1 1 1 {shapes}")
+            format!("yes no yes 1 1 2:{numbers} {contours} yes no 1 1 1 {shapes}")
         );
     }
 
     #[test]
     fn loose_points_are_the_first_contour_and_unsound_elsewhere() {
-        assert_eq!(answered("s 0 0 5 6"), "!6 !6 !6 !6 2:161 0 !6 !6 !6 !6 0");
-        assert_eq!(answered("s 0 0 5"), "!1 !1 !1 !1 0:0 0 !1 !1 !1 !1 0");
+        assert_eq!(
+            answered("s 0 0 5 6"),
+            "no !6 !6 !6 !6 2:161 0 yes !6 !6 !6 !6 0"
+        );
+        assert_eq!(
+            answered("s 0 0 5"),
+            "yes !1 !1 !1 !1 0:0 0 yes !1 !1 !1 !1 0"
+        );
     }
 
     #[test]
     fn unsound_shapes_leave_the_contour_set() {
-        assert_eq!(answered("s 1 0 0 0"), "yes yes 0 1 0:0 0 !6 !6 !6 !6 0");
+        assert_eq!(
+            answered("s 1 0 0 0"),
+            "yes yes yes 0 1 0:0 0 no !6 !6 !6 !6 0"
+        );
     }
 }

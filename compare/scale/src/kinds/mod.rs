@@ -2,6 +2,7 @@
 
 mod every;
 mod long;
+mod ranges;
 mod short;
 
 use crate::input::Input;
@@ -44,11 +45,8 @@ impl Kind {
     }
 }
 
-pub const KINDS: [Kind; 17] = [
-    Kind::new(
-        "the list of contours",
-        All(|tally| each(tally, cases::list())),
-    ),
+pub const KINDS: [Kind; 19] = [
+    Kind::new("the list of contours", All(short::list_of_contours)),
     Kind::new("the list of sets", All(short::list_of_sets)),
     Kind::new(
         "the list of sets judged and cleaned",
@@ -98,6 +96,11 @@ pub const KINDS: [Kind; 17] = [
         OneFor(20, short::file_read),
     ),
     Kind::new("files written", OneFor(20, short::file_written)),
+    Kind::new(
+        "all rows of up to 3 ranges at the ends of usize",
+        All(ranges::at_the_ends),
+    ),
+    Kind::new("rows of ranges, sound and damaged", OneFor(10, ranges::any)),
 ];
 
 fn each<I: Input>(tally: &mut Tally, inputs: Vec<I>) {

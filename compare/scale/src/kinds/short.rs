@@ -2,7 +2,7 @@
 
 use super::each;
 use crate::tally::Tally;
-use cases::case::Case;
+use cases::case::{self, Case};
 use cases::cleaning::case::Form;
 use cases::cleaning::lent::{asked, in_turn, point_for};
 use cases::cleaning::random::on_grid;
@@ -22,6 +22,13 @@ use cases::{asked, damaged, once, random, sets, unclean};
 
 /// The forms of packing that the library has: it packs into shape sets.
 pub const PACKINGS: [usize; 5] = [3, 4, 5, 6, 7];
+
+/// All but the second call after a cleaning, which only Rattle has.
+pub fn list_of_contours(tally: &mut Tally) {
+    let mut list = cases::list();
+    list.retain(|case| !matches!(case.kind, case::Kind::Kept(_)));
+    each(tally, list);
+}
 
 pub fn list_of_sets(tally: &mut Tally) {
     let mut list = once(sets::list());
