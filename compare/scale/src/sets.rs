@@ -54,21 +54,37 @@ impl Input for cleaning::Case {
 }
 
 fn verdicts(found: &mut Found, asked: Point, set: &Set, points: &[i32]) {
-    let original = Verdicts::new(asked, set);
+    let Verdicts {
+        contours,
+        in_shape,
+        shapes,
+    } = Verdicts::new(asked, set);
     let library = flat(set, points);
-    found.hold("set_is_simple", original.simple.into(), library.is_simple());
+    found.hold("set_is_simple", contours.simple.into(), library.is_simple());
     found.hold(
         "set_has_no_spikes",
-        original.no_spikes.into(),
+        contours.no_spikes.into(),
         library.has_no_spikes(),
     );
-    found.hold("set_area_two", original.area_two.into(), library.area_two());
-    found.hold("set_area", original.area.into(), library.area());
+    found.hold("set_area_two", contours.area_two.into(), library.area_two());
+    found.hold("set_area", contours.area.into(), library.area());
+    found.hold("in_shape", in_shape.into(), library.in_shape(asked));
     found.hold(
-        "in_shape",
-        original.in_shape.into(),
-        library.in_shape(asked),
+        "shapes_is_simple",
+        shapes.simple.into(),
+        library.shapes_is_simple(),
     );
+    found.hold(
+        "shapes_has_no_spikes",
+        shapes.no_spikes.into(),
+        library.shapes_has_no_spikes(),
+    );
+    found.hold(
+        "shapes_area_two",
+        shapes.area_two.into(),
+        library.shapes_area_two(),
+    );
+    found.hold("shapes_area", shapes.area.into(), library.shapes_area());
 }
 
 fn cleaning(found: &mut Found, form: Form, lent: Lengths, set: &Set, points: &[i32]) {

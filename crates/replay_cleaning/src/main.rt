@@ -20,7 +20,7 @@ fn main() {
     let mut text = [0u8; TEXT];
     if io::write_all(
         STDOUT_FILENO,
-        b"case simple no_spikes area_two area in_shape\n",
+        b"case simple no_spikes area_two area in_shape simple no_spikes area_two area\n",
     ) {
         list::replay(&mut bytes, &mut row, &mut text);
     }

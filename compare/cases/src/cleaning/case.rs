@@ -20,7 +20,7 @@ pub type Case = line::Case<Kind, Set>;
 
 #[derive(Clone, Copy, Debug, PartialEq, Eq)]
 pub enum Kind {
-    /// Every question about the contours of the set; one is about a point.
+    /// Every question about the set; one is about a point.
     Asked { asked: Point },
     /// One cleaning, with rows of these lengths.
     Cleaning { form: Form, lent: Lengths },

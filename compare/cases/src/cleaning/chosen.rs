@@ -136,7 +136,8 @@ pub fn scans() -> Vec<Case> {
 }
 
 /// The whole-grid square, both ways round and up to sixty-four times: as so many
-/// contours the set's sum wraps, as one contour or two each contour's own does.
+/// contours the set's sum wraps, of one shape or of as many, and as one contour or two
+/// each contour's own does.
 pub fn wrapping() -> Vec<Case> {
     let square = [
         [-LIMIT, -LIMIT],
@@ -148,12 +149,13 @@ pub fn wrapping() -> Vec<Case> {
     for times in [1, 2, 3, 4, 5, 7, 8, 9, 12, 63, 64] {
         for around in [square.to_vec(), square.into_iter().rev().collect()] {
             let each = |k| [4 * k, 4 * (k + 1)];
-            for contours in [
-                (0..times).map(each).collect(),
-                vec![[0, 4 * times]],
-                vec![[0, 4], [4, 4 * times]],
+            let squares: Vec<Record> = (0..times).map(each).collect();
+            for (contours, shapes) in [
+                (squares.clone(), vec![[0, times]]),
+                (squares, (0..times).map(|k| [k, k + 1]).collect()),
+                (vec![[0, 4 * times]], vec![[0, 1]]),
+                (vec![[0, 4], [4, 4 * times]], vec![[0, 2]]),
             ] {
-                let shapes = vec![[0, contours.len()]];
                 let points = Row::wound(&around.concat(), times);
                 let set = Set {
                     contours,

@@ -23,6 +23,14 @@ impl Cleaner {
         }
     }
 
+    /// Whether every shape does.
+    pub fn passes_every(self, shapes: &Vec<Shape>) -> bool {
+        match self {
+            Cleaner::Simplified => shapes.is_simple(),
+            Cleaner::Despiked => shapes.has_no_spikes(),
+        }
+    }
+
     /// The shape cleaned, or none where its first contour collapsed. The cross products
     /// that are not those of the verdicts are its decisions.
     pub fn clean_shape(self, shape: &Shape) -> Cleaned<Option<Shape>> {

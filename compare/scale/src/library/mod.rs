@@ -163,6 +163,42 @@ impl Flat<'_> {
         call!(ukm_in_shape(points, contours; ; x, y))
     }
 
+    pub fn shapes_is_simple(self) -> Verdict {
+        let Flat {
+            points,
+            contours,
+            shapes,
+        } = self;
+        call!(ukm_shapes_is_simple(points, contours, shapes; ;))
+    }
+
+    pub fn shapes_has_no_spikes(self) -> Verdict {
+        let Flat {
+            points,
+            contours,
+            shapes,
+        } = self;
+        call!(ukm_shapes_has_no_spikes(points, contours, shapes; ;))
+    }
+
+    pub fn shapes_area_two(self) -> Area {
+        let Flat {
+            points,
+            contours,
+            shapes,
+        } = self;
+        call!(ukm_shapes_area_two(points, contours, shapes; ;))
+    }
+
+    pub fn shapes_area(self) -> Area {
+        let Flat {
+            points,
+            contours,
+            shapes,
+        } = self;
+        call!(ukm_shapes_area(points, contours, shapes; ;))
+    }
+
     /// The contours as one shape, cleaned.
     pub fn cleaned_shape(
         self,
