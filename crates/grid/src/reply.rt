@@ -15,6 +15,8 @@
 // | 10 | file short or with bytes left over | all unchanged |
 // | 11 | first contour doesn't begin a shape | all unchanged |
 // | 12 | file can't carry it: over 4,095 contours, over 32,767 points in one, or an empty shape | all unchanged |
+// | 13 | rows of kinds and floats whose lengths don't match, a kind that is none, or a Line or Close with nothing open | all unchanged |
+// | 14 | a place that is a NaN or an infinity | all unchanged |
 pub const DONE: u32 = 0;
 
 pub const ODD: u32 = 1;
@@ -40,3 +42,7 @@ pub const LENGTH: u32 = 10;
 pub const NO_SHAPE: u32 = 11;
 
 pub const CANT_CARRY: u32 = 12;
+
+pub const NO_DRAWING: u32 = 13;
+
+pub const NOT_FINITE: u32 = 14;

@@ -1,0 +1,213 @@
+-- What an export refuses and leaves.
+use mathlib.Core.Path.{_≡_, refl, sym, ap, ap₂, _∙_}
+use mathlib.Core.Bool.{Bool, true, false, not, _&&_}
+use mathlib.Core.List.{List, [], _∷_, _++_, map, map-append, map-map}
+use Prim.Native.Nat.{ℕ, zero, suc, _+_, _*_, _-_, _%_, _≤_}
+use native.Mathlib.Omega.{arith}
+use lib.Dec.{leb}
+use lib.ListN.{length, length-map, length-drop}
+use lib.Seq.{length-take-le}
+use lib.IntN.{ℤ, pos, negsuc, natAbs}
+use lib.Ieee.{Float}
+use Rattle.integers.proofs.Logic.{and-left, and-right}
+use borrow.Author.Tests.{le-leb, lt-leb, leb-true, leb-false}
+use Rattle.grid.specs.declared.Point.{Point}
+use Rattle.grid.specs.Points.{points}
+use Rattle.grid.specs.Limits.{limit, most, on-grid, all-on-grid}
+use Rattle.grid.specs.Ladder.{first-of}
+use Rattle.grid.specs.Domain.{count}
+use Rattle.grid.specs.Rows.{front}
+use Rattle.grid.proofs.LadderLaws.{First, first-is, stopped, onward}
+use Rattle.grid.proofs.LadderLaws.First.{here, past, foot}
+use Rattle.grid.proofs.RowLaws.{points-count}
+use Rattle.buffer.specs.declared.ranges.Span.{Span}
+use Rattle.buffer.specs.Spans.{spans, sound-from, sound, size, total}
+use Rattle.buffer.specs.Sets.{joined, contour, contours, Even}
+use Rattle.buffer.specs.Refusals.{room}
+use Rattle.buffer.specs.Contours as C
+use Rattle.buffer.proofs.RefusalLaws.{Accepted, accepted}
+use Rattle.buffer.proofs.SetLaws.{joined-append, sizes-are}
+use Rattle.buffer.proofs.SpanLaws.{ends-at, first-starts, first-forward, others-sound, rises, range-within}
+use Rattle.buffer.proofs.Theorems.{a-sound-set's-contours-laid-end-to-end-are-its-points}
+use Rattle.millimetres.specs.Scale.{bound, millimetres}
+use Rattle.drawing.specs.declared.answer.Drawn.{Drawn}
+use Rattle.drawing.specs.declared.command.Command.{Command}
+use Rattle.drawing.specs.declared.command.Command.the-variants.{Line, Close}
+use Rattle.drawing.specs.Commands.{kind, floats, kinds-of, floats-of}
+use Rattle.drawing.specs.Exporting.{place, outline, commands, all-within, refusals, left, enough, put, outcome}
+use Rattle.drawing.specs.Inside.{one, contour-kinds, set-kinds, filled, Forward, none-drawn}
+use Rattle.drawing.proofs.PutLaws.{ones, set-length}
+
+-- a coordinate of a drawing is one of the grid
+within-is-on : (z : ℤ) → leb (natAbs z) bound ≡ on-grid z
+unfolding bound on-grid limit
+within-is-on (pos n) = refl
+within-is-on (negsuc n) = go (leb n 536870911) refl
+  where
+    go : (b : Bool) → leb n 536870911 ≡ b → leb (suc n) 536870912 ≡ (leb n 536870911 && true)
+    go true e = rw e (le-leb (suc n) 536870912 (omega (arith, leb-true n 536870911 e)))
+    go false e = rw e (lt-leb (suc n) 536870912 (omega (arith, leb-false n 536870911 e)))
+
+all-within-is : (row : List ℤ) → all-within row ≡ all-on-grid row
+unfolding all-within all-on-grid
+all-within-is [] = refl
+all-within-is (z ∷ row) = ap₂ (λ (a b : Bool). a && b) (within-is-on z) (all-within-is row)
+
+pub same-refusals : (p : List ℤ) (ranges : List (List ℕ)) → C.refusals p ranges ≡ refusals p ranges
+same-refusals p ranges = rw (all-within-is p)
+
+-- the kinds of a contour
+outline-kinds : (l : List Point) → kinds-of (outline l) ≡ contour-kinds (length l)
+unfolding outline contour-kinds
+outline-kinds [] = refl
+outline-kinds (p ∷ l) = ap (λ (k : List ℕ). 0 ∷ k) (go l)
+  where
+    go : (m : List Point) → map kind (map (λ (q : Point). Line (place q)) m ++ Close ∷ []) ≡ ones (length m) ++ 2 ∷ []
+    go [] = refl
+    go (q ∷ m) = ap (λ (k : List ℕ). 1 ∷ k) (go m)
+
+-- its floats
+outline-floats : (l : List Point) → floats-of (outline l) ≡ joined (map (λ (p : Point). millimetres (p .x) ∷ millimetres (p .y) ∷ []) l)
+unfolding outline joined
+outline-floats [] = refl
+outline-floats (p ∷ l) = ap (λ (k : List Float). millimetres (p .x) ∷ millimetres (p .y) ∷ k) (go l)
+  where
+    go : (m : List Point) → joined (map floats (map (λ (q : Point). Line (place q)) m ++ Close ∷ [])) ≡ joined (map (λ (p : Point). millimetres (p .x) ∷ millimetres (p .y) ∷ []) m)
+    go [] = refl
+    go (q ∷ m) = ap (λ (k : List Float). millimetres (q .x) ∷ millimetres (q .y) ∷ k) (go m)
+
+row-floats : (c : List ℤ) → length c ≡ 2 * count c → joined (map (λ (p : Point). millimetres (p .x) ∷ millimetres (p .y) ∷ []) (points c)) ≡ map millimetres c
+unfolding points joined
+row-floats [] e = refl
+row-floats (x ∷ []) e = absurd (omega arith)
+row-floats (x ∷ y ∷ c) e = ap (λ (k : List Float). millimetres x ∷ millimetres y ∷ k) (row-floats c (omega arith))
+
+-- and those of a set
+kinds-by-count : (set : List (List ℤ)) → kinds-of (commands set) ≡ joined (map contour-kinds (map count set))
+unfolding joined
+kinds-by-count [] = refl
+kinds-by-count (c ∷ set) =
+    map-append kind (outline (points c)) (commands set)
+    ∙ ap₂ (λ (a b : List ℕ). a ++ b) (outline-kinds (points c) ∙ ap contour-kinds (points-count c)) (kinds-by-count set)
+
+floats-by-row : (set : List (List ℤ)) → Even set → floats-of (commands set) ≡ map millimetres (joined set)
+unfolding joined
+floats-by-row [] h = refl
+floats-by-row (c ∷ set) h =
+    ap joined (map-append floats (outline (points c)) (commands set))
+    ∙ joined-append (map floats (outline (points c))) (map floats (commands set))
+    ∙ ap₂ (λ (a b : List Float). a ++ b) (outline-floats (points c) ∙ row-floats c (h .0)) (floats-by-row set (h .1))
+    ∙ sym (map-append millimetres c (joined set))
+
+-- of a sound one
+pub contours-even : (p : List ℤ) (q : ℕ) (l : List Span) → length p ≡ 2 * count p → sound-from q l (count p) ≡ true → Even (contours p l)
+contours-even p q [] even e = tt
+contours-even p q (s ∷ l) even e =
+    let o = others-sound q (count p) s l e in
+    let f = first-forward q (count p) s l e in
+    let h = rises (s .end) (count p) l o in
+    let n : length (contour p s) ≡ 2 * s .end - 2 * s .start = length-take-le _ _ (omega (arith, length-drop (2 * s .start) p)) in
+    (omega arith, contours-even p (s .end) l even o)
+
+sizes-total : (q n : ℕ) (l : List Span) → sound-from q l n ≡ true → q + total (map size l) ≡ n
+sizes-total q n [] e = omega (arith, ends-at q n e)
+sizes-total q n (s ∷ l) e =
+    omega (arith, first-starts q n s l e, first-forward q n s l e, sizes-total (s .end) n l (others-sound q n s l e))
+
+filled-few : (l : List Span) → filled l ≤ total (map size l)
+unfolding filled
+filled-few [] = omega arith
+filled-few (s ∷ l) = omega (arith, go (size s), filled-few l)
+  where
+    go : (n : ℕ) → one n ≤ n
+    go zero = omega arith
+    go (suc n) = omega arith
+
+module _ (p : List ℤ) (ranges : List (List ℕ)) (even : length p ≡ 2 * count p) (ok : sound (spans ranges) (count p) ≡ true) where
+  abbrev drawn : List Command
+  drawn = commands (contours p (spans ranges))
+
+  pub kinds-are : kinds-of drawn ≡ set-kinds (spans ranges)
+  kinds-are =
+      kinds-by-count (contours p (spans ranges))
+      ∙ ap (λ (l : List ℕ). joined (map contour-kinds l)) (sizes-are p 0 (spans ranges) even ok)
+      ∙ ap joined (map-map contour-kinds size (spans ranges))
+
+  pub floats-are : floats-of drawn ≡ map millimetres p
+  floats-are =
+      floats-by-row (contours p (spans ranges)) (contours-even p 0 (spans ranges) even ok)
+      ∙ ap (map millimetres) (a-sound-set's-contours-laid-end-to-end-are-its-points p (spans ranges) even ok)
+
+  pub kinds-count : length (kinds-of drawn) ≡ count p + filled (spans ranges)
+  kinds-count = ap length kinds-are ∙ omega (arith, set-length (spans ranges), sizes-total 0 (count p) (spans ranges) ok)
+
+  pub floats-count : length (floats-of drawn) ≡ length p
+  floats-count = ap length floats-are ∙ length-map p millimetres
+
+  pub commands-few : count p + filled (spans ranges) ≤ 2 * count p
+  commands-few = omega (arith, filled-few (spans ranges), sizes-total 0 (count p) (spans ranges) ok)
+
+-- what it answers
+put-refused : (l : List Command) (kinds : List ℕ) (floats : List Float) (r : ℕ) → (r ≡ 0 → ⊥) → left (none-drawn r) kinds floats ≡ put r l kinds floats
+put-refused l kinds floats zero n = absurd (n refl)
+put-refused l kinds floats (suc r) n = refl
+
+module _ (p : List ℤ) (ranges : List (List ℕ)) (kinds : List ℕ) (floats : List Float) (k : ℕ) (e : k ≡ first-of (C.refusals p ranges)) where
+  abbrev told-commands : List Command
+  told-commands = commands (contours p (spans ranges))
+
+  by-number : (r : ℕ) → r ≡ first-of (refusals p ranges ++ room (enough told-commands kinds floats)) → put r told-commands kinds floats ≡ outcome p ranges kinds floats
+  unfolding outcome
+  by-number r f = ap (λ (n : ℕ). put n told-commands kinds floats) f
+
+  judged : k ≡ first-of (refusals p ranges)
+  judged = e ∙ ap first-of (same-refusals p ranges)
+
+  pub export-refused : (w : Drawn) → w ≡ none-drawn k → (k ≡ 0 → ⊥) → left w kinds floats ≡ outcome p ranges kinds floats
+  export-refused w g n =
+      ap (λ (a : Drawn). left a kinds floats) g ∙ put-refused told-commands kinds floats k n
+      ∙ by-number k (first-is _ _ (stopped (refusals p ranges) (room (enough told-commands kinds floats)) k judged n))
+
+  module _ (z : k ≡ 0) where
+    taken : Accepted p (sound (spans ranges) (count p))
+    taken = accepted p (sound (spans ranges) (count p)) (sym e ∙ z)
+
+    pub export-few : count p + filled (spans ranges) ≤ 2 * most
+    export-few = omega (arith, commands-few p ranges (taken .even) (taken .sound), taken .few)
+
+    module _ (n : ℕ) (q : n ≡ filled (spans ranges)) where
+      same-room : (leb (count p + n) (length kinds) && leb (length p) (length floats)) ≡ enough told-commands kinds floats
+      same-room =
+          ap₂ (λ (a b : ℕ). leb a (length kinds) && leb b (length floats))
+          (ap (λ (m : ℕ). count p + m) q ∙ sym (kinds-count p ranges (taken .even) (taken .sound)))
+          (sym (floats-count p ranges (taken .even) (taken .sound)))
+
+      onto : (r : ℕ) → First (room (enough told-commands kinds floats)) r → put r told-commands kinds floats ≡ outcome p ranges kinds floats
+      onto r f = by-number r (first-is _ _ (onward (refusals p ranges) (room (enough told-commands kinds floats)) r tt (sym judged ∙ z) f))
+
+      pub export-cramped : (w : Drawn) → w ≡ none-drawn 5 → (leb (count p + n) (length kinds) && leb (length p) (length floats)) ≡ false → left w kinds floats ≡ outcome p ranges kinds floats
+      export-cramped w g h =
+          ap (λ (a : Drawn). left a kinds floats) g ∙ put-refused told-commands kinds floats 5 (λ i. omega arith)
+          ∙ onto 5 (here (ap not (sym same-room ∙ h)))
+
+      module _ (h : (leb (count p + n) (length kinds) && leb (length p) (length floats)) ≡ true) where
+        pub export-contours : Forward ranges × (length (set-kinds (spans ranges)) ≤ length kinds)
+        export-contours =
+            let m : count p + n ≤ length kinds = leb-true _ _ (and-left (leb (count p + n) (length kinds)) (leb (length p) (length floats)) h) in (
+              λ i l. range-within ranges (count p) i (taken .sound) l .forward,
+              omega (arith, kinds-count p ranges (taken .even) (taken .sound), ap length (kinds-are p ranges (taken .even) (taken .sound))),
+            )
+
+        pub export-places : (length p % 2 ≡ 0) × (length p ≤ length floats)
+        export-places = (omega (arith, taken .even), leb-true _ _ (and-right (leb (count p + n) (length kinds)) (leb (length p) (length floats)) h))
+
+        pub export-done : (c : List ℕ) (d : List Float) → c ≡ front (set-kinds (spans ranges)) kinds → d ≡ front (map millimetres p) floats
+            → left (record { reply = 0; commands = count p + n; floats = length p }) c d ≡ outcome p ranges kinds floats
+        export-done c d f g =
+            ap₂ (λ (a b : ℕ). left (record { reply = 0; commands = a; floats = b }) c d)
+            (ap (λ (m : ℕ). count p + m) q ∙ sym (kinds-count p ranges (taken .even) (taken .sound)))
+            (sym (floats-count p ranges (taken .even) (taken .sound)))
+            ∙ ap₂ (λ (a : List ℕ) (b : List Float). left (record { reply = 0; commands = length (kinds-of told-commands); floats = length (floats-of told-commands) }) a b)
+            (f ∙ ap (λ (l : List ℕ). front l kinds) (sym (kinds-are p ranges (taken .even) (taken .sound))))
+            (g ∙ ap (λ (l : List Float). front l floats) (sym (floats-are p ranges (taken .even) (taken .sound))))
+            ∙ onto 0 (past (ap not (sym same-room ∙ h)) foot)

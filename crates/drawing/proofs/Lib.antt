@@ -1,0 +1,10 @@
+pub mod CommandLaws
+pub mod FaultLaws
+pub mod OutlineLaws
+pub mod ImportLaws
+pub mod FillLaws
+pub mod PutLaws
+pub mod ExportLaws
+pub mod ReturnLaws
+pub mod Theorems
+pub mod Cases

@@ -1,0 +1,7 @@
+pub mod Commands
+pub mod Faults
+pub mod Outlines
+pub mod Importing
+pub mod Exporting
+pub mod Inside
+pub mod Promises

@@ -1,0 +1,42 @@
+// A contour set, given back as a drawing.
+ghost use mathlib.Core.Path.{_≡_};
+ghost use Rattle.drawing.specs.Exporting.{left, outcome};
+ghost use Rattle.drawing.specs.Inside.{none-drawn};
+use crate::answer::Drawn;
+use crate::putting;
+
+// Nothing was written.
+fn refused(reply: u32) -> Drawn
+    ensures { λ r. ⌜ r ≡ none-drawn reply ⌝ }
+{
+    Drawn {
+        reply,
+        commands: 0,
+        floats: 0,
+    }
+}
+
+// Writes the commands of a contour set to the front of the rows.
+pub fn export(points: &[i32], ranges: &[[usize; 2]], kinds: &mut [u8], floats: &mut [f64]) -> Drawn
+    ensures { λ r. ⌜
+        left r (now (kinds .exit)) (now (floats .exit))
+        ≡ outcome (now (points .entry)) (now (ranges .entry)) (now (kinds .entry)) (now (floats .entry))
+        ⌝ }
+{
+    let refusal = buffer::contours::refused(points, ranges);
+    if refusal != 0 {
+        return refused(refusal);
+    }
+    let commands = points.len() / 2 + putting::filled(ranges);
+    let room = (commands <= kinds.len()) & (points.len() <= floats.len());
+    if !room {
+        return refused(grid::reply::ROOM);
+    }
+    putting::contours(ranges, kinds);
+    putting::places(points, floats);
+    Drawn {
+        reply: grid::reply::DONE,
+        commands,
+        floats: points.len(),
+    }
+}
