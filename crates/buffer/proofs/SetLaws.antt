@@ -138,3 +138,13 @@ sizes-are p q (s ∷ l) even e =
     let n : length (contour p s) ≡ 2 * s .end - 2 * s .start = length-take-le _ _ (omega (arith, length-drop (2 * s .start) p)) in
     let m : count (contour p s) ≡ s .end - s .start = omega arith in
     ap₂ (λ (k : ℕ) (t : List ℕ). k ∷ t) m (sizes-are p (s .end) l even o)
+
+-- the contours of a sound set are even rows of numbers
+pub contours-even : (p : List ℤ) (q : ℕ) (l : List Span) → length p ≡ 2 * count p → sound-from q l (count p) ≡ true → Even (contours p l)
+contours-even p q [] even e = tt
+contours-even p q (s ∷ l) even e =
+    let o = others-sound q (count p) s l e in
+    let f = first-forward q (count p) s l e in
+    let h = rises (s .end) (count p) l o in
+    let n : length (contour p s) ≡ 2 * s .end - 2 * s .start = length-take-le _ _ (omega (arith, length-drop (2 * s .start) p)) in
+    (omega arith, contours-even p (s .end) l even o)

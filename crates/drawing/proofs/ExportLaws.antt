@@ -5,8 +5,7 @@ use mathlib.Core.List.{List, [], _∷_, _++_, map, map-append, map-map}
 use Prim.Native.Nat.{ℕ, zero, suc, _+_, _*_, _-_, _%_, _≤_}
 use native.Mathlib.Omega.{arith}
 use lib.Dec.{leb}
-use lib.ListN.{length, length-map, length-drop}
-use lib.Seq.{length-take-le}
+use lib.ListN.{length, length-map}
 use lib.IntN.{ℤ, pos, negsuc, natAbs}
 use lib.Ieee.{Float}
 use Rattle.integers.proofs.Logic.{and-left, and-right}
@@ -26,8 +25,8 @@ use Rattle.buffer.specs.Sets.{joined, contour, contours, Even}
 use Rattle.buffer.specs.Refusals.{room}
 use Rattle.buffer.specs.Contours as C
 use Rattle.buffer.proofs.RefusalLaws.{Accepted, accepted}
-use Rattle.buffer.proofs.SetLaws.{joined-append, sizes-are}
-use Rattle.buffer.proofs.SpanLaws.{ends-at, first-starts, first-forward, others-sound, rises, range-within}
+use Rattle.buffer.proofs.SetLaws.{contours-even, joined-append, sizes-are}
+use Rattle.buffer.proofs.SpanLaws.{ends-at, first-starts, first-forward, others-sound, range-within}
 use Rattle.buffer.proofs.Theorems.{a-sound-set's-contours-laid-end-to-end-are-its-points}
 use Rattle.millimetres.specs.Scale.{bound, millimetres}
 use Rattle.drawing.specs.declared.answer.Drawn.{Drawn}
@@ -100,15 +99,6 @@ floats-by-row (c ∷ set) h =
     ∙ sym (map-append millimetres c (joined set))
 
 -- of a sound one
-pub contours-even : (p : List ℤ) (q : ℕ) (l : List Span) → length p ≡ 2 * count p → sound-from q l (count p) ≡ true → Even (contours p l)
-contours-even p q [] even e = tt
-contours-even p q (s ∷ l) even e =
-    let o = others-sound q (count p) s l e in
-    let f = first-forward q (count p) s l e in
-    let h = rises (s .end) (count p) l o in
-    let n : length (contour p s) ≡ 2 * s .end - 2 * s .start = length-take-le _ _ (omega (arith, length-drop (2 * s .start) p)) in
-    (omega arith, contours-even p (s .end) l even o)
-
 sizes-total : (q n : ℕ) (l : List Span) → sound-from q l n ≡ true → q + total (map size l) ≡ n
 sizes-total q n [] e = omega (arith, ends-at q n e)
 sizes-total q n (s ∷ l) e =

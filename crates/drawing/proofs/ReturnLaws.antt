@@ -5,8 +5,7 @@ use mathlib.Core.List.{List, [], _∷_, _++_, map}
 use Prim.Native.Nat.{ℕ, _-_, _*_, _%_, _≤_}
 use native.Mathlib.Omega.{arith}
 use lib.Dec.{leb}
-use lib.ListN.{length, length-drop}
-use lib.Seq.{length-take-le}
+use lib.ListN.{length}
 use lib.IntN.{ℤ, natAbs}
 use borrow.Author.Tests.{leb-true, eqb-false, ltb-false, not-false}
 use Rattle.integers.specs.Bound.{In}
@@ -17,10 +16,9 @@ use Rattle.grid.specs.Limits.{most}
 use Rattle.grid.specs.Ladder.{first-of}
 use Rattle.grid.specs.Domain.{count}
 use Rattle.grid.proofs.LadderLaws.{clear}
-use Rattle.buffer.specs.declared.ranges.Span.{Span}
-use Rattle.buffer.specs.Spans.{spans, sound-from, sound}
+use Rattle.buffer.specs.Spans.{spans, sound}
 use Rattle.buffer.specs.Sets.{joined, contour, contours, Even}
-use Rattle.buffer.proofs.SpanLaws.{first-forward, others-sound, rises}
+use Rattle.buffer.proofs.SetLaws.{contours-even}
 use Rattle.buffer.proofs.Theorems.{a-sound-set's-contours-laid-end-to-end-are-its-points}
 use Rattle.millimetres.specs.Scale.{bound, units, millimetres}
 use Rattle.millimetres.proofs.Theorems.{in-undoes-out}
@@ -148,15 +146,6 @@ unfolding without-empty
 no-more [] = omega arith
 no-more ([] ∷ set) = omega (arith, no-more set)
 no-more ((z ∷ c) ∷ set) = omega (arith, no-more set)
-
-contours-even : (p : List ℤ) (q : ℕ) (l : List Span) → length p ≡ 2 * count p → sound-from q l (count p) ≡ true → Even (contours p l)
-contours-even p q [] even e = tt
-contours-even p q (s ∷ l) even e =
-    let o = others-sound q (count p) s l e in
-    let f = first-forward q (count p) s l e in
-    let h = rises (s .end) (count p) l o in
-    let n : length (contour p s) ≡ 2 * s .end - 2 * s .start = length-take-le _ _ (omega (arith, length-drop (2 * s .start) p)) in
-    (omega arith, contours-even p (s .end) l even o)
 
 -- a flat set that is not refused
 pub record Drawable (p : List ℤ) (ranges : List (List ℕ)) : Type 0 where

@@ -23,7 +23,7 @@ use Rattle.buffer.specs.declared.ranges.Span.{Span}
 use Rattle.buffer.specs.Spans.{spans, sound, sound-from, size, total, laid}
 use Rattle.buffer.specs.Sets.{cut, joined, contour, contours, shapes, contour-spans, shape-spans, Even}
 use Rattle.buffer.proofs.SpanLaws.{first-starts, first-forward, others-sound, rises}
-use Rattle.buffer.proofs.SetLaws.{sizes-are, sound-laid}
+use Rattle.buffer.proofs.SetLaws.{contours-even, sizes-are, sound-laid}
 use Rattle.buffer.proofs.RowLaws.{spans-length}
 use Rattle.buffer.proofs.Theorems.{a-sound-set's-contours-laid-end-to-end-are-its-points, and-its-ranges-are-theirs, a-sound-set's-shapes-laid-end-to-end-are-its-contours, the-counts-add-up}
 use Rattle.setfile.specs.Format.{Entry, contours-of, entries, Gathered, shapes-of, file-length}
@@ -99,15 +99,6 @@ module _ {A : Type 0} (a : List A) where
       let f = first-forward q (length a) s l e in
       let r = rises (s .end) (length a) l o in
       ap₂ (λ (n : ℕ) (k : List ℕ). n ∷ k) (length-take-le (s .end - s .start) (drop (s .start) a) (omega (arith, length-drop (s .start) a))) (cut-sizes (s .end) l o)
-
-contours-even : (p : List ℤ) (q : ℕ) (l : List Span) → length p ≡ 2 * count p → sound-from q l (count p) ≡ true → Even (contours p l)
-contours-even p q [] even e = tt
-contours-even p q (s ∷ l) even e =
-    let o = others-sound q (count p) s l e in
-    let f = first-forward q (count p) s l e in
-    let h = rises (s .end) (count p) l o in
-    let n : length (contour p s) ≡ 2 * s .end - 2 * s .start = length-take-le _ _ (omega (arith, length-drop (2 * s .start) p)) in
-    (omega arith, contours-even p (s .end) l even o)
 
 -- coordinates on the grid are i32
 on-fits : (c : List ℤ) → all-on-grid c ≡ true → Each (SFits w32) c
