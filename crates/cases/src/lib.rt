@@ -8,3 +8,4 @@ pub mod row;
 pub mod set;
 pub mod source;
 pub mod text;
+pub mod times;

@@ -1,11 +1,11 @@
 // The bytes of a file, each two hexadecimal digits.
 ghost use Prim.Native.Nat.{_+_, _*_, _≤_, _<_};
 ghost use Rattle.cases.specs.Buffer.{Held};
-use crate::times;
 use crate::written::FILE;
 use cases::number::Digits;
 use cases::source::BUFFER;
 use cases::source::Source;
+use cases::times;
 
 // A byte that was read, and the byte of the list after it.
 pub struct Byte {

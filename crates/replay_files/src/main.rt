@@ -11,7 +11,6 @@ mod list;
 mod listed;
 mod reading;
 mod records;
-mod times;
 mod writing;
 mod written;
 

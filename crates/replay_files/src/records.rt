@@ -1,10 +1,10 @@
 // Ranges as records, each a start and an end, of which one can stand many times.
 ghost use Prim.Native.Nat.{_≤_};
 ghost use Rattle.cases.specs.Buffer.{Held};
-use crate::times;
 use cases::number;
 use cases::source::BUFFER;
 use cases::source::Source;
+use cases::times;
 
 // How many records a case can give: some more than a file has room for.
 pub const RECORDS: usize = 32800;

@@ -1,10 +1,10 @@
 // How often a part of a case is repeated.
 ghost use Prim.Native.Nat.{_≤_};
 ghost use Rattle.cases.specs.Buffer.{Held};
-use cases::number;
-use cases::number::Digits;
-use cases::source::BUFFER;
-use cases::source::Source;
+use crate::number;
+use crate::number::Digits;
+use crate::source::BUFFER;
+use crate::source::Source;
 
 // Reads a star and how often, from once to `most` times; without a star it is once.
 pub fn read(start: Source, bytes: &mut [u8; BUFFER], most: u64) -> Digits
