@@ -8,6 +8,7 @@ pub mod cleaner;
 pub mod cleaning;
 pub mod counted;
 pub mod damaged;
+pub mod drawings;
 pub mod files;
 pub mod kept;
 mod known;
@@ -67,7 +68,7 @@ pub fn once<C: Display>(mut cases: Vec<C>) -> Vec<C> {
 
 #[cfg(test)]
 mod tests {
-    use super::{cleaning, files, list, sets};
+    use super::{cleaning, drawings, files, list, sets};
     use crate::line::tests::read_as_written;
 
     #[test]
@@ -76,5 +77,6 @@ mod tests {
         read_as_written(sets::list());
         read_as_written(cleaning::list());
         read_as_written(files::list());
+        read_as_written(drawings::list());
     }
 }

@@ -111,6 +111,25 @@ fn number<T: FromStr>(word: &str) -> Result<T, String> {
     }
 }
 
+/// Writes how often a part is repeated, where it is more than once.
+pub fn write_times(out: &mut fmt::Formatter, times: usize) -> fmt::Result {
+    match times {
+        1 => Ok(()),
+        _ => write!(out, "*{times}"),
+    }
+}
+
+/// What stands before the star, and how often it is repeated.
+pub fn repeated(word: &str) -> Result<(&str, usize), String> {
+    match word.split_once('*') {
+        None => Ok((word, 1)),
+        Some((part, times)) => match times.parse() {
+            Ok(number) if number > 0 && !times.starts_with('+') => Ok((part, number)),
+            _ => Err(format!("{times:?} is no number of times")),
+        },
+    }
+}
+
 #[cfg(test)]
 pub mod tests {
     use super::Case;

@@ -2,7 +2,7 @@
 //! writes the answers of the Rust original to it; `cases listings` writes set files and
 //! their listings.
 
-use cases::{answers, cleaning, files, list, once, sets};
+use cases::{answers, cleaning, drawings, files, list, once, sets};
 use std::fmt::Display;
 use std::io::{self, BufRead, BufWriter, Write};
 use std::process::ExitCode;
@@ -15,10 +15,12 @@ fn main() -> ExitCode {
         ["list", "replay_sets"] => write_list(&once(sets::list())),
         ["list", "replay_cleaning"] => write_list(&once(cleaning::list())),
         ["list", "replay_files"] => write_list(&once(files::list())),
+        ["list", "replay_drawings"] => write_list(&once(drawings::list())),
         ["answers", "replay"] => write_answers(answers::HEADER, answers::answer),
         ["answers", "replay_sets"] => write_answers(sets::HEADER, sets::answer),
         ["answers", "replay_cleaning"] => write_answers(cleaning::HEADER, cleaning::answer),
         ["answers", "replay_files"] => write_answers(files::HEADER, files::answer),
+        ["answers", "replay_drawings"] => write_answers(drawings::HEADER, drawings::answer),
         ["listings", folder] => files::write_listings(folder.as_ref()).map_err(Into::into),
         _ => Err(
             "usage: cases list PROGRAM | cases answers PROGRAM <list | cases listings FOLDER"

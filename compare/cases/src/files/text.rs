@@ -1,6 +1,6 @@
 //! The bytes of a file and the records of a set, as a line has them.
 
-use crate::line::{length, Words};
+use crate::line::{length, repeated, write_times, Words};
 use crate::sets::flat::Record;
 use std::fmt;
 
@@ -19,13 +19,6 @@ pub fn write_file(out: &mut fmt::Formatter, file: &[u8]) -> fmt::Result {
         write_times(out, times)?;
     }
     Ok(())
-}
-
-fn write_times(out: &mut fmt::Formatter, times: usize) -> fmt::Result {
-    match times {
-        1 => Ok(()),
-        _ => write!(out, "*{times}"),
-    }
 }
 
 /// Long repeats, and what stands between them.
@@ -71,17 +64,6 @@ pub fn read_file(words: &mut Words, most: usize) -> Result<Vec<u8>, String> {
         file.extend(bytes.repeat(times));
     }
     Ok(file)
-}
-
-/// What stands before the star, and how often it is repeated.
-fn repeated(word: &str) -> Result<(&str, usize), String> {
-    match word.split_once('*') {
-        None => Ok((word, 1)),
-        Some((part, times)) => match times.parse() {
-            Ok(number) if number > 0 && !times.starts_with('+') => Ok((part, number)),
-            _ => Err(format!("{times:?} is no number of times")),
-        },
-    }
 }
 
 /// One byte or more, each two digits.
