@@ -1,5 +1,7 @@
-/* A worked example: ask about a contour, clean it, clean a shape with a hole, ask about shapes, and build a set. */
+/* A worked example: ask about a contour, clean it, clean a shape with a hole, ask about shapes, build a set, and bring in
+ * a drawing. */
 #include <inttypes.h>
+#include <math.h>
 #include <stdio.h>
 #include <stdlib.h>
 
@@ -87,12 +89,36 @@ static void a_set(void)
     printf("with room for 5 numbers: reply %" PRIu32 "\n", set.reply);
 }
 
+/* A triangle in millimetres brought onto the grid and given back, and one with a coordinate that is no number. */
+static void a_drawing(void)
+{
+    const uint8_t kinds[] = {UKM_MOVE, UKM_LINE, UKM_LINE, UKM_CLOSE};
+    const double floats[] = {0, 0, 25.4, 0, 0, 12.7}, wild[] = {0, 0, NAN, 0, 0, 12.7};
+    int32_t points[6];
+    UkmRange records[1];
+
+    UkmPacked set = ukm_import_mm(kinds, LENGTH(kinds), floats, LENGTH(floats), points, LENGTH(points), records,
+                                  LENGTH(records));
+    printf("drawing: %zu contour of %zu points:", set.contours, set.points);
+    print_points(points, 0, set.points);
+
+    uint8_t kinds_back[4];
+    double floats_back[6];
+    UkmDrawn drawn = ukm_export_mm(points, LENGTH(points), records, LENGTH(records), kinds_back, LENGTH(kinds_back),
+                                   floats_back, LENGTH(floats_back));
+    printf("back: %zu commands, the second a line to %.9f\n", drawn.commands, floats_back[2]);
+
+    set = ukm_import_mm(kinds, LENGTH(kinds), wild, LENGTH(wild), points, LENGTH(points), records, LENGTH(records));
+    printf("with a NaN: reply %" PRIu32 "\n", set.reply);
+}
+
 int main(void)
 {
     one_contour();
     one_shape();
     two_shapes();
     a_set();
+    a_drawing();
 
     printf("area of nothing: reply %" PRIu32 "\n", ukm_area(NULL, 0).reply);
     return 0;

@@ -30,6 +30,8 @@ int main(void)
 {
     static const int32_t triangle[] = {0, 0, 4, 0, 0, 4};
     static const UkmRange empty_contour[] = {{0, 0}}, one[] = {{0, 1}}, three[] = {{0, 3}};
+    static const uint8_t begin[] = {UKM_MOVE}, end[] = {UKM_CLOSE};
+    static const double place[] = {1.5, -2};
     int32_t out[6];
     UkmRange records[2], groups[2];
     uint32_t next[3], prev[3];
@@ -99,6 +101,17 @@ int main(void)
     DUE(ukm_read_set((const uint8_t *)"\x10", 2, NO, NO, NO), a.reply == 0 && a.points == 0 && a.shapes == 0);
     DUE(ukm_write_set(NO, NO, NO, NO), a.reply == 5);
     DUE(ukm_write_set(NO, NO, NO, mark, 3), a.reply == 0 && a.bytes == 2 && mark[0] == 16 && mark[1] == 0);
+
+    DUE(ukm_import_mm(NO, NO, NO, NO), a.reply == 0 && a.points == 0 && a.contours == 0 && a.shapes == 0);
+    DUE(ukm_import_mm(begin, 1, NO, NO, NO), a.reply == 13);
+    DUE(ukm_import_mm(NO, place, 2, NO, NO), a.reply == 13);
+    DUE(ukm_import_mm(end, 1, NO, NO, NO), a.reply == 13);
+    DUE(ukm_import_mm(begin, 1, place, 2, NO, NO), a.reply == 5);
+    DUE(ukm_import_mm(begin, 1, place, 2, out, 6, NO), a.reply == 5);
+    DUE(ukm_export_mm(NO, NO, NO, NO), a.reply == 0 && a.commands == 0 && a.floats == 0);
+    DUE(ukm_export_mm(NO, empty_contour, 1, NO, NO), a.reply == 0 && a.commands == 0 && a.floats == 0);
+    DUE(ukm_export_mm(triangle, 6, NO, NO, NO), a.reply == 6);
+    DUE(ukm_export_mm(triangle, 6, three, 1, NO, NO), a.reply == 5);
 
     printf("%d answers as due, %d not\n", right, wrong);
     return wrong != 0;

@@ -12,7 +12,7 @@
  * calls may run at the same time in many threads.
  *
  * Answers. `reply` is 0, or the number of the first refusal in the order 1, 2, 6, 3, 12, 4, 5, 8, 7; ukm_read_set
- * has an order of its own. On a refusal every other field is 0 or false and every row is as it was, but for 7, which
+ * and ukm_import_mm have orders of their own. On a refusal every other field is 0 or false and every row is as it was, but for 7, which
  * reports its decisions and leaves the scratch zeroed. Whatever numbers arrive are answered or refused; none traps.
  *
  * Scratch. A cleaner is lent three rows, next, prev and mark, with at least as many entries each as the input has
@@ -51,7 +51,16 @@ enum {
     UKM_EDITION = 9,     /* a file whose edition is not 1 */
     UKM_LENGTH = 10,     /* a file that is short or has bytes left over */
     UKM_NO_SHAPE = 11,   /* a file whose first contour does not begin a shape */
-    UKM_CANT_CARRY = 12  /* a set that no file carries: over 4,095 contours, 32,767 points in one, or an empty shape */
+    UKM_CANT_CARRY = 12, /* a set that no file carries: over 4,095 contours, 32,767 points in one, or an empty shape */
+    UKM_NO_DRAWING = 13, /* kinds and floats whose lengths don't match, no kind, or a Line or Close with nothing open */
+    UKM_NOT_FINITE = 14  /* a place that is a NaN or an infinity */
+};
+
+/* The kinds of command in a drawing. */
+enum {
+    UKM_MOVE = 0, /* ends an open contour and begins one at its place */
+    UKM_LINE = 1, /* adds its place to the open contour */
+    UKM_CLOSE = 2 /* ends the open contour */
 };
 
 /* A part of a row: from start up to end, which is not part of it. Points for a contour, contours for a shape. */
@@ -99,6 +108,13 @@ typedef struct UkmWritten {
     uint32_t reply;
     size_t bytes;
 } UkmWritten;
+
+/* How many commands and floats are written. */
+typedef struct UkmDrawn {
+    uint32_t reply;
+    size_t commands;
+    size_t floats;
+} UkmDrawn;
 
 /* One contour. */
 
@@ -296,6 +312,29 @@ UkmWritten ukm_write_set(const int32_t *points, size_t points_len,
                          const UkmRange *contours, size_t contours_len,
                          const UkmRange *shapes, size_t shapes_len,
                          uint8_t *bytes, size_t bytes_len);
+
+/* Drawings in millimetres. A drawing is a row of kinds and a row of floats, two for each UKM_MOVE or UKM_LINE, x and y
+ * of its place. A millimetre is 1,024 of the library's units, so the grid ends 524,288 mm either side of 0. */
+
+/* The contour set of a drawing, in front of points and records; shapes is 0. Each coordinate becomes the whole number
+ * nearest to 1,024 times the float's exact value, halves away from zero. What is open at the end is ended, and a
+ * UKM_MOVE behind another leaves a contour of one point. Refuses with 13 if there are not two floats for each UKM_MOVE
+ * and UKM_LINE; then by the first faulty command with 13 if it is of no kind, or a UKM_LINE or UKM_CLOSE with nothing
+ * open, with 14, or with 3; then with 2; and with 5 if points is shorter than floats, or records has fewer entries than
+ * there are UKM_MOVEs. */
+UkmPacked ukm_import_mm(const uint8_t *kinds, size_t kinds_len,
+                        const double *floats, size_t floats_len,
+                        int32_t *points, size_t points_len,
+                        UkmRange *records, size_t records_len);
+
+/* The drawing of a contour set, in front of kinds and floats: each contour as UKM_MOVE, UKM_LINEs and UKM_CLOSE, an
+ * empty one as nothing. Each coordinate is divided by 1,024, which is exact: ukm_import_mm gives the same contours
+ * back. Refuses with 1, 2, 6, 3, and 5 if floats is shorter than points, or kinds than the points and the contours that
+ * have some. */
+UkmDrawn ukm_export_mm(const int32_t *points, size_t points_len,
+                       const UkmRange *contours, size_t contours_len,
+                       uint8_t *kinds, size_t kinds_len,
+                       double *floats, size_t floats_len);
 
 #ifdef __cplusplus
 }

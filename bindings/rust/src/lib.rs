@@ -20,6 +20,7 @@
 //! Coordinates lie in -536,870,912 .. 536,870,912, and a contour or a set has at most 65,536 points. What is beyond is
 //! refused, as is all else that i_shape would panic at or answer without sense: [`Refused`] says why.
 
+pub mod drawing;
 pub mod flat;
 pub mod int;
 

@@ -31,6 +31,10 @@ pub enum Refused {
     NoShape,
     /// 12
     CantCarry,
+    /// 13
+    NoDrawing,
+    /// 14
+    NotFinite,
     /// A number that a later library has, and that this crate has no name for.
     Unknown { reply: u32 },
 }
@@ -51,6 +55,8 @@ impl Refused {
             Refused::Length => 10,
             Refused::NoShape => 11,
             Refused::CantCarry => 12,
+            Refused::NoDrawing => 13,
+            Refused::NotFinite => 14,
             Refused::Unknown { reply } => reply,
         }
     }
@@ -71,6 +77,8 @@ impl Refused {
             10 => Refused::Length,
             11 => Refused::NoShape,
             12 => Refused::CantCarry,
+            13 => Refused::NoDrawing,
+            14 => Refused::NotFinite,
             reply => Refused::Unknown { reply },
         })
     }
@@ -100,6 +108,10 @@ impl fmt::Display for Refused {
             Refused::CantCarry => {
                 "a set that no file carries: over 4,095 contours, over 32,767 points in one, or an empty shape"
             }
+            Refused::NoDrawing => {
+                "kinds and floats whose lengths don't match, no kind, or a Line or Close with nothing open"
+            }
+            Refused::NotFinite => "a place that is a NaN or an infinity",
             Refused::Unknown { reply } => {
                 return write!(f, "the library's reply {reply}, which has no words here");
             }
@@ -129,7 +141,7 @@ mod tests {
 
     #[test]
     fn debug_is_words() {
-        for reply in 1..=13 {
+        for reply in 1..=15 {
             let refused = Refused::read(reply, 0).unwrap_err();
             assert_eq!(format!("{refused:?}"), refused.to_string());
             assert!(refused.to_string().contains(' '));

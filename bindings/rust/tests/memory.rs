@@ -2,6 +2,7 @@
 
 use std::alloc::{GlobalAlloc, Layout, System};
 use std::cell::Cell;
+use ukmerelt::drawing::{Command, Place};
 use ukmerelt::flat::buffer::{FlatContoursBuffer, FlatShapesBuffer};
 use ukmerelt::int::area::Area;
 use ukmerelt::int::despike::{DeSpikeContour, DeSpikeShape, DeSpikeShapes};
@@ -92,6 +93,8 @@ fn every_call(n: usize) -> Vec<Asked> {
     let mut half_set = FlatShapesBuffer::default();
     half_set.set_with_contour(&half).unwrap();
     let rest_shape = [rest.clone()];
+    let drawing = vec![Command::Move(Place::default()); n];
+    let (kinds, floats) = (vec![0; n], vec![0.0; 2 * n]);
 
     asked! {
         contour.area_two();
@@ -143,6 +146,10 @@ fn every_call(n: usize) -> Vec<Asked> {
         becoming_set.set_with_shape(&shape);
         becoming_set.set_with_shapes(&shapes);
         half_set.add_shape(&rest_shape);
+
+        contours.export_mm();
+        FlatContoursBuffer::import_mm(&drawing);
+        FlatContoursBuffer::import_mm_rows(&kinds, &floats);
     }
 }
 
@@ -175,6 +182,7 @@ fn too_many_points_come_before_all_else() {
         contours.is_simple();
         contours.simplified();
         contours.to_contours();
+        contours.export_mm();
         more.add_contour(&[]);
         set.is_simple();
         set.simplified();
@@ -183,6 +191,34 @@ fn too_many_points_come_before_all_else() {
         more_shapes.add_shape(&[]);
     } {
         assert_eq!((refused, taken), (Some(Refused::TooMany), 0), "{call}");
+    }
+}
+
+/// A drawing's faults come before its size, and are found without taking memory for it too.
+#[test]
+fn drawings() {
+    let mut drawing = vec![Command::Move(Place::default()); 1_000_000];
+    let kinds = vec![0; 1_000_000];
+    let mut floats = vec![0.0; 2_000_000];
+    for (place, refused) in [
+        (Place::new(1e9, 0.0), Refused::OffGrid),
+        (Place::new(0.0, f64::NAN), Refused::NotFinite),
+    ] {
+        drawing[999_999] = Command::Line(place);
+        floats[1_999_998..].copy_from_slice(&[place.x, place.y]);
+        for (call, answer, taken) in asked! {
+            FlatContoursBuffer::import_mm(&drawing);
+            FlatContoursBuffer::import_mm_rows(&kinds, &floats);
+        } {
+            assert_eq!((answer, taken), (Some(refused), 0), "{call}");
+        }
+    }
+    let closed = vec![Command::Close; 1_000_000];
+    for (call, answer, taken) in asked! {
+        FlatContoursBuffer::import_mm(&closed);
+        FlatContoursBuffer::import_mm_rows(&kinds, &[0.0]);
+    } {
+        assert_eq!((answer, taken), (Some(Refused::NoDrawing), 0), "{call}");
     }
 }
 

@@ -168,7 +168,7 @@ impl FlatContoursBuffer {
     }
 
     /// Rows to be lent for so many points and contours.
-    fn rows(points: usize, contours: usize) -> Result<Self, Refused> {
+    pub(crate) fn rows(points: usize, contours: usize) -> Result<Self, Refused> {
         Ok(FlatContoursBuffer {
             points: library::room(points)?,
             ranges: vec![[0, 0]; contours],

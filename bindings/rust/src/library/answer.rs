@@ -1,5 +1,6 @@
 //! The answers of the library, and what they say of the rows that were lent.
 
+use crate::drawing::Place;
 use crate::flat::buffer::{FlatContoursBuffer, FlatShapesBuffer};
 use crate::int::shape::IntContour;
 use crate::refused::Refused;
@@ -44,6 +45,13 @@ pub struct Packed {
 pub struct Written {
     reply: u32,
     bytes: usize,
+}
+
+#[repr(C)]
+pub struct Drawn {
+    reply: u32,
+    commands: usize,
+    floats: usize,
 }
 
 impl Verdict {
@@ -110,7 +118,29 @@ impl Written {
     }
 }
 
+impl Drawn {
+    /// The kinds and the places in front of the rows that were lent.
+    pub fn read(
+        self,
+        mut kinds: Vec<u8>,
+        mut places: Vec<Place>,
+    ) -> Result<(Vec<u8>, Vec<Place>), Refused> {
+        Refused::read(self.reply, 0)?;
+        kinds.truncate(self.commands);
+        places.truncate(self.floats / 2);
+        Ok((kinds, places))
+    }
+}
+
 impl Packed {
+    /// The contour set in front of the rows that were lent.
+    pub fn read_contours(self, mut out: FlatContoursBuffer) -> Result<FlatContoursBuffer, Refused> {
+        Refused::read(self.reply, 0)?;
+        out.points.truncate(self.points);
+        out.ranges.truncate(self.contours);
+        Ok(out)
+    }
+
     /// The shape set in front of the rows that were lent.
     pub fn read_shapes(self, mut out: FlatShapesBuffer) -> Result<FlatShapesBuffer, Refused> {
         Refused::read(self.reply, 0)?;

@@ -3,9 +3,10 @@
 mod answer;
 mod raw;
 
+use crate::drawing::Place;
 use crate::int::point::IntPoint;
 use crate::refused::Refused;
-use answer::{Area, Cleaned, CleanedSet, Packed, Verdict, Written};
+use answer::{Area, Cleaned, CleanedSet, Drawn, Packed, Verdict, Written};
 
 /// A start and an end, laid as `UkmRange` of the header is.
 pub type Range = [usize; 2];
@@ -50,7 +51,7 @@ impl Scratch {
 }
 
 /// What a slice is made of, and how many of the library's elements each is.
-trait Element {
+pub trait Element {
     type Number;
     const NUMBERS: usize = 1;
 }
@@ -58,6 +59,15 @@ trait Element {
 impl Element for IntPoint {
     type Number = i32;
     const NUMBERS: usize = 2;
+}
+
+impl Element for Place {
+    type Number = f64;
+    const NUMBERS: usize = 2;
+}
+
+impl Element for f64 {
+    type Number = f64;
 }
 
 impl Element for Range {
@@ -87,7 +97,7 @@ macro_rules! call {
         $(let $read = row($read);)*
         $(let $lent = row_mut($lent);)*
         // SAFETY: each row is a slice, so it is aligned and readable over its length; a `&mut` slice overlaps no other;
-        // a point is two numbers in a row, x and y. The library asks for nothing else and keeps nothing.
+        // a point or a place is two numbers in a row, x and y. The library asks for nothing else and keeps nothing.
         unsafe { raw::$name($($read.0, $read.1,)* $($lent.0, $lent.1,)* $($number),*) }
     }};
 }
@@ -288,4 +298,23 @@ pub fn write_set(
     bytes: &mut [u8],
 ) -> Written {
     call!(ukm_write_set(points, contours, shapes; bytes;))
+}
+
+/// The floats are places, or two for each.
+pub fn import_mm<F: Element<Number = f64>>(
+    kinds: &[u8],
+    floats: &[F],
+    points: &mut [IntPoint],
+    records: &mut [Range],
+) -> Packed {
+    call!(ukm_import_mm(kinds, floats; points, records;))
+}
+
+pub fn export_mm(
+    points: &[IntPoint],
+    contours: &[Range],
+    kinds: &mut [u8],
+    places: &mut [Place],
+) -> Drawn {
+    call!(ukm_export_mm(points, contours; kinds, places;))
 }

@@ -1,6 +1,6 @@
 //! The functions of libukmerelt.a, as bindings/c/ukmerelt.h declares them.
 
-use super::answer::{Area, Cleaned, CleanedSet, Packed, Verdict, Written};
+use super::answer::{Area, Cleaned, CleanedSet, Drawn, Packed, Verdict, Written};
 use super::Range;
 
 extern "C" {
@@ -258,4 +258,24 @@ extern "C" {
         bytes: *mut u8,
         bytes_len: usize,
     ) -> Written;
+    pub fn ukm_import_mm(
+        kinds: *const u8,
+        kinds_len: usize,
+        floats: *const f64,
+        floats_len: usize,
+        points: *mut i32,
+        points_len: usize,
+        records: *mut Range,
+        records_len: usize,
+    ) -> Packed;
+    pub fn ukm_export_mm(
+        points: *const i32,
+        points_len: usize,
+        contours: *const Range,
+        contours_len: usize,
+        kinds: *mut u8,
+        kinds_len: usize,
+        floats: *mut f64,
+        floats_len: usize,
+    ) -> Drawn;
 }
