@@ -3,6 +3,7 @@
 //! is 1 if any does.
 
 mod contours;
+mod drawings;
 mod files;
 mod input;
 mod kinds;

@@ -19,7 +19,7 @@ use cases::unclean::{returning, stroll};
 use cases::{asked, cleaning, scratch};
 
 /// A count of points: around a power of two, around the most, or any.
-fn length(rng: &mut Rng) -> usize {
+pub fn length(rng: &mut Rng) -> usize {
     let power = 1 << rng.between(1, 16);
     match rng.below(3) {
         0 => power - 1 + rng.below(3),
@@ -68,7 +68,7 @@ pub fn contour(tally: &mut Tally, rng: &mut Rng) {
 }
 
 /// Up to four shapes of up to four contours, and so many points in all.
-fn set_of(count: usize, rng: &mut Rng) -> Set {
+pub fn set_of(count: usize, rng: &mut Rng) -> Set {
     let mut shapes = vec![];
     let mut left = count;
     for _ in 0..rng.between(1, 4) {

@@ -1,5 +1,6 @@
 //! The kinds of input.
 
+mod drawn;
 mod every;
 mod long;
 mod ranges;
@@ -45,7 +46,7 @@ impl Kind {
     }
 }
 
-pub const KINDS: [Kind; 19] = [
+pub const KINDS: [Kind; 23] = [
     Kind::new("the list of contours", All(short::list_of_contours)),
     Kind::new("the list of sets", All(short::list_of_sets)),
     Kind::new(
@@ -101,6 +102,22 @@ pub const KINDS: [Kind; 19] = [
         All(ranges::at_the_ends),
     ),
     Kind::new("rows of ranges, sound and damaged", OneFor(10, ranges::any)),
+    Kind::new(
+        "the list of drawings",
+        All(|tally| each(tally, once(cases::drawings::list()))),
+    ),
+    Kind::new(
+        "drawings, sound and damaged, rows around the need",
+        OneFor(5, drawn::imported),
+    ),
+    Kind::new(
+        "sets given back as drawings, rows around the need",
+        OneFor(10, drawn::exported),
+    ),
+    Kind::new(
+        "drawings and sets of up to 69,537 points",
+        OneFor(5000, drawn::long),
+    ),
 ];
 
 fn each<I: Input>(tally: &mut Tally, inputs: Vec<I>) {

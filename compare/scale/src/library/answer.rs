@@ -47,3 +47,11 @@ pub struct Written {
     pub reply: u32,
     pub bytes: usize,
 }
+
+#[repr(C)]
+#[derive(Debug, PartialEq, Eq)]
+pub struct Drawn {
+    pub reply: u32,
+    pub commands: usize,
+    pub floats: usize,
+}

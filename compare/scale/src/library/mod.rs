@@ -6,8 +6,9 @@ mod lent;
 #[path = "../../../../bindings/rust/src/library/raw.rs"]
 mod raw;
 
-use answer::{Area, Cleaned, CleanedSet, Packed, Verdict, Written};
+use answer::{Area, Cleaned, CleanedSet, Drawn, Packed, Verdict, Written};
 use cases::cleaner::Cleaner;
+use cases::drawings::exact::Bits;
 use cases::point::Point;
 use cases::sets::flat::Record;
 use cases::{scratch, sets};
@@ -325,4 +326,50 @@ pub fn read_set(file: &[u8], rows: &mut Rows) -> Packed {
         groups,
     } = rows;
     call!(ukm_read_set(file; out, records, groups;))
+}
+
+pub fn import_mm(
+    kinds: &[u8],
+    floats: &[Bits],
+    points: &mut Lent<i32>,
+    records: &mut Lent<Record>,
+) -> Packed {
+    let (kinds, floats) = (row(kinds), row(floats));
+    let (points, records) = (row_mut(points), row_mut(records));
+    // SAFETY: as in `call`; the bits of a float are as long as it is and lie as it does.
+    unsafe {
+        raw::ukm_import_mm(
+            kinds.0,
+            kinds.1,
+            floats.0.cast(),
+            floats.1,
+            points.0,
+            points.1,
+            records.0,
+            records.1,
+        )
+    }
+}
+
+pub fn export_mm(
+    points: &[i32],
+    contours: &[Record],
+    kinds: &mut Lent<u8>,
+    floats: &mut Lent<Bits>,
+) -> Drawn {
+    let (points, contours) = (row(points), row(contours));
+    let (kinds, floats) = (row_mut(kinds), row_mut(floats));
+    // SAFETY: as in `import_mm`.
+    unsafe {
+        raw::ukm_export_mm(
+            points.0,
+            points.1,
+            contours.0,
+            contours.1,
+            kinds.0,
+            kinds.1,
+            floats.0.cast(),
+            floats.1,
+        )
+    }
 }
