@@ -1,11 +1,13 @@
-//! The Rust original beside the library: a line for each kind of input and function, with tabs between
-//! the kind, the function, the points, the instructions of both, and the nanoseconds of both; `-` where
-//! nothing is measured. The argument, if there is one, must be part of the kind's name.
+//! The Rust original beside the library, and plain arithmetic beside its drawings: a line for each kind of input
+//! and function, with tabs between the kind, the function, the points, the instructions of both, and the
+//! nanoseconds of both; `-` where nothing is measured. The argument, if there is one, must be part of the kind's
+//! name.
 //!
 //! `BENCH_COUNT` names the file in which the emulator's plugin answers (`counter`); with `BENCH_NOTIME` no
 //! time is taken.
 
 mod counter;
+mod drawings;
 mod inputs;
 mod linked;
 mod original;
@@ -67,5 +69,8 @@ fn main() {
     let part = std::env::args().nth(1).unwrap_or_default();
     for kind in inputs::kinds().iter().filter(|kind| kind.name.contains(&part)) {
         lines(kind);
+    }
+    for drawing in drawings::drawings().into_iter().filter(|drawing| drawing.name.contains(&part)) {
+        drawings::lines(drawing);
     }
 }
