@@ -1,4 +1,4 @@
-// The reply numbers. A call answers with the first whose condition holds, in the order 1, 2, 6, 3, 12, 4, 5, 8, 7.
+// The reply numbers. A call answers with the first whose condition holds, in the order 1, 2, 6, 3, 12, 4, 5, 8, 7; an import in the order 13, 14, 3, 2, 5, the first three by its first faulty command.
 //
 // | No. | Given exactly when | Leaves |
 // |---|---|---|
