@@ -1,0 +1,25 @@
+-- `replay_drawings::floats::fill` is safe and ends. The loop's invariant: `i` is not below `at`. Assumes nothing.
+use Prim.Native.Nat.{_≤_, _-_}
+use borrow.Author.Needs.{needs}
+use Rattle.replay_drawings.proofs.floats.fill.Statement.{statement}
+use Rattle.replay_drawings.proofs.floats.fill.Tie as tie
+
+abbrev Inv-loop : tie.InvT-loop
+Inv-loop floats₀ at end value i₀ floats i = at ≤ i
+
+abbrev μ-loop : tie.MeasureT-loop
+μ-loop floats₀ at end value i₀ floats i = end - i
+
+pub fill-spec : {M : Type 1} → statement M
+fill-spec =
+    tie.close
+    (tie.spec
+    Inv-loop
+    μ-loop
+    (λ c. search needs)
+    (λ c. search needs)
+    (λ c. search needs)
+    (λ c. search needs)
+    (λ c. search needs)
+    (λ c. search needs)
+    (λ c. search needs))
