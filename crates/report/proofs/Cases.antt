@@ -11,7 +11,7 @@ use Rattle.grid.specs.Area.{around, exact, wrapped}
 use Rattle.integers.specs.Modulo.{mod64}
 use Rattle.buffer.specs.Sets.{joined}
 use Rattle.setfile.specs.Bits.{value, field, bits}
-use Rattle.setfile.specs.Format.{parsed, contours-in, coordinates}
+use Rattle.setfile.specs.Format.{parsed, complete, coordinates}
 use Rattle.report.specs.Text.{places, decimal, heading, signed}
 use Rattle.report.specs.Listing.{line, lines, listing}
 
@@ -28,11 +28,11 @@ unfolding listing parsed bits field value first-of decimal places
 refused-10 = refl
 
 none : listing (16 ∷ 0 ∷ []) ≡ heading
-unfolding listing parsed bits field value first-of decimal places contours-in lines all-on-grid joined
+unfolding listing parsed bits field value first-of decimal places complete lines all-on-grid joined
 none = refl
 
 w4 : listing (16 ∷ 1 ∷ 128 ∷ 5 ∷ 0 ∷ 0 ∷ 0 ∷ 0 ∷ 0 ∷ 0 ∷ 0 ∷ 0 ∷ 0 ∷ 0 ∷ 0 ∷ 2 ∷ 0 ∷ 0 ∷ 0 ∷ 0 ∷ 0 ∷ 0 ∷ 0 ∷ 4 ∷ 0 ∷ 0 ∷ 0 ∷ 0 ∷ 0 ∷ 0 ∷ 0 ∷ 4 ∷ 0 ∷ 0 ∷ 0 ∷ 4 ∷ 0 ∷ 0 ∷ 0 ∷ 0 ∷ 0 ∷ 0 ∷ 0 ∷ 4 ∷ [])
     ≡ heading ++ 49 ∷ 32 ∷ 53 ∷ 32 ∷ 52 ∷ 32 ∷ 54 ∷ 32 ∷ 51 ∷ 50 ∷ 10 ∷ []
-unfolding listing parsed bits field value first-of decimal places contours-in coordinates lines line limit on-grid all-on-grid joined
+unfolding listing parsed bits field value first-of decimal places complete coordinates lines line limit on-grid all-on-grid joined
     survivors-from others successor predecessor count unmark unmark-about remove decide look looks walk goes-at bend points around exact wrapped mod64
 w4 = refl

@@ -5,25 +5,27 @@ use mathlib.Core.List.{List, [], _∷_, _++_, map}
 use Prim.Native.Nat.{ℕ, zero, suc, _+_, _*_, _/_, _%_, _^_, _<_, _≤_}
 use native.Mathlib.Nat.{mod-lt}
 use native.Mathlib.Omega.{arith}
-use lib.Dec.{eqb, ltb}
+use lib.Dec.{eqb, ltb, leb}
 use lib.ListN.{length, take, drop, length-drop, length-append}
 use lib.Seq.{take-add, take-take, drop-at, length-take-le, getD-drop}
 use lib.Pow.{mod-pow-add}
 use lib.IntN.{ℤ}
 use mir.Syntax.{w32}
 use mir.Val.{toZ, ofZ}
-use borrow.Author.Tests.{ltb-true, ltb-false, lt-ltb, le-ltb, leb-true, leb-false, eq-eqb, ne-eqb}
+use borrow.Author.Tests.{ltb-true, ltb-false, lt-ltb, le-ltb, leb-true, leb-false, le-leb, lt-leb, eq-eqb, ne-eqb}
 use Rattle.grid.specs.Ladder.{first-of}
 use Rattle.grid.specs.Domain.{count}
 use Rattle.buffer.specs.Spans.{total}
 use Rattle.buffer.specs.Sets.{joined, Even}
 use Rattle.grid.proofs.LadderLaws.{clear}
 use Rattle.setfile.specs.Bits.{digit, value, field, bits}
-use Rattle.setfile.specs.Format.{Entry, entry, Parsed, and-then, coordinates, begins, points-in, contour-damage, contours-in, head-damage, parsed, contours-of, coordinate, contour-bits, file-bits, file-length, file}
+use Rattle.setfile.specs.Format.{Entry, entry, Parsed, coordinates, begins, points-in, contour-in, is-complete, Come, come-next, complete, unless, contours-in, head-damage, parsed, contours-of, coordinate, contour-bits, file-bits, file-length, file}
 use Rattle.setfile.specs.Format.Parsed.{damaged}
-use Rattle.setfile.specs.Inside.{Bytes, pair, quad, places, starts, held, fault, walk, head-fault, walked, two, four, coded-places, coded-contour, coded-contours, coded}
+use Rattle.setfile.specs.Inside.{Bytes, pair, quad, places, starts, held, walk, head-fault, walked, two, four, coded-places, coded-contour, coded-contours, coded, front-entry, all-there, arrived}
 use Rattle.setfile.specs.Writing.{most-points}
 use Rattle.setfile.specs.Promises.{Short, Small}
+use Rattle.setfile.proofs.ReadLaws.{walk-ends}
+use Rattle.setfile.proofs.ArrivedLaws.{wants-all, walk-arrived, walk-started, walk-short, walk-shapeless}
 use Rattle.setfile.proofs.BitLaws.{value-front, value-back, value-byte, bits-length, bits-taken, bits-dropped, bits-append, field-value, field-append, field-joined, bytes-bits}
 
 pub dropped : (k : ℕ) (f : List ℕ) → Bytes f → Bytes (drop k f)
@@ -38,13 +40,6 @@ ltb-eight a b = go (ltb a b) refl
 
 shorter : (f : List ℕ) (n m : ℕ) → m ≡ 8 * n → ltb (length (bits f)) m ≡ ltb (length f) n
 shorter f n m e = rw (bits-length f, e) (ltb-eight (length f) n)
-
-none-left : (f : List ℕ) → eqb (length (bits f)) 0 ≡ eqb (length f) 0
-none-left f = rw (bits-length f) (go (length f))
-  where
-    go : (n : ℕ) → eqb (8 * n) 0 ≡ eqb n 0
-    go zero = refl
-    go (suc n) = ne-eqb (8 * suc n) 0 (λ z. omega arith) ∙ sym (ne-eqb (suc n) 0 (λ z. omega arith))
 
 pair-value : (f : List ℕ) → Bytes f → 2 ≤ length f → value (take 16 (bits f)) ≡ pair f
 unfolding value bits
@@ -101,15 +96,24 @@ module _ (f : List ℕ) (h : Bytes f) (e : 2 ≤ length f) where
   points-held : points-in (bits f) ≡ held f
   points-held = low-bits f h e 1 15 refl
 
-damage-fault : (first : Bool) (f : List ℕ) → Bytes f → contour-damage first (bits f) ≡ fault first f
-unfolding first-of
-damage-fault first f h = go (ltb (length f) 2) refl
+leb-eight : (a b m n : ℕ) → m ≡ 8 * a → n ≡ 8 * b → leb m n ≡ leb a b
+leb-eight a b m n e f = go (leb a b) refl
   where
-    go : (t : Bool) → ltb (length f) 2 ≡ t → contour-damage first (bits f) ≡ fault first f
-    go true g = rw (shorter f 2 16 refl, g)
-    go false g =
-        let e = ltb-false (length f) 2 g in
-        rw (begins-starts f h e, points-held f h e, shorter f 2 16 refl, shorter f (2 + 8 * held f) (16 + 64 * held f) (omega arith))
+    go : (t : Bool) → leb a b ≡ t → leb m n ≡ t
+    go true g = le-leb m n (omega (arith, leb-true a b g))
+    go false g = lt-leb m n (omega (arith, leb-false a b g))
+
+complete-there : (f : List ℕ) → Bytes f → is-complete (bits f) ≡ all-there f
+complete-there f h = go (leb 2 (length f)) refl
+  where
+    header : leb 16 (length (bits f)) ≡ leb 2 (length f)
+    header = leb-eight 2 (length f) 16 (length (bits f)) refl (bits-length f)
+
+    go : (t : Bool) → leb 2 (length f) ≡ t → is-complete (bits f) ≡ all-there f
+    go true g =
+        rw (header, g, points-held f h (leb-true 2 (length f) g))
+        (leb-eight (2 + 8 * held f) (length f) (16 + 64 * held f) (length (bits f)) (omega arith) (bits-length f))
+    go false g = rw (header, g) (sym (lt-leb (2 + 8 * held f) (length f) (omega (arith, leb-false 2 (length f) g))))
 
 places-read : (k : ℕ) (f : List ℕ) → Bytes f → 4 * k ≤ length f → coordinates k (bits f) ≡ places k f
 unfolding coordinates places
@@ -124,23 +128,62 @@ same-unless : (r : ℕ) (a b : Parsed) → (r ≡ 0 → a ≡ b) → _≡_ {A = 
 same-unless zero a b f = f refl
 same-unless (suc r) a b f = refl
 
-contours-walked : (k : ℕ) (first : Bool) (f : List ℕ) → Bytes f → contours-in k first (bits f) ≡ walk k first f
-unfolding contours-in walk
-contours-walked zero first f h = rw (none-left f, contours-in, walk)
-contours-walked (suc k) first f h =
-    rw (damage-fault first f h, contours-in, walk)
-    (same-unless (fault first f) _ _
-    (λ z.
-    let c = clear _ tt z in
-    let e = ltb-false (length f) 2 (c .0) in
-    let n : 2 + 8 * held f ≤ length f = ltb-false (length f) (2 + 8 * held f) (c .1 .1 .0) in
+-- what has come, with bytes counted as bits
+abbrev pub in-bits : Come → Come
+in-bits c = record { contours = c .contours; missing = c .missing; past = 8 * c .past }
+
+bits-eight : (n : ℕ) → 16 + 64 * n ≡ 8 * (2 + 8 * n)
+bits-eight n = omega arith
+
+next-same : (t : Bool) (d e : Entry) (k : ℕ) (b c : Come) → (t ≡ true → d ≡ e) → (t ≡ true → b ≡ in-bits c) → come-next t d k b ≡ in-bits (come-next t e k c)
+next-same true d e k b c f g = ap₂ (λ (x : Entry) (y : Come). come-next true x k y) (f refl) (g refl)
+next-same false d e k b c f g = refl
+
+pub complete-by-bytes : (k : ℕ) (f : List ℕ) → Bytes f → complete k (bits f) ≡ in-bits (arrived k f)
+unfolding complete arrived
+complete-by-bytes zero f h = ap (λ (n : ℕ). record { contours = []; missing = 0; past = n }) (bits-length f)
+complete-by-bytes (suc k) f h =
+    ap (λ (t : Bool). come-next t (contour-in (bits f)) k (complete k (drop (16 + 64 * points-in (bits f)) (bits f)))) (complete-there f h)
+    ∙ next-same (all-there f) _ (front-entry f) k _ (arrived k (drop (2 + 8 * held f) f))
+    (λ t.
+    let n = leb-true (2 + 8 * held f) (length f) t in
+    let e : 2 ≤ length f = omega arith in
     rw (begins-starts f h e, points-held f h e)
-    (ap₂ (λ (l : List ℤ) (p : Parsed). and-then (entry (starts f) l) p)
-    (ap (coordinates (2 * held f)) (bits-dropped 2 f) ∙ places-read (2 * held f) (drop 2 f) (dropped 2 f h) (omega (arith, length-drop 2 f)))
-    (ap (contours-in k false) (rw (bits-eight (held f)) (bits-dropped (2 + 8 * held f) f)) ∙ contours-walked k false (drop (2 + 8 * held f) f) (dropped (2 + 8 * held f) f h)))))
-  where
-    bits-eight : (n : ℕ) → 16 + 64 * n ≡ 8 * (2 + 8 * n)
-    bits-eight n = omega arith
+    (ap (entry (starts f)) (ap (coordinates (2 * held f)) (bits-dropped 2 f) ∙ places-read (2 * held f) (drop 2 f) (dropped 2 f h) (omega (arith, length-drop 2 f)))))
+    (λ t.
+    let n = leb-true (2 + 8 * held f) (length f) t in
+    rw (points-held f h (omega arith))
+    (ap (complete k) (rw (bits-eight (held f)) (bits-dropped (2 + 8 * held f) f)) ∙ complete-by-bytes k (drop (2 + 8 * held f) f) (dropped (2 + 8 * held f) f h)))
+
+-- it does not matter whether bits or bytes are left over
+wants-bits : (c : Come) → wants-all (in-bits c) ≡ wants-all c
+wants-bits c = ap (λ (t : Bool). unless (first-of ((ltb 0 (c .missing), 10) ∷ (t, 10) ∷ [])) (c .contours)) (ltb-eight 0 (c .past))
+
+-- what is wrong with k contours is told by the first of them, or by what has come of all
+module _ (f : List ℕ) (h : Bytes f) where
+  pub contours-walked : (k : ℕ) → contours-in k (bits f) ≡ walk k true f
+  unfolding first-of
+  contours-walked zero = ap wants-all (complete-by-bytes 0 f h) ∙ wants-bits (arrived 0 f) ∙ sym (walk-arrived 0 f) ∙ sym (walk-ends 0 true f refl)
+  contours-walked (suc k) = go (ltb (length f) 2) refl
+    where
+      some : ltb 0 (suc k) ≡ true
+      some = lt-ltb 0 (suc k) (omega arith)
+
+      short : ltb (length (bits f)) 16 ≡ ltb (length f) 2
+      short = shorter f 2 16 refl
+
+      rest : (ltb (length f) 2 ≡ false) → starts f ≡ true → contours-in (suc k) (bits f) ≡ walk (suc k) true f
+      rest g s =
+          rw (some, short, g, begins-starts f h (ltb-false (length f) 2 g), s) (ap wants-all (complete-by-bytes (suc k) f h))
+          ∙ wants-bits (arrived (suc k) f) ∙ sym (walk-arrived (suc k) f) ∙ sym (walk-started k f s)
+
+      go : (t : Bool) → ltb (length f) 2 ≡ t → contours-in (suc k) (bits f) ≡ walk (suc k) true f
+      go true g = rw (some, short, g) (sym (walk-short k true f g))
+      go false g = begun (starts f) refl
+        where
+          begun : (t : Bool) → starts f ≡ t → contours-in (suc k) (bits f) ≡ walk (suc k) true f
+          begun true s = rest g s
+          begun false s = rw (some, short, g, begins-starts f h (ltb-false (length f) 2 g), s) (sym (walk-shapeless k f g s))
 
 head-same : (f : List ℕ) → Bytes f → head-damage f ≡ head-fault f
 unfolding first-of
@@ -157,7 +200,7 @@ parsed-by-bytes f h =
     (same-unless (head-fault f) _ _
     (λ z.
     let e = ltb-false (length f) 2 (clear _ tt z .0) in
-    rw (low-bits f h e 4 12 refl, bits-dropped 2 f) (contours-walked (pair f % 4096) true (drop 2 f) (dropped 2 f h))))
+    rw (low-bits f h e 4 12 refl, bits-dropped 2 f) (contours-walked (drop 2 f) (dropped 2 f h) (pair f % 4096))))
 
 -- what is written is bytes
 no-bytes : Bytes []

@@ -8,7 +8,7 @@ use Rattle.grid.specs.Ladder.{first-of}
 use Rattle.grid.specs.Cases.{W4}
 use Rattle.buffer.specs.Sets.{joined}
 use Rattle.setfile.specs.Bits.{value, field, bits, bytes}
-use Rattle.setfile.specs.Format.{entry, file, parsed, contours-in, coordinates}
+use Rattle.setfile.specs.Format.{entry, file, parsed, complete, coordinates}
 use Rattle.setfile.specs.Format.Parsed.{carries, damaged}
 
 -- 1001 8005 in hex, then the points of W4
@@ -20,12 +20,12 @@ unfolding file joined field value bytes
 w4-written = refl
 
 w4-read : parsed file-of-w4 ≡ carries (entry true W4 ∷ [])
-unfolding parsed contours-in coordinates bits field value first-of
+unfolding parsed complete coordinates bits field value first-of
 w4-read = refl
 
 -- a point below zero, and an empty contour in the same shape
 below-zero : parsed (16 ∷ 2 ∷ 128 ∷ 1 ∷ 255 ∷ 255 ∷ 255 ∷ 255 ∷ 224 ∷ 0 ∷ 0 ∷ 0 ∷ 0 ∷ 0 ∷ []) ≡ carries (entry true (negsuc 0 ∷ negsuc 536870911 ∷ []) ∷ entry false [] ∷ [])
-unfolding parsed contours-in coordinates bits field value first-of
+unfolding parsed complete coordinates bits field value first-of
 below-zero = refl
 
 -- the empty set
@@ -39,22 +39,22 @@ unfolding parsed bits field value first-of
 one-byte = refl
 
 another-edition : parsed (32 ∷ 0 ∷ []) ≡ damaged 9
-unfolding parsed contours-in coordinates bits field value first-of
+unfolding parsed complete coordinates bits field value first-of
 another-edition = refl
 
 -- the first contour begins no shape, before its points are looked at
 no-shape : parsed (16 ∷ 1 ∷ 0 ∷ 1 ∷ []) ≡ damaged 11
-unfolding parsed contours-in coordinates bits field value first-of
+unfolding parsed complete coordinates bits field value first-of
 no-shape = refl
 
 no-header : parsed (16 ∷ 1 ∷ 128 ∷ []) ≡ damaged 10
-unfolding parsed contours-in coordinates bits field value first-of
+unfolding parsed complete coordinates bits field value first-of
 no-header = refl
 
 no-points : parsed (16 ∷ 1 ∷ 128 ∷ 1 ∷ []) ≡ damaged 10
-unfolding parsed contours-in coordinates bits field value first-of
+unfolding parsed complete coordinates bits field value first-of
 no-points = refl
 
 left-over : parsed (16 ∷ 1 ∷ 128 ∷ 0 ∷ 7 ∷ []) ≡ damaged 10
-unfolding parsed contours-in coordinates bits field value first-of
+unfolding parsed complete coordinates bits field value first-of
 left-over = refl

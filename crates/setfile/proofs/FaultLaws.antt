@@ -1,15 +1,17 @@
--- What is wrong with the contour at a position.
+-- What is wrong with a file's head, and with the contour at a position.
 use mathlib.Core.Path.{_≡_, sym, _∙_, ap}
 use mathlib.Core.Bool.{Bool, true, false, not, _&&_}
 use mathlib.Core.List.{List}
-use Prim.Native.Nat.{ℕ, _+_, _*_, _-_, _≤_, _<_}
+use Prim.Native.Nat.{ℕ, _+_, _*_, _/_, _-_, _≤_, _<_}
 use native.Mathlib.Omega.{arith}
 use lib.Dec.{ltb}
 use lib.ListN.{length, drop, length-drop}
-use borrow.Author.Tests.{lt-ltb, le-ltb}
-use Rattle.grid.proofs.LadderLaws.{first-is}
+use borrow.Author.Tests.{ltb-false, lt-ltb, le-ltb, eq-eqb, ne-eqb}
+use Rattle.grid.specs.Ladder.{first-of}
+use Rattle.grid.proofs.LadderLaws.{clear, first-is}
 use Rattle.grid.proofs.LadderLaws.First.{here, past, foot}
-use Rattle.setfile.specs.Inside.{starts, held, fault}
+use Rattle.setfile.specs.Inside.{pair, starts, held, fault}
+use Rattle.setfile.specs.InsideReading.{head-refusals}
 
 module _ (f : List ℕ) (at : ℕ) (first : Bool) where
   abbrev here-on : ℕ
@@ -37,3 +39,22 @@ module _ (f : List ℕ) (at : ℕ) (first : Bool) where
 
       pub no-fault : 2 + 8 * n ≤ length f - at → 0 ≡ fault first (drop at f)
       no-fault l = first-is _ _ (past (enough 2 h) (past (begun g) (past (enough (2 + 8 * held (drop at f)) (omega arith)) foot)))
+
+-- what is refused of a file by its length and its head
+module _ (f : List ℕ) where
+  pub over-long : 65536 < length f → 2 ≡ first-of (head-refusals f)
+  over-long h = first-is _ _ (here (lt-ltb _ _ h))
+
+  module _ (few : length f ≤ 65536) where
+    pub head-short : length f < 2 → 10 ≡ first-of (head-refusals f)
+    head-short h = first-is _ _ (past (le-ltb _ _ few) (here (lt-ltb _ _ h)))
+
+    module _ (long : 2 ≤ length f) (h : ℕ) (e : h ≡ pair f) where
+      pub head-edition : (h / 4096 ≡ 1 → ⊥) → 9 ≡ first-of (head-refusals f)
+      head-edition z = first-is _ _ (past (le-ltb _ _ few) (past (le-ltb _ _ long) (here (ap not (ne-eqb (pair f / 4096) 1 (λ k. z (omega arith)))))))
+
+      pub head-right : h / 4096 ≡ 1 → 0 ≡ first-of (head-refusals f)
+      head-right z = first-is _ _ (past (le-ltb _ _ few) (past (le-ltb _ _ long) (past (ap not (eq-eqb (pair f / 4096) 1 (omega arith))) foot)))
+
+  pub head-long : first-of (head-refusals f) ≡ 0 → 2 ≤ length f
+  head-long e = ltb-false _ _ (clear (head-refusals f) tt e .1 .0)

@@ -13,10 +13,10 @@ use Rattle.buffer.specs.Sets.{joined}
 use Rattle.buffer.specs.Rows.{placed}
 use Rattle.buffer.proofs.RowLaws.{placed-front}
 use Rattle.setfile.specs.Format.{Entry, contours-of}
-use Rattle.setfile.specs.Inside.{places, held}
+use Rattle.setfile.specs.Inside.{places, held, front-entry}
 use Rattle.setfile.specs.InsideReading.{contained, Readable}
 use Rattle.buffer.proofs.SetLaws.{laid-length}
-use Rattle.setfile.proofs.ReadLaws.{places-length, front-entry}
+use Rattle.setfile.proofs.ReadLaws.{places-length}
 use Rattle.setfile.proofs.RestLaws.{Rest, Next, next, done, rest-all}
 use Rattle.setfile.proofs.AheadLaws.{Ahead, ahead-all, ahead-more, ahead-one, ahead-none}
 

@@ -2,29 +2,29 @@
 use mathlib.Core.Path.{_≡_, refl, sym, _∙_, ap, ap₂, subst}
 use mathlib.Core.Bool.{Bool, true, false, not, _&&_, and-assoc, and-true}
 use mathlib.Core.List.{List, [], _∷_, _++_}
-use Prim.Native.Nat.{ℕ, zero, suc, _+_, _*_, _/_, _%_, _-_, _≤_, _<_}
+use Prim.Native.Nat.{ℕ, zero, suc, _+_, _*_, _%_, _-_, _≤_, _<_}
 use native.Mathlib.Omega.{arith}
 use native.Mathlib.Nat.{zero-add}
-use lib.Dec.{eqb, eqb·suc-zero}
+use lib.Dec.{eqb, ltb, eqb·suc-zero}
 use lib.ListN.{length, drop, length-append, length-drop}
 use lib.Seq.{drop-drop}
 use lib.IntN.{ℤ}
 use mir.Val.{boolByte}
-use borrow.Author.Tests.{ltb-false, lt-ltb, le-ltb, eq-eqb, ne-eqb}
+use borrow.Author.Tests.{ltb-true, ltb-false, lt-ltb, le-ltb, eq-eqb, ne-eqb}
 use Rattle.grid.specs.Limits.{on-grid, all-on-grid}
 use Rattle.grid.specs.Ladder.{first-of}
 use Rattle.grid.specs.Domain.{off}
-use Rattle.grid.proofs.LadderLaws.{clear, first-is}
+use Rattle.grid.proofs.LadderLaws.{Clear, clear, first-is}
 use Rattle.grid.proofs.LadderLaws.First.{here, past, foot}
 use Rattle.buffer.proofs.RefusalLaws.{found}
 use Rattle.buffer.specs.Sets.{joined}
 use Rattle.setfile.specs.declared.judging.Met.{Met}
 use Rattle.setfile.specs.declared.judging.Judged.{Judged}
 use Rattle.setfile.specs.Bits.{digit}
-use Rattle.setfile.specs.Format.{Entry, entry, contours-of, shapes-of, gathered, Parsed, and-then, read-contours}
+use Rattle.setfile.specs.Format.{Entry, entry, contours-of, shapes-of, gathered, Parsed, read-contours}
 use Rattle.setfile.specs.Format.Parsed.{carries, damaged}
-use Rattle.setfile.specs.Inside.{pair, places, starts, held, fault, walk, head-fault, walked}
-use Rattle.setfile.specs.InsideReading.{none-met, met-more, Inside, judged, on-or-refused, summed, contained, refusals-of, Readable, Judgement}
+use Rattle.setfile.specs.Inside.{pair, places, starts, held, fault, walk, head-faults, head-fault, walked, and-then}
+use Rattle.setfile.specs.InsideReading.{none-met, met-more, Inside, judged, on-or-refused, summed, head-refusals, contained, refusals-of, Readable, Judgement}
 use Rattle.setfile.proofs.BitLaws.{byte-digit, digit-below}
 use Rattle.setfile.proofs.ReadLaws.{places-length, walk-more, Numbered, walk-numbered, Long, walk-long}
 
@@ -164,26 +164,27 @@ module _ (f : List ℕ) where
           }
 
   -- a file over 65,536 bytes
-  pub over : 65536 < length f → (r : Judged) → r ≡ judged 2 0 0 0 → Judgement f r
+  over : 65536 < length f → (r : Judged) → r ≡ judged 2 0 0 0 → Judgement f r
   over h r e = record {
     reply = ap (λ (j : Judged). j .reply) e ∙ first-is _ _ (here (lt-ltb _ _ h));
     counts = λ z. absurd (omega (arith, ap (λ (j : Judged). j .reply) e));
   }
 
-  pub judged-short : length f < 2 → (r : Judged) → r ≡ judged 10 0 0 0 → Judgement f r
-  judged-short h r e =
-      let k : 10 ≡ head-fault f = first-is _ _ (here (lt-ltb _ _ h)) in
-      judgement (omega arith) r (e ∙ ap (summed none-met 0) (sym (walked-faulty 10 k (λ z. omega arith))))
+  -- a file whose length or head is refused
+  pub judged-head : (k : ℕ) → k ≡ first-of (head-refusals f) → (k ≡ 0 → ⊥) → (r : Judged) → r ≡ judged k 0 0 0 → Judgement f r
+  unfolding first-of
+  judged-head k e z r j = go (ltb 65536 (length f)) refl e
+    where
+      go : (b : Bool) → ltb 65536 (length f) ≡ b → k ≡ first-of ((b, 2) ∷ head-faults f) → Judgement f r
+      go true h e = over (ltb-true _ _ h) r (j ∙ ap (λ (n : ℕ). judged n 0 0 0) e)
+      go false h e = judgement (ltb-false _ _ h) r (j ∙ ap (summed none-met 0) (sym (walked-faulty k e z)))
 
-  module _ (few : length f ≤ 65536) (long : 2 ≤ length f) (h : ℕ) (e : h ≡ pair f) where
-    pub judged-edition : (h / 4096 ≡ 1 → ⊥) → (r : Judged) → r ≡ judged 9 0 0 0 → Judgement f r
-    judged-edition z r j =
-        let b : not (eqb (pair f / 4096) 1) ≡ true = ap not (ne-eqb (pair f / 4096) 1 (λ k. z (omega arith))) in
-        let k : 9 ≡ head-fault f = first-is _ _ (past (le-ltb _ _ long) (here b)) in
-        judgement few r (j ∙ ap (summed none-met 0) (sym (walked-faulty 9 k (λ z. omega arith))))
+  -- one whose head is right
+  module _ (e : first-of (head-refusals f) ≡ 0) where
+    right : Clear (head-refusals f)
+    right = clear (head-refusals f) tt e
 
-    pub judged-contours : h / 4096 ≡ 1 → (r : Judged) → r ≡ summed none-met 0 (walk (h % 4096) true (drop 2 f)) → Judgement f r
-    judged-contours z r j =
-        let b : not (eqb (pair f / 4096) 1) ≡ false = ap not (eq-eqb (pair f / 4096) 1 (omega arith)) in
-        let k : 0 ≡ head-fault f = first-is _ _ (past (le-ltb _ _ long) (past b foot)) in
-        judgement few r (j ∙ ap (summed none-met 0) (ap (λ (n : ℕ). walk (n % 4096) true (drop 2 f)) e ∙ sym (walked-behind k)))
+    pub judged-contours : (r : Judged) → r ≡ summed none-met 0 (walk (pair f % 4096) true (drop 2 f)) → Judgement f r
+    judged-contours r j =
+        let k : 0 ≡ head-fault f = first-is _ _ (past (right .1 .0) (past (right .1 .1 .0) foot)) in
+        judgement (ltb-false _ _ (right .0)) r (j ∙ ap (summed none-met 0) (sym (walked-behind k)))

@@ -1,4 +1,5 @@
 pub mod BitLaws
+pub mod ArrivedLaws
 pub mod ByteLaws
 pub mod RoundTrip
 pub mod GatherLaws

@@ -11,9 +11,9 @@ use mir.Syntax.{w32}
 use mir.Val.{toZ}
 use borrow.Author.Tests.{ltb-false, ne-eqb}
 use Rattle.grid.proofs.LadderLaws.{clear}
-use Rattle.setfile.specs.Format.{Entry, entry, Parsed, and-then}
+use Rattle.setfile.specs.Format.{Entry, Parsed}
 use Rattle.setfile.specs.Format.Parsed.{carries, damaged}
-use Rattle.setfile.specs.Inside.{quad, places, starts, held, fault, walk}
+use Rattle.setfile.specs.Inside.{quad, places, held, fault, walk, and-then, front-entry}
 
 pub places-length : (k : ℕ) (f : List ℕ) → length (places k f) ≡ k
 unfolding places
@@ -33,10 +33,6 @@ places-more f at k i h =
 pub places-none : (k : ℕ) (f : List ℕ) → k ≡ 0 → places k f ≡ []
 unfolding places
 places-none k f e = rw e
-
--- the contour in front of f
-abbrev pub front-entry : List ℕ → Entry
-front-entry f = entry (starts f) (places (2 * held f) (drop 2 f))
 
 -- the next of n contours
 module _ (f : List ℕ) (n i at : ℕ) (first : Bool) where

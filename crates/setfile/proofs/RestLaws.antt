@@ -8,11 +8,11 @@ use lib.Dec.{eqb}
 use lib.ListN.{length, drop}
 use borrow.Author.Tests.{eq-eqb, not-false}
 use Rattle.grid.proofs.LadderLaws.{clear}
-use Rattle.setfile.specs.Format.{Entry, Parsed, and-then}
+use Rattle.setfile.specs.Format.{Entry, Parsed}
 use Rattle.setfile.specs.Format.Parsed.{carries, damaged}
-use Rattle.setfile.specs.Inside.{starts, held, fault, walk}
+use Rattle.setfile.specs.Inside.{starts, held, fault, walk, and-then, front-entry}
 use Rattle.setfile.specs.InsideReading.{contained, Readable}
-use Rattle.setfile.proofs.ReadLaws.{front-entry, walk-faulty, walk-more, walk-ends, contour-within}
+use Rattle.setfile.proofs.ReadLaws.{walk-faulty, walk-more, walk-ends, contour-within}
 
 -- from position at on, behind i of n contours, these are left
 pub record Rest (f : List ℕ) (n i at : ℕ) (l : List Entry) : Type 0 where

@@ -17,10 +17,10 @@ use Rattle.grid.specs.Ladder.{first-of}
 use Rattle.grid.specs.Domain.{count}
 use Rattle.grid.proofs.LadderLaws.{clear}
 use Rattle.buffer.specs.Sets.{joined, Even}
-use Rattle.setfile.specs.Bits.{digit, value, bits}
-use Rattle.setfile.specs.Format.{Entry, entry, contours-of, Parsed, and-then, coordinates, begins, points-in, contour-damage, contours-in, head-damage, parsed, damage, file, read-contours}
+use Rattle.setfile.specs.Bits.{digit, bits}
+use Rattle.setfile.specs.Format.{Entry, entry, contours-of, Parsed, contours-damage, unless, contours-in, head-damage, promised, come, parsed, damage, file, read-contours}
 use Rattle.setfile.specs.Format.Parsed.{carries, damaged}
-use Rattle.setfile.specs.Inside.{Bytes, pair, quad, places, starts, held, fault, walk, head-fault, walked, two, four, coded-places, coded-contour, coded-contours, coded}
+use Rattle.setfile.specs.Inside.{Bytes, pair, quad, places, starts, held, fault, walk, head-fault, walked, two, four, coded-places, coded-contour, coded-contours, coded, and-then}
 use Rattle.setfile.specs.Writing.{most-contours, most-points}
 use Rattle.setfile.specs.Promises.{Each, Short, Started, Carried}
 use Rattle.setfile.proofs.ReadLaws.{places-length}
@@ -313,29 +313,17 @@ abbrev Told : Parsed → Type 0
 Told (carries l) = Unit {0}
 Told (damaged r) = 0 < r
 
-and-then-told : (e : Entry) (p : Parsed) → Told p → Told (and-then e p)
-and-then-told e (carries l) h = tt
-and-then-told e (damaged r) h = h
-
-unless-told : (r : ℕ) (p : Parsed) → Told p → Told (elim r [ suc k ↦ damaged (suc k) | zero ↦ p ])
-unless-told zero p h = h
-unless-told (suc r) p h = omega arith
-
-contours-told : (k : ℕ) (first : Bool) (l : List Bool) → Told (contours-in k first l)
-unfolding contours-in
-contours-told zero first l = go (eqb (length l) 0)
-  where
-    go : (b : Bool) → Told (elim b [ true ↦ carries [] | false ↦ damaged 10 ])
-    go true = tt
-    go false = omega arith
-contours-told (suc k) first l =
-    let e : Entry = entry (begins l) (coordinates (2 * points-in l) (drop 16 l)) in
-    let more : Parsed = contours-in k false (drop (16 + 64 * points-in l) l) in
-    unless-told (contour-damage first l) (and-then e more) (and-then-told e more (contours-told k false (drop (16 + 64 * points-in l) l)))
+unless-told : (r : ℕ) (l : List Entry) → Told (unless r l)
+unless-told zero l = tt
+unless-told (suc r) l = omega arith
 
 parsed-told : (f : List ℕ) → Told (parsed f)
 unfolding parsed
-parsed-told f = unless-told (head-damage f) _ (contours-told (value (take 12 (drop 4 (bits f)))) true (drop 16 (bits f)))
+parsed-told f = go (head-damage f)
+  where
+    go : (r : ℕ) → Told (elim r [ suc k ↦ damaged (suc k) | zero ↦ contours-in (promised f) (drop 16 (bits f)) ])
+    go zero = unless-told (contours-damage (promised f) (drop 16 (bits f))) (come f .contours)
+    go (suc r) = omega arith
 
 pub undamaged : (f : List ℕ) → damage (parsed f) ≡ 0 → parsed f ≡ carries (read-contours (parsed f))
 undamaged f e = go (parsed f) (parsed-told f) e

@@ -1,58 +1,54 @@
 -- How much a file can carry.
-use mathlib.Core.Path.{_≡_, refl, sym, ap}
+use mathlib.Core.Path.{_≡_, refl, ap}
 use mathlib.Core.Bool.{Bool, true, false}
 use mathlib.Core.List.{List, [], _∷_, map}
 use Prim.Native.Nat.{ℕ, zero, suc, _+_, _-_, _*_, _≤_, _<_, _^_}
 use native.Mathlib.Omega.{arith}
 use native.Mathlib.Nat.{pow-le-pow-right}
-use lib.Dec.{eqb, lit<}
+use lib.Dec.{leb, lit<}
 use lib.ListN.{length, take, drop, length-append, length-drop, length-take}
 use lib.IntN.{ℤ}
-use borrow.Author.Tests.{ltb-false, eqb-true}
+use borrow.Author.Tests.{leb-true}
+use Rattle.integers.proofs.Logic.{and-right}
 use Rattle.grid.specs.Domain.{count}
-use Rattle.grid.proofs.LadderLaws.{clear}
 use Rattle.buffer.specs.Spans.{total}
 use Rattle.buffer.specs.Sets.{joined, Even}
 use Rattle.buffer.proofs.Theorems.{points-total}
-use Rattle.setfile.specs.Bits.{value, bits}
-use Rattle.setfile.specs.Format.{Entry, entry, contours-of, shapes-of, gather, gathered, Parsed, and-then, begins, points-in, coordinates, contour-damage, contours-in, head-damage, parsed, read-contours}
+use Rattle.setfile.specs.Bits.{bits}
+use Rattle.setfile.specs.Format.{Entry, contours-of, shapes-of, gather, gathered, points-in, coordinates, contour-in, is-complete, Come, come-next, complete, contours-damage, unless, contours-in, head-damage, promised, come, parsed, read-contours}
 use Rattle.setfile.proofs.BitLaws.{value-below, bits-length}
-use Rattle.setfile.specs.Format.Parsed.{carries, damaged}
+use Rattle.setfile.specs.Format.Parsed.{damaged}
 
 coordinates-length : (k : ℕ) (l : List Bool) → length (coordinates k l) ≡ k
 unfolding coordinates
 coordinates-length zero l = refl
 coordinates-length (suc k) l = ap suc (coordinates-length k (drop 32 l))
 
--- k contours, of which each has an even count of numbers, in n bits
-abbrev Sized : ℕ → ℕ → Parsed → Type 0
-Sized n k (carries l) = (length l ≡ k) × (16 * k + 32 * length (joined (contours-of l)) ≡ n) × Even (contours-of l)
-Sized n k (damaged r) = Unit {0}
+-- what has come of k contours, each with an even count of numbers, in n bits
+pub record Sized (n k : ℕ) (c : Come) : Type 0 where
+  pub number : length (c .contours) + c .missing ≡ k
+  pub room : 16 * length (c .contours) + 32 * length (joined (contours-of (c .contours))) + c .past ≤ n
+  pub even : Even (contours-of (c .contours))
 
-then-sized : (n k m : ℕ) (b : Bool) (c : List ℤ) (w : Parsed) → length c ≡ 2 * m → Sized (n - (16 + 64 * m)) k w → 16 + 64 * m ≤ n → Sized n (suc k) (and-then (entry b c) w)
-unfolding joined
-then-sized n k m b c (damaged r) e s h = tt
-then-sized n k m b c (carries l) e s h =
-    (ap suc (s .0), omega (arith, s .1, e, length-append c (joined (contours-of l))), (omega (arith, e), s .2))
-
-contours-sized : (k : ℕ) (first : Bool) (l : List Bool) → Sized (length l) k (contours-in k first l)
-unfolding contours-in joined
-contours-sized zero first l = go (eqb (length l) 0) refl
+pub complete-sized : (k : ℕ) (l : List Bool) → Sized (length l) k (complete k l)
+unfolding complete joined
+complete-sized zero l = record { number = refl; room = omega arith; even = tt }
+complete-sized (suc k) l = go (is-complete l) refl (complete-sized k rest)
   where
-    go : (b : Bool) → eqb (length l) 0 ≡ b → Sized (length l) 0 (elim b [ true ↦ carries [] | false ↦ damaged 10 ])
-    go true e = (refl, sym (eqb-true (length l) 0 e), tt)
-    go false e = tt
-contours-sized (suc k) first l = go (contour-damage first l) refl (contours-sized k false (drop (16 + 64 * points-in l) l))
-  where
-    rest : Parsed
-    rest = contours-in k false (drop (16 + 64 * points-in l) l)
+    rest : List Bool
+    rest = drop (16 + 64 * points-in l) l
 
-    go : (r : ℕ) → contour-damage first l ≡ r → Sized (length (drop (16 + 64 * points-in l) l)) k rest
-        → Sized (length l) (suc k) (elim r [ suc r ↦ damaged (suc r) | zero ↦ and-then (entry (begins l) (coordinates (2 * points-in l) (drop 16 l))) rest ])
-    go (suc r) e s = tt
-    go zero e s =
-        then-sized (length l) k (points-in l) (begins l) _ rest (coordinates-length _ _) (rw (length-drop (16 + 64 * points-in l) l) at s)
-        (ltb-false (length l) (16 + 64 * points-in l) (clear _ tt e .1 .1 .0))
+    go : (t : Bool) → is-complete l ≡ t → Sized (length rest) k (complete k rest) → Sized (length l) (suc k) (come-next t (contour-in l) k (complete k rest))
+    go true t s =
+        let c : List ℤ = coordinates (2 * points-in l) (drop 16 l) in
+        let n : length c ≡ 2 * points-in l = coordinates-length (2 * points-in l) (drop 16 l) in
+        let h : 16 + 64 * points-in l ≤ length l = leb-true (16 + 64 * points-in l) (length l) (and-right (leb 16 (length l)) _ t) in
+        record {
+          number = omega (arith, s .number);
+          room = omega (arith, s .room, length-drop (16 + 64 * points-in l) l, length-append c (joined (contours-of (complete k rest .contours))));
+          even = (omega arith, s .even);
+        }
+    go false t s = record { number = omega arith; room = omega arith; even = tt }
 
 -- the contours of a file, which are so few
 pub record Carried (l : List Entry) : Type 0 where
@@ -70,29 +66,39 @@ shapes-few (e ∷ l) = go (e .begins) (shapes-few l)
     go true h = omega arith
     go false h = omega arith
 
-sized-carried : (n k : ℕ) (w : Parsed) → Sized n k w → k < 4096 → n ≤ 524272 → Carried (read-contours w)
-unfolding joined gathered
-sized-carried n k (damaged r) s h m = record { contours-few = omega arith; numbers-few = omega arith; shapes-few = omega arith; even = tt }
-sized-carried n k (carries l) s h m =
-    let e = points-total (contours-of l) (s .2) in
-    let t : 64 * total (map count (contours-of l)) ≤ 524272 = omega (arith, s .1) in
+sized-carried : (n k : ℕ) (c : Come) → Sized n k c → k < 4096 → n ≤ 524272 → Carried (c .contours)
+sized-carried n k c s h m =
+    let l : List Entry = c .contours in
+    let e = points-total (contours-of l) (s .even) in
+    let t : 64 * total (map count (contours-of l)) ≤ 524272 = omega (arith, s .room) in
     let u : total (map count (contours-of l)) ≤ 8191 = omega arith in
     record {
-      contours-few = omega (arith, s .0);
+      contours-few = omega (arith, s .number);
       numbers-few = omega arith;
-      shapes-few = omega (arith, s .0, shapes-few l);
-      even = s .2;
+      shapes-few = omega (arith, s .number, shapes-few l);
+      even = s .even;
     }
 
+pub promised-few : (f : List ℕ) → promised f < 4096
+promised-few f =
+    let a : 2 ^ length (take 12 (drop 4 (bits f))) ≤ 2 ^ 12 = pow-le-pow-right (lit< tt) {i = length (take 12 (drop 4 (bits f)))} {j = 12} (omega (arith, length-take 12 (drop 4 (bits f)))) in
+    omega (arith, value-below (take 12 (drop 4 (bits f))))
+
+pub come-carried : (f : List ℕ) → length f ≤ 65536 → Carried (come f .contours)
+come-carried f h =
+    sized-carried (length (drop 16 (bits f))) (promised f) (come f) (complete-sized (promised f) (drop 16 (bits f))) (promised-few f) (omega (arith, length-drop 16 (bits f), bits-length f))
+
 pub carried : (f : List ℕ) → length f ≤ 65536 → Carried (read-contours (parsed f))
-unfolding parsed
+unfolding parsed joined gathered
 carried f h = go (head-damage f)
   where
-    few : value (take 12 (drop 4 (bits f))) < 4096
-    few =
-        let a : 2 ^ length (take 12 (drop 4 (bits f))) ≤ 2 ^ 12 = pow-le-pow-right (lit< tt) {i = length (take 12 (drop 4 (bits f)))} {j = 12} (omega (arith, length-take 12 (drop 4 (bits f)))) in
-        omega (arith, value-below (take 12 (drop 4 (bits f))))
+    none : Carried []
+    none = record { contours-few = omega arith; numbers-few = omega arith; shapes-few = omega arith; even = tt }
 
-    go : (r : ℕ) → Carried (read-contours (elim r [ suc r ↦ damaged (suc r) | zero ↦ contours-in (value (take 12 (drop 4 (bits f)))) true (drop 16 (bits f)) ]))
-    go (suc r) = sized-carried 0 0 (damaged (suc r)) tt (omega arith) (omega arith)
-    go zero = sized-carried (length (drop 16 (bits f))) (value (take 12 (drop 4 (bits f)))) (contours-in (value (take 12 (drop 4 (bits f)))) true (drop 16 (bits f))) (contours-sized (value (take 12 (drop 4 (bits f)))) true (drop 16 (bits f))) few (omega (arith, length-drop 16 (bits f), bits-length f))
+    found : (r : ℕ) → Carried (read-contours (unless r (come f .contours)))
+    found zero = come-carried f h
+    found (suc r) = none
+
+    go : (r : ℕ) → Carried (read-contours (elim r [ suc r ↦ damaged (suc r) | zero ↦ contours-in (promised f) (drop 16 (bits f)) ]))
+    go (suc r) = none
+    go zero = found (contours-damage (promised f) (drop 16 (bits f)))

@@ -2,12 +2,12 @@
 use mathlib.Core.Bool.{Bool, true, false, not, _&&_}
 use mathlib.Core.List.{List, [], _∷_, _++_, map}
 use Prim.Native.Nat.{ℕ, zero, suc, _+_, _*_}
-use lib.Dec.{eqb, ltb}
+use lib.Dec.{eqb, ltb, leb}
 use lib.ListN.{length, take, drop}
 use lib.IntN.{ℤ}
 use mir.Syntax.{w32}
 use mir.Val.{toZ, ofZ}
-use Rattle.grid.specs.Ladder.{first-of}
+use Rattle.grid.specs.Ladder.{Rung, first-of}
 use Rattle.grid.specs.Domain.{count}
 use Rattle.buffer.specs.Spans.{total}
 use Rattle.buffer.specs.Sets.{joined}
@@ -78,11 +78,6 @@ pub data Parsed : Type 0 where
   carries : List Entry → Parsed
   damaged : ℕ → Parsed
 
--- one contour in front of what is read
-abbrev pub and-then : Entry → Parsed → Parsed
-and-then e (carries l) = carries (e ∷ l)
-and-then e (damaged r) = damaged r
-
 -- k coordinates, 32 bits each, two's complement
 unfoldable pub coordinates : ℕ → List Bool → List ℤ
 coordinates zero l = []
@@ -96,30 +91,70 @@ begins l = eqb (value (take 1 l)) 1
 abbrev pub points-in : List Bool → ℕ
 points-in l = value (take 15 (drop 1 l))
 
--- what is wrong with the contour in front: its header is missing, it is the first and begins no shape, points are missing
-abbrev pub contour-damage : Bool → List Bool → ℕ
-contour-damage first l =
-    first-of ((ltb (length l) 16, 10) ∷ (first && not (begins l), 11) ∷ (ltb (length l) (16 + 64 * points-in l), 10) ∷ [])
+-- the contour in front
+abbrev pub contour-in : List Bool → Entry
+contour-in l = entry (begins l) (coordinates (2 * points-in l) (drop 16 l))
 
--- k contours and nothing behind them, read one after the other
-unfoldable pub contours-in : ℕ → Bool → List Bool → Parsed
-contours-in zero first l = elim (eqb (length l) 0) [ true ↦ carries [] | false ↦ damaged 10 ]
-contours-in (suc k) first l =
-    elim (contour-damage first l) [
-      | suc r ↦ damaged (suc r)
-      | zero ↦ and-then (entry (begins l) (coordinates (2 * points-in l) (drop 16 l))) (contours-in k false (drop (16 + 64 * points-in l) l))
-    ]
+-- it is complete: its header is there, and every point that it counts
+abbrev pub is-complete : List Bool → Bool
+is-complete l = leb 16 (length l) && leb (16 + 64 * points-in l) (length l)
 
--- what is wrong with the head of a file: under two bytes, another edition
+-- what has come of promised contours: the complete ones, how many never came, and how many bits stand past the last
+pub record Come : Type 0 where
+  pub contours : List Entry
+  pub missing : ℕ
+  pub past : ℕ
+
+-- one contour and k more: where it is complete it stands in front of what has come of the others, else none has come
+abbrev pub come-next : Bool → Entry → ℕ → Come → Come
+come-next true e k c = record { contours = e ∷ c .contours; missing = c .missing; past = c .past }
+come-next false e k c = record { contours = []; missing = suc k; past = 0 }
+
+-- of k promised contours, read from the front, those that are complete
+unfoldable pub complete : ℕ → List Bool → Come
+complete zero l = record { contours = []; missing = 0; past = length l }
+complete (suc k) l = come-next (is-complete l) (contour-in l) k (complete k (drop (16 + 64 * points-in l) l))
+
+-- what is wrong with k contours: the first header is missing, the first contour begins no shape, points or a later header are missing, bits are left over
+abbrev pub contours-damage : ℕ → List Bool → ℕ
+contours-damage k l =
+    first-of
+    ((ltb 0 k && ltb (length l) 16, 10)
+    ∷ (ltb 0 k && not (begins l), 11)
+    ∷ (ltb 0 (complete k l .missing), 10)
+    ∷ (ltb 0 (complete k l .past), 10)
+    ∷ [])
+
+-- these contours, unless there is damage
+abbrev pub unless : ℕ → List Entry → Parsed
+unless zero l = carries l
+unless (suc r) l = damaged (suc r)
+
+-- k contours and nothing behind them
+abbrev pub contours-in : ℕ → List Bool → Parsed
+contours-in k l = unless (contours-damage k l) (complete k l .contours)
+
+-- what is wrong with the head of a file: 10 under two bytes, 9 another edition
+abbrev pub bad-head : List ℕ → List Rung
+bad-head f = (ltb (length f) 2, 10) ∷ (not (eqb (value (take 4 (bits f))) 1), 9) ∷ []
+
 abbrev pub head-damage : List ℕ → ℕ
-head-damage f = first-of ((ltb (length f) 2, 10) ∷ (not (eqb (value (take 4 (bits f))) 1), 9) ∷ [])
+head-damage f = first-of (bad-head f)
+
+-- how many contours it promises
+abbrev pub promised : List ℕ → ℕ
+promised f = value (take 12 (drop 4 (bits f)))
+
+-- what has come of them
+abbrev pub come : List ℕ → Come
+come f = complete (promised f) (drop 16 (bits f))
 
 -- a file, read
 unfoldable pub parsed : List ℕ → Parsed
 parsed f =
     elim (head-damage f) [
       | suc r ↦ damaged (suc r)
-      | zero ↦ contours-in (value (take 12 (drop 4 (bits f)))) true (drop 16 (bits f))
+      | zero ↦ contours-in (promised f) (drop 16 (bits f))
     ]
 
 -- the number of its damage, or 0

@@ -7,11 +7,11 @@ use lib.ListN.{length, getD, drop}
 use lib.IntN.{ℤ}
 use mir.Syntax.{w32}
 use mir.Val.{toZ, ofZ}
-use Rattle.grid.specs.Ladder.{first-of}
+use Rattle.grid.specs.Ladder.{Rung, first-of}
 use Rattle.grid.specs.Domain.{count}
 use Rattle.buffer.specs.Sets.{joined}
 use Rattle.setfile.specs.Bits.{digit}
-use Rattle.setfile.specs.Format.{Entry, entry, Parsed, and-then}
+use Rattle.setfile.specs.Format.{Entry, entry, Parsed, Come, come-next}
 use Rattle.setfile.specs.Format.Parsed.{carries, damaged}
 
 -- every number is a byte
@@ -39,9 +39,18 @@ starts f = leb 32768 (pair f)
 abbrev pub held : List ℕ → ℕ
 held f = pair f % 32768
 
--- what is wrong with the contour in front
+-- the contour in front
+abbrev pub front-entry : List ℕ → Entry
+front-entry f = entry (starts f) (places (2 * held f) (drop 2 f))
+
+-- what is wrong with it
 abbrev pub fault : Bool → List ℕ → ℕ
 fault first f = first-of ((ltb (length f) 2, 10) ∷ (first && not (starts f), 11) ∷ (ltb (length f) (2 + 8 * held f), 10) ∷ [])
+
+-- one contour in front of what is read
+abbrev pub and-then : Entry → Parsed → Parsed
+and-then e (carries l) = carries (e ∷ l)
+and-then e (damaged r) = damaged r
 
 -- k contours and nothing behind them
 unfoldable pub walk : ℕ → Bool → List ℕ → Parsed
@@ -49,16 +58,28 @@ walk zero first f = elim (eqb (length f) 0) [ true ↦ carries [] | false ↦ da
 walk (suc k) first f =
     elim (fault first f) [
       | suc r ↦ damaged (suc r)
-      | zero ↦ and-then (entry (starts f) (places (2 * held f) (drop 2 f))) (walk k false (drop (2 + 8 * held f) f))
+      | zero ↦ and-then (front-entry f) (walk k false (drop (2 + 8 * held f) f))
     ]
 
 -- what is wrong with the head of a file
+abbrev pub head-faults : List ℕ → List Rung
+head-faults f = (ltb (length f) 2, 10) ∷ (not (eqb (pair f / 4096) 1), 9) ∷ []
+
 abbrev pub head-fault : List ℕ → ℕ
-head-fault f = first-of ((ltb (length f) 2, 10) ∷ (not (eqb (pair f / 4096) 1), 9) ∷ [])
+head-fault f = first-of (head-faults f)
 
 -- a file, read by bytes
 unfoldable pub walked : List ℕ → Parsed
 walked f = elim (head-fault f) [ suc r ↦ damaged (suc r) | zero ↦ walk (pair f % 4096) true (drop 2 f) ]
+
+-- the contour in front is complete: that its header is there goes without saying
+abbrev pub all-there : List ℕ → Bool
+all-there f = leb (2 + 8 * held f) (length f)
+
+-- of k promised contours those that are complete, and how many bytes stand past the last
+unfoldable pub arrived : ℕ → List ℕ → Come
+arrived zero f = record { contours = []; missing = 0; past = length f }
+arrived (suc k) f = come-next (all-there f) (front-entry f) k (arrived k (drop (2 + 8 * held f) f))
 
 -- a number in two bytes
 abbrev pub two : ℕ → List ℕ

@@ -16,7 +16,7 @@ use Rattle.setfile.specs.Bits.{digit}
 use Rattle.setfile.specs.Format.{Entry, contours-of, shapes-of, Parsed, damage, read-contours}
 use Rattle.setfile.specs.Format.Parsed.{carries, damaged}
 use Rattle.setfile.specs.Reading.{long}
-use Rattle.setfile.specs.Inside.{places, starts, held, walk, walked}
+use Rattle.setfile.specs.Inside.{places, starts, held, walk, head-faults, walked}
 
 -- before the first contour
 abbrev pub none-met : Met
@@ -51,6 +51,10 @@ summed m n (damaged r) = judged r 0 0 0
 summed m n (carries l) =
     judged (on-or-refused (m .on && all-on-grid (joined (contours-of l))))
     (m .numbers + length (joined (contours-of l))) (n + length l) (m .shapes + length (shapes-of l))
+
+-- the refusals of a file's length and head
+abbrev pub head-refusals : List ℕ → List Rung
+head-refusals f = long (length f) ++ head-faults f
 
 -- the contours of a file, by bytes
 abbrev pub contained : List ℕ → List Entry

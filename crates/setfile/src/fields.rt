@@ -1,10 +1,11 @@
 // The fields of a file, each a number in whole bytes, the most significant first.
 ghost use mathlib.Core.Path.{_≡_};
-ghost use Prim.Native.Nat.{_+_, _<_};
+ghost use Prim.Native.Nat.{_+_, _*_, _<_, _≤_};
 ghost use lib.ListN.{length, drop};
 ghost use mir.Syntax.{w32};
 ghost use mir.Val.{toZ};
-ghost use Rattle.setfile.specs.Inside.{pair as pair-of, quad as quad-of, starts as starts-of, held as held-of};
+ghost use Rattle.grid.specs.Limits.{all-on-grid};
+ghost use Rattle.setfile.specs.Inside.{pair as pair-of, quad as quad-of, places, starts as starts-of, held as held-of};
 
 // The number in the two bytes from `at` on.
 pub fn pair(bytes: &[u8], at: usize) -> u32
@@ -44,4 +45,18 @@ pub fn held(bytes: &[u8], at: usize) -> usize
     ensures { λ r. ⌜ r ≡ held-of (drop at (now (bytes .entry))) ⌝ }
 {
     (pair(bytes, at) % 32768) as usize
+}
+
+// Whether k coordinates, from `at` on, are on the grid.
+pub fn all_on(bytes: &[u8], at: usize, k: usize) -> bool
+    requires { ⌜ at + 4 * k ≤ length (now bytes) ⌝ }
+    ensures { λ r. ⌜ r ≡ all-on-grid (places k (drop at (now (bytes .entry)))) ⌝ }
+{
+    let mut all = true;
+    let mut i: usize = 0;
+    while i < k {
+        all = all & grid::on_grid(place(bytes, at + 4 * i));
+        i += 1;
+    }
+    all
 }

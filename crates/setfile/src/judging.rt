@@ -3,11 +3,10 @@ ghost use mathlib.Core.Path.{_≡_};
 ghost use mathlib.Core.Bool.{true, false};
 ghost use Prim.Native.Nat.{_+_, _*_, _≤_};
 ghost use lib.ListN.{length, drop};
-ghost use Rattle.grid.specs.Limits.{all-on-grid};
-ghost use Rattle.setfile.specs.Inside.{places, held, fault, walk};
+ghost use Rattle.setfile.specs.Inside.{held, fault, walk};
 ghost use Rattle.setfile.specs.InsideReading.{none-met, met-more, Inside, judged, summed, Judgement};
-use crate::MOST_BYTES;
 use crate::fields;
+use crate::head;
 
 // What is met so far: the position behind it, its counts of coordinates and shapes, and whether all is on the grid.
 struct Met {
@@ -37,20 +36,6 @@ fn refused(reply: u32) -> Judged
     }
 }
 
-// Whether k coordinates, from `at` on, are on the grid.
-fn all_on(bytes: &[u8], at: usize, k: usize) -> bool
-    requires { ⌜ at + 4 * k ≤ length (now bytes) ⌝ }
-    ensures { λ r. ⌜ r ≡ all-on-grid (places k (drop at (now (bytes .entry)))) ⌝ }
-{
-    let mut all = true;
-    let mut i: usize = 0;
-    while i < k {
-        all = all & grid::on_grid(fields::place(bytes, at + 4 * i));
-        i += 1;
-    }
-    all
-}
-
 // What is wrong with the contour at `at`: 0, 10 or 11.
 fn contour_fault(bytes: &[u8], at: usize, first: bool) -> u32
     requires { ⌜ at ≤ length (now bytes) ⌝ }
@@ -77,7 +62,7 @@ fn met_more(bytes: &[u8], m: Met) -> Met
     let at = m.at;
     let n = fields::held(bytes, at);
     let begins = fields::starts(bytes, at);
-    let on = all_on(bytes, at + 2, 2 * n);
+    let on = fields::all_on(bytes, at + 2, 2 * n);
     Met {
         at: at + (2 + 8 * n),
         numbers: m.numbers + 2 * n,
@@ -135,15 +120,10 @@ fn contours(bytes: &[u8], n: usize) -> Judged
 pub fn judge(bytes: &[u8]) -> Judged
     ensures { λ r. ⌜ Judgement (now (bytes .entry)) r ⌝ }
 {
-    if MOST_BYTES < bytes.len() {
-        return refused(grid::reply::TOO_MANY);
+    let wrong = head::refused(bytes);
+    if wrong != 0 {
+        return refused(wrong);
     }
-    if bytes.len() < 2 {
-        return refused(grid::reply::LENGTH);
-    }
-    let head = fields::pair(bytes, 0);
-    if head / 4096 != 1 {
-        return refused(grid::reply::EDITION);
-    }
-    contours(bytes, (head % 4096) as usize)
+    let n = head::promised(bytes);
+    contours(bytes, n)
 }

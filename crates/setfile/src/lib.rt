@@ -1,9 +1,10 @@
 // The set file: edition 1, read and written.
 pub mod answer;
-mod fields;
+pub mod fields;
 mod filling;
+pub mod head;
 mod judging;
-mod putting;
+pub mod putting;
 mod reading;
 mod writing;
 

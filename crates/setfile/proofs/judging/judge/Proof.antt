@@ -1,54 +1,44 @@
 -- `setfile::judging::judge` meets its contract.
 use borrow.Author.Needs.{needs}
-use Rattle.setfile.proofs.JudgeLaws.{over, judged-short, judged-edition, judged-contours}
+use mathlib.Core.Path.{sym, _∙_, ap}
+use mathlib.Core.Bool.{true}
+use Prim.Native.Nat.{ℕ}
+use lib.ListN.{drop}
+use Rattle.setfile.specs.Inside.{walk}
+use Rattle.setfile.specs.InsideReading.{none-met, summed}
+use Rattle.setfile.proofs.FaultLaws.{head-long}
+use Rattle.setfile.proofs.JudgeLaws.{judged-head, judged-contours}
 use Rattle.setfile.proofs.judging.judge.Statement.{statement}
 use Rattle.setfile.proofs.judging.judge.Tie as tie
 
 refused-requires : tie.Need-refused-requires
 refused-requires c κs = search needs
 
-returns : tie.Need-returns
-returns c = let f = c .before .before .before .args .bytes .now in over f (c .before .if1 .taken) _ (c .refused .ensures)
-
 refused-requires-2 : tie.Need-refused-requires-2
 refused-requires-2 c κs = search needs
 
-returns-2 : tie.Need-returns-2
-returns-2 c = let f = c .before .before .before .before .args .bytes .now in judged-short f (c .before .if2 .taken) _ (c .refused2 .ensures)
+returns : tie.Need-returns
+returns c = judged-head (c .before .before .before .before .args .bytes .now) _ (c .before .before .refused .ensures) (c .before .if1 .taken) _ (c .refused2 .ensures)
 
-pair-requires : tie.Need-pair-requires
-pair-requires c κs = search needs
-
-refused-requires-3 : tie.Need-refused-requires-3
-refused-requires-3 c κs = search needs
-
-returns-3 : tie.Need-returns-3
-returns-3 c =
-    let f = c .before .before .before .before .before .before .args .bytes .now in
-    judged-edition f (c .before .before .before .before .if1 .left) (c .before .before .before .if2 .left) _ (c .before .before .pair .ensures) (c .before .if3 .taken) _ (c .refused3 .ensures)
-
-cast-contours : tie.Need-cast-contours
-cast-contours c = search needs
+promised-requires : tie.Need-promised-requires
+promised-requires c κs = head-long (c .before .before .before .args .bytes .now) (sym (c .before .refused .ensures) ∙ c .if1 .left)
 
 contours-requires : tie.Need-contours-requires
-contours-requires c κs = search needs
+contours-requires c κs = head-long (c .before .before .before .before .args .bytes .now) (sym (c .before .before .refused .ensures) ∙ c .before .if1 .left)
 
-returns-4 : tie.Need-returns-4
-returns-4 c =
-    let f = c .before .before .before .before .before .before .args .bytes .now in
-    judged-contours f (c .before .before .before .before .if1 .left) (c .before .before .before .if2 .left) _ (c .before .before .pair .ensures) (c .before .if3 .left) _ (c .contours .ensures)
+returns-2 : tie.Need-returns-2
+returns-2 c =
+    let f = c .before .before .before .before .before .args .bytes .now in
+    judged-contours f (sym (c .before .before .before .refused .ensures) ∙ c .before .before .if1 .left) _
+    (c .contours .ensures ∙ ap (λ (n : ℕ). summed none-met 0 (walk n true (drop 2 f))) (c .before .promised .ensures))
 
 pub judge-spec : {M : Type 1} → statement M
 judge-spec =
     tie.close
     (tie.spec
     refused-requires
-    returns
     refused-requires-2
-    returns-2
-    pair-requires
-    refused-requires-3
-    returns-3
-    cast-contours
+    returns
+    promised-requires
     contours-requires
-    returns-4)
+    returns-2)

@@ -1,4 +1,4 @@
--- `setfile::judging::all_on` meets its contract: what was read so far and what is left make up the whole.
+-- `setfile::fields::all_on` meets its contract: what was read so far and what is left make up the whole.
 use borrow.Author.Needs.{needs, sfits-of}
 use mathlib.Core.Path.{_≡_, sym, _∙_, ap}
 use mathlib.Core.Bool.{Bool, _&&_, and-assoc, and-true}
@@ -11,8 +11,8 @@ use mir.Facts.{toZ-ofZ}
 use Rattle.grid.specs.Limits.{on-grid, all-on-grid}
 use Rattle.setfile.specs.Inside.{places}
 use Rattle.setfile.proofs.ReadLaws.{places-more, places-none}
-use Rattle.setfile.proofs.judging.all_on.Statement.{statement}
-use Rattle.setfile.proofs.judging.all_on.Tie as tie
+use Rattle.setfile.proofs.fields.all_on.Statement.{statement}
+use Rattle.setfile.proofs.fields.all_on.Tie as tie
 
 first-on : (all : Bool) (z : ℤ) (p : List ℤ) → (all && all-on-grid (z ∷ p)) ≡ ((all && on-grid z) && all-on-grid p)
 unfolding all-on-grid
