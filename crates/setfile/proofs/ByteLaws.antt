@@ -19,9 +19,9 @@ use Rattle.buffer.specs.Spans.{total}
 use Rattle.buffer.specs.Sets.{joined, Even}
 use Rattle.grid.proofs.LadderLaws.{clear}
 use Rattle.setfile.specs.Bits.{digit, value, field, bits}
-use Rattle.setfile.specs.Format.{Entry, entry, Parsed, coordinates, begins, points-in, contour-in, is-complete, Come, come-next, complete, unless, contours-in, head-damage, parsed, contours-of, coordinate, contour-bits, file-bits, file-length, file}
+use Rattle.setfile.specs.Format.{Entry, entry, Parsed, coordinates, begins, points-in, contour-in, is-complete, Come, come-next, complete, unless, contours-in, bad-head, head-damage, promised, come, parsed, contours-of, coordinate, contour-bits, file-bits, file-length, file}
 use Rattle.setfile.specs.Format.Parsed.{damaged}
-use Rattle.setfile.specs.Inside.{Bytes, pair, quad, places, starts, held, walk, head-fault, walked, two, four, coded-places, coded-contour, coded-contours, coded, front-entry, all-there, arrived}
+use Rattle.setfile.specs.Inside.{Bytes, pair, quad, places, starts, held, walk, head-faults, head-fault, walked, two, four, coded-places, coded-contour, coded-contours, coded, front-entry, all-there, arrived}
 use Rattle.setfile.specs.Writing.{most-points}
 use Rattle.setfile.specs.Promises.{Short, Small}
 use Rattle.setfile.proofs.ReadLaws.{walk-ends}
@@ -86,7 +86,7 @@ module _ (f : List ℕ) (h : Bytes f) (e : 2 ≤ length f) (j k : ℕ) (s : 16 �
       ∙ value-back (take 16 (bits f)) j k sixteen ∙ ap (λ (n : ℕ). n % 2 ^ k) (pair-value f h e)
 
 module _ (f : List ℕ) (h : Bytes f) (e : 2 ≤ length f) where
-  begins-starts : begins (bits f) ≡ starts f
+  pub begins-starts : begins (bits f) ≡ starts f
   begins-starts = rw (high-bits f h e 1 15 refl) (go (starts f) refl)
     where
       go : (t : Bool) → starts f ≡ t → eqb (pair f / 32768) 1 ≡ t
@@ -185,13 +185,24 @@ module _ (f : List ℕ) (h : Bytes f) where
           begun true s = rest g s
           begun false s = rw (some, short, g, begins-starts f h (ltb-false (length f) 2 g), s) (sym (walk-shapeless k f g s))
 
-head-same : (f : List ℕ) → Bytes f → head-damage f ≡ head-fault f
+pub head-same : (f : List ℕ) → Bytes f → head-damage f ≡ head-fault f
 unfolding first-of
 head-same f h = go (ltb (length f) 2) refl
   where
     go : (t : Bool) → ltb (length f) 2 ≡ t → head-damage f ≡ head-fault f
     go true g = rw g
     go false g = rw (high-bits f h (ltb-false (length f) 2 g) 4 12 refl)
+
+-- the head's two numbers, and what has come
+module _ (f : List ℕ) (h : Bytes f) (e : 2 ≤ length f) where
+  pub head-by-bytes : bad-head f ≡ head-faults f
+  head-by-bytes = rw (high-bits f h e 4 12 refl)
+
+  pub promised-by-bytes : promised f ≡ pair f % 4096
+  promised-by-bytes = low-bits f h e 4 12 refl
+
+  pub come-by-bytes : come f ≡ in-bits (arrived (pair f % 4096) (drop 2 f))
+  come-by-bytes = rw (promised-by-bytes, bits-dropped 2 f) (complete-by-bytes (pair f % 4096) (drop 2 f) (dropped 2 f h))
 
 pub parsed-by-bytes : (f : List ℕ) → Bytes f → parsed f ≡ walked f
 unfolding parsed walked

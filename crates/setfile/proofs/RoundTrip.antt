@@ -1,10 +1,10 @@
 -- What is written is read, and what is read was written.
 use mathlib.Core.Path.{_≡_, refl, sym, _∙_, ap, ap₂}
 use mathlib.Core.Bool.{Bool, true, false, not, _&&_, true≢false}
-use mathlib.Core.List.{List, [], _∷_, _++_}
+use mathlib.Core.List.{List, [], _∷_, _++_, append-assoc, append-nil}
 use Prim.Native.Nat.{ℕ, zero, suc, _+_, _*_, _/_, _%_, _<_, _≤_}
 use native.Mathlib.Omega.{arith}
-use lib.Dec.{eqb, ltb, leb}
+use lib.Dec.{ltb, leb}
 use lib.ListN.{length, take, drop, length-drop, length-append, take-append-drop}
 use lib.Seq.{take-add, drop-at}
 use lib.IntN.{ℤ}
@@ -12,19 +12,20 @@ use lib.Pow.{mod-pow-add, recompose}
 use mir.Syntax.{w32}
 use mir.Val.{SFits, toZ, ofZ}
 use mir.Facts.{toZ-ofZ, ofZ-toZ, fits-ofZ, sfits-toZ}
-use borrow.Author.Tests.{ltb-false, le-ltb, leb-true, leb-false, le-leb, lt-leb, eqb-true, eq-eqb, not-false}
+use borrow.Author.Tests.{ltb-false, lt-ltb, le-ltb, leb-true, leb-false, le-leb, lt-leb, eqb-true, eq-eqb, not-false}
 use Rattle.grid.specs.Ladder.{first-of}
 use Rattle.grid.specs.Domain.{count}
 use Rattle.grid.proofs.LadderLaws.{clear}
 use Rattle.buffer.specs.Sets.{joined, Even}
 use Rattle.setfile.specs.Bits.{digit, bits}
-use Rattle.setfile.specs.Format.{Entry, entry, contours-of, Parsed, contours-damage, unless, contours-in, head-damage, promised, come, parsed, damage, file, read-contours}
+use Rattle.setfile.specs.Format.{Entry, entry, contours-of, Parsed, begins, Come, come-next, contours-damage, unless, contours-in, head-damage, promised, come, parsed, damage, file, read-contours}
 use Rattle.setfile.specs.Format.Parsed.{carries, damaged}
-use Rattle.setfile.specs.Inside.{Bytes, pair, quad, places, starts, held, fault, walk, head-fault, walked, two, four, coded-places, coded-contour, coded-contours, coded, and-then}
+use Rattle.setfile.specs.Inside.{Bytes, pair, quad, places, starts, held, fault, walk, head-fault, walked, two, four, coded-places, coded-contour, coded-contours, coded, and-then, front-entry, all-there, arrived}
 use Rattle.setfile.specs.Writing.{most-contours, most-points}
 use Rattle.setfile.specs.Promises.{Each, Short, Started, Carried}
 use Rattle.setfile.proofs.ReadLaws.{places-length}
-use Rattle.setfile.proofs.ByteLaws.{dropped, pair-below, coded-places-length, coded-bytes, parsed-by-bytes, file-by-bytes}
+use Rattle.setfile.proofs.BitLaws.{bits-length, bits-dropped}
+use Rattle.setfile.proofs.ByteLaws.{dropped, pair-below, begins-starts, in-bits, promised-by-bytes, come-by-bytes, head-same, coded-places-length, coded-bytes, parsed-by-bytes, file-by-bytes}
 
 -- a number in two bytes, or in four, and back
 pair-two : (n : ℕ) (f : List ℕ) → n < 65536 → pair (two n ++ f) ≡ n
@@ -123,29 +124,6 @@ coded-back l h =
 pub read-back : (l : List Entry) → Carried l → parsed (file l) ≡ carries l
 read-back l h = ap parsed (file-by-bytes l (h .small)) ∙ parsed-by-bytes (coded l) (coded-bytes l) ∙ coded-back l h
 
--- a contour in front of others, where contours are read
-record Read (e : Entry) (rest : Parsed) (l : List Entry) : Type 0 where
-  others : List Entry
-  there : rest ≡ carries others
-  is : l ≡ e ∷ others
-
-read-next : (e : Entry) (rest : Parsed) (l : List Entry) → and-then e rest ≡ carries l → Read e rest l
-read-next e (carries m) l h = record { others = m; there = refl; is = ap read-contours (sym h) }
-read-next e (damaged r) l h = let z : _≡_ {A = ℕ} 0 1 = cc in absurd (omega arith)
-
--- nothing is wrong with the contour in front
-record Walked (first : Bool) (f : List ℕ) (k : ℕ) (l : List Entry) : Type 0 where
-  right : fault first f ≡ 0
-  next : Read (entry (starts f) (places (2 * held f) (drop 2 f))) (walk k false (drop (2 + 8 * held f) f)) l
-
-walk-next : (k : ℕ) (first : Bool) (f : List ℕ) (l : List Entry) → walk (suc k) first f ≡ carries l → Walked first f k l
-unfolding walk
-walk-next k first f l h = go (fault first f) refl
-  where
-    go : (r : ℕ) → r ≡ fault first f → Walked first f k l
-    go zero e = record { right = sym e; next = read-next _ _ l (sym (walk-on k first f (sym e)) ∙ h) }
-    go (suc r) e = let b : walk (suc k) first f ≡ damaged (suc r) = rw (← e, walk) in let z : _≡_ {A = ℕ} 0 1 = cc in absurd (omega arith)
-
 two-back : (f : List ℕ) → Bytes f → 2 ≤ length f → two (pair f) ≡ take 2 f
 two-back [] h e = absurd (omega arith)
 two-back (a ∷ []) h e = absurd (omega arith)
@@ -204,7 +182,7 @@ module _ (f : List ℕ) (h : Bytes f) (e : 2 + 8 * held f ≤ length f) where
   count-read : count (places (2 * held f) (drop 2 f)) ≡ held f
   count-read = let n = places-length (2 * held f) (drop 2 f) in omega (arith, n)
 
-  contour-read : coded-contour (entry (starts f) (places (2 * held f) (drop 2 f))) ≡ take (2 + 8 * held f) f
+  pub contour-read : coded-contour (front-entry f) ≡ take (2 + 8 * held f) f
   contour-read =
       let n : 4 * (2 * held f) ≡ 8 * held f = omega arith in
       ap₂ (λ (a b : List ℕ). a ++ b)
@@ -212,69 +190,73 @@ module _ (f : List ℕ) (h : Bytes f) (e : 2 + 8 * held f ≤ length f) where
       (places-coded (2 * held f) (drop 2 f) (dropped 2 f h) (omega (arith, length-drop 2 f)) ∙ ap (λ (k : ℕ). take k (drop 2 f)) n)
       ∙ sym (take-add 2 (8 * held f) f)
 
--- contours that are read were written, and a file can hold them
-record Matches (k : ℕ) (first : Bool) (f : List ℕ) (l : List Entry) : Type 0 where
-  number : length l ≡ k
-  even : Even (contours-of l)
-  short : Short (contours-of l)
-  started : first ≡ true → Started l
-  fitting : Each (Each (SFits w32)) (contours-of l)
-  same : coded-contours l ≡ f
+-- contours that have come were written, in front of the rest, and a file can hold them
+pub record Matched (k : ℕ) (f : List ℕ) (c : Come) : Type 0 where
+  pub number : length (c .contours) + c .missing ≡ k
+  pub even : Even (contours-of (c .contours))
+  pub short : Short (contours-of (c .contours))
+  pub fitting : Each (Each (SFits w32)) (contours-of (c .contours))
+  pub rest : List ℕ
+  pub same : coded-contours (c .contours) ++ rest ≡ f
+  pub past : c .missing ≡ 0 → c .past ≡ length rest
 
-nothing-matches : (first : Bool) (f : List ℕ) (l : List Entry) → length f ≡ 0 → l ≡ [] → Matches 0 first f l
-unfolding joined
-nothing-matches first [] l n e = rw e (record { number = refl; even = tt; short = tt; started = λ z. tt; fitting = tt; same = refl })
-nothing-matches first (b ∷ f) l n e = absurd (omega arith)
-
-none-match : (first : Bool) (f : List ℕ) (l : List Entry) → walk 0 first f ≡ carries l → Matches 0 first f l
-unfolding walk
-none-match first f l h = go (eqb (length f) 0) refl
+pub arrived-matched : (k : ℕ) (f : List ℕ) → Bytes f → Matched k f (arrived k f)
+unfolding arrived joined
+arrived-matched zero f h = record { number = refl; even = tt; short = tt; fitting = tt; rest = f; same = refl; past = λ z. refl }
+arrived-matched (suc k) f h = go (all-there f) refl (arrived-matched k more (dropped (2 + 8 * held f) f h))
   where
-    go : (b : Bool) → b ≡ eqb (length f) 0 → Matches 0 first f l
-    go true g =
-        let a : walk 0 first f ≡ carries [] = rw (← g, walk) in
-        nothing-matches first f l (eqb-true (length f) 0 (sym g)) (ap read-contours (sym h ∙ a))
-    go false g =
-        let a : walk 0 first f ≡ damaged 10 = rw (← g, walk) in
-        let z : _≡_ {A = ℕ} 0 1 = cc in
-        absurd (omega arith)
+    more : List ℕ
+    more = drop (2 + 8 * held f) f
 
-begun-read : (first b : Bool) → (first && not b) ≡ false → first ≡ true → b ≡ true
-begun-read first true e g = refl
-begun-read true false e g = sym e
-begun-read false false e g = g
+    go : (t : Bool) → all-there f ≡ t → Matched k more (arrived k more) → Matched (suc k) f (come-next t (front-entry f) k (arrived k more))
+    go true t m =
+        let n : 2 + 8 * held f ≤ length f = leb-true (2 + 8 * held f) (length f) t in
+        let p = places-length (2 * held f) (drop 2 f) in
+        record {
+          number = omega (arith, m .number);
+          even = (omega (arith, p), m .even);
+          short = (omega (arith, p), m .short);
+          fitting = (places-fit (2 * held f) (drop 2 f) (dropped 2 f h) (omega (arith, length-drop 2 f)), m .fitting);
+          rest = m .rest;
+          same =
+              append-assoc (coded-contour (front-entry f)) (coded-contours (arrived k more .contours)) (m .rest)
+              ∙ ap₂ (λ (a b : List ℕ). a ++ b) (contour-read f h n) (m .same) ∙ take-append-drop (2 + 8 * held f) f;
+          past = m .past;
+        }
+    go false t m = record { number = omega arith; even = tt; short = tt; fitting = tt; rest = f; same = refl; past = λ z. absurd (omega (arith, z)) }
 
-contours-match : (k : ℕ) (first : Bool) (f : List ℕ) (l : List Entry) → Bytes f → walk k first f ≡ carries l → Matches k first f l
-unfolding joined
-contours-match zero first f l h e = none-match first f l e
-contours-match (suc k) first f l h e =
-    let w = walk-next k first f l e in
-    let c = clear _ tt (w .right) in
-    let n : 2 + 8 * held f ≤ length f = ltb-false (length f) (2 + 8 * held f) (c .1 .1 .0) in
-    let more : List ℕ = drop (2 + 8 * held f) f in
-    let o = contours-match k false more (w .next .others) (dropped (2 + 8 * held f) f h) (w .next .there) in
-    let p = places-length (2 * held f) (drop 2 f) in
-    rw (w .next .is)
-    (record {
-      number = ap suc (o .number);
-      even = (omega (arith, p), o .even);
-      short = (omega (arith, p), o .short);
-      started = λ z. begun-read first (starts f) (c .1 .0) z;
-      fitting = (places-fit (2 * held f) (drop 2 f) (dropped 2 f h) (omega (arith, length-drop 2 f)), o .fitting);
-      same = ap₂ (λ (a b : List ℕ). a ++ b) (contour-read f h n) (o .same) ∙ take-append-drop (2 + 8 * held f) f;
-    })
-
-walked-next : (f : List ℕ) (l : List Entry) → walked f ≡ carries l → head-fault f ≡ 0
-unfolding walked
-walked-next f l h = go (head-fault f) refl
+-- the first of them begins a shape
+arrived-started : (k : ℕ) (f : List ℕ) → (0 < k → starts f ≡ true) → Started (arrived k f .contours)
+unfolding arrived
+arrived-started zero f h = tt
+arrived-started (suc k) f h = go (all-there f)
   where
-    go : (r : ℕ) → r ≡ head-fault f → r ≡ 0
-    go zero e = refl
-    go (suc r) e = let b : walked f ≡ damaged (suc r) = rw (← e, walked) in let z : _≡_ {A = ℕ} 0 1 = cc in absurd (omega arith)
+    go : (t : Bool) → Started (come-next t (front-entry f) k (arrived k (drop (2 + 8 * held f) f)) .contours)
+    go true = h (omega arith)
+    go false = tt
 
-module _ (f : List ℕ) (h : Bytes f) (l : List Entry) (e : walked f ≡ carries l) where
+-- a file that is read has no damage, and what has come of its contours is read
+record Whole (f : List ℕ) (l : List Entry) : Type 0 where
+  head : head-damage f ≡ 0
+  contours : contours-damage (promised f) (drop 16 (bits f)) ≡ 0
+  is : l ≡ come f .contours
+
+read-whole : (f : List ℕ) (l : List Entry) → parsed f ≡ carries l → Whole f l
+unfolding parsed
+read-whole f l h = go (head-damage f) (contours-damage (promised f) (drop 16 (bits f))) refl refl h
+  where
+    go : (r s : ℕ) → head-damage f ≡ r → contours-damage (promised f) (drop 16 (bits f)) ≡ s → _≡_ {A = Parsed} (elim r [ suc k ↦ damaged (suc k) | zero ↦ unless s (come f .contours) ]) (carries l) → Whole f l
+    go zero zero a b c = record { head = a; contours = b; is = ap read-contours (sym c) }
+    go zero (suc s) a b c = let z : _≡_ {A = ℕ} 0 1 = cc in absurd (omega arith)
+    go (suc r) s a b c = let z : _≡_ {A = ℕ} 0 1 = cc in absurd (omega arith)
+
+-- what is read of a file can be written, and is that file
+module _ (f : List ℕ) (h : Bytes f) (l : List Entry) (e : parsed f ≡ carries l) where
+  whole-file : Whole f l
+  whole-file = read-whole f l e
+
   right : head-fault f ≡ 0
-  right = walked-next f l e
+  right = sym (head-same f h) ∙ whole-file .head
 
   long : 2 ≤ length f
   long = ltb-false (length f) 2 (clear _ tt right .0)
@@ -282,31 +264,57 @@ module _ (f : List ℕ) (h : Bytes f) (l : List Entry) (e : walked f ≡ carries
   edition : pair f / 4096 ≡ 1
   edition = eqb-true (pair f / 4096) 1 (not-false _ (clear _ tt right .1 .0))
 
-  rest : Matches (pair f % 4096) true (drop 2 f) l
-  rest = contours-match (pair f % 4096) true (drop 2 f) l (dropped 2 f h) (sym (walked-on f right) ∙ e)
+  found : Come
+  found = arrived (pair f % 4096) (drop 2 f)
 
-  walked-carried : Carried l
-  walked-carried = record {
-    small = record { few = omega (arith, rest .number); even = rest .even; short = rest .short };
-    started = rest .started refl;
-    fitting = rest .fitting;
-  }
+  by-bytes : come f ≡ in-bits found
+  unfolding found
+  by-bytes = come-by-bytes f h long
 
-  walked-coded : coded l ≡ f
-  walked-coded =
-      let n : 4096 + length l ≡ pair f = omega (arith, rest .number, edition) in
-      ap₂ (λ (a b : List ℕ). a ++ b) (ap two n ∙ two-back f h long) (rest .same) ∙ take-append-drop 2 f
+  is-found : l ≡ found .contours
+  is-found = whole-file .is ∙ ap (λ (c : Come). c .contours) by-bytes
 
--- what is read of a file can be written, and is that file
-module _ (f : List ℕ) (h : Bytes f) (l : List Entry) (e : parsed f ≡ carries l) where
-  by-bytes : walked f ≡ carries l
-  by-bytes = sym (parsed-by-bytes f h) ∙ e
+  matched : Matched (pair f % 4096) (drop 2 f) found
+  unfolding found
+  matched = arrived-matched (pair f % 4096) (drop 2 f) (dropped 2 f h)
+
+  none-missing : found .missing ≡ 0
+  none-missing = let n = ltb-false 0 (come f .missing) (clear _ tt (whole-file .contours) .1 .1 .0) in omega (arith, n, ap (λ (c : Come). c .missing) by-bytes)
+
+  none-past : found .past ≡ 0
+  none-past = let n = ltb-false 0 (come f .past) (clear _ tt (whole-file .contours) .1 .1 .1 .0) in omega (arith, n, ap (λ (c : Come). c .past) by-bytes)
+
+  all-here : coded-contours (found .contours) ≡ drop 2 f
+  all-here = go (matched .rest) (matched .same) (sym (matched .past none-missing) ∙ none-past)
+    where
+      go : (r : List ℕ) → coded-contours (found .contours) ++ r ≡ drop 2 f → length r ≡ 0 → coded-contours (found .contours) ≡ drop 2 f
+      go [] s n = sym (append-nil (coded-contours (found .contours))) ∙ s
+      go (b ∷ r) s n = absurd (omega arith)
+
+  first-begins : 0 < pair f % 4096 → starts (drop 2 f) ≡ true
+  first-begins z =
+      let c = clear _ tt (whole-file .contours) in
+      let k : ltb 0 (promised f) ≡ true = lt-ltb 0 (promised f) (omega (arith, promised-by-bytes f h long)) in
+      let n = ltb-false (length (drop 16 (bits f))) 16 (ap (λ (t : Bool). t && ltb (length (drop 16 (bits f))) 16) (sym k) ∙ c .0) in
+      let m : 2 ≤ length (drop 2 f) = omega (arith, n, length-drop 16 (bits f), bits-length f, length-drop 2 f) in
+      sym (begins-starts (drop 2 f) (dropped 2 f h) m) ∙ ap begins (sym (bits-dropped 2 f))
+      ∙ not-false (begins (drop 16 (bits f))) (ap (λ (t : Bool). t && not (begins (drop 16 (bits f)))) (sym k) ∙ c .1 .0)
 
   pub read-carried : Carried l
-  read-carried = walked-carried f h l by-bytes
+  unfolding found
+  read-carried =
+      rw is-found
+      (record {
+        small = record { few = omega (arith, matched .number); even = matched .even; short = matched .short };
+        started = arrived-started (pair f % 4096) (drop 2 f) first-begins;
+        fitting = matched .fitting;
+      })
 
   pub written-back : file l ≡ f
-  written-back = file-by-bytes l (read-carried .small) ∙ walked-coded f h l by-bytes
+  written-back =
+      let n : 4096 + length (found .contours) ≡ pair f = omega (arith, matched .number, none-missing, edition) in
+      file-by-bytes l (read-carried .small) ∙ ap coded is-found
+      ∙ ap₂ (λ (a b : List ℕ). a ++ b) (ap two n ∙ two-back f h long) all-here ∙ take-append-drop 2 f
 
 -- damage has a number that is not 0
 abbrev Told : Parsed → Type 0
