@@ -86,7 +86,7 @@ module _ (f : List ℕ) (h : Bytes f) (e : 2 ≤ length f) (j k : ℕ) (s : 16 �
       ∙ value-back (take 16 (bits f)) j k sixteen ∙ ap (λ (n : ℕ). n % 2 ^ k) (pair-value f h e)
 
 module _ (f : List ℕ) (h : Bytes f) (e : 2 ≤ length f) where
-  pub begins-starts : begins (bits f) ≡ starts f
+  begins-starts : begins (bits f) ≡ starts f
   begins-starts = rw (high-bits f h e 1 15 refl) (go (starts f) refl)
     where
       go : (t : Bool) → starts f ≡ t → eqb (pair f / 32768) 1 ≡ t
@@ -129,8 +129,15 @@ same-unless zero a b f = f refl
 same-unless (suc r) a b f = refl
 
 -- what has come, with bytes counted as bits
-abbrev pub in-bits : Come → Come
+abbrev in-bits : Come → Come
 in-bits c = record { contours = c .contours; missing = c .missing; past = 8 * c .past }
+
+-- and with bits counted as bytes
+abbrev pub in-bytes : Come → Come
+in-bytes c = record { contours = c .contours; missing = c .missing; past = c .past / 8 }
+
+bytes-of-bits : (c : Come) → in-bytes (in-bits c) ≡ c
+bytes-of-bits c = let e : 8 * c .past / 8 ≡ c .past = omega arith in ap (λ (n : ℕ). record { contours = c .contours; missing = c .missing; past = n }) e
 
 bits-eight : (n : ℕ) → 16 + 64 * n ≡ 8 * (2 + 8 * n)
 bits-eight n = omega arith
@@ -139,7 +146,7 @@ next-same : (t : Bool) (d e : Entry) (k : ℕ) (b c : Come) → (t ≡ true → 
 next-same true d e k b c f g = ap₂ (λ (x : Entry) (y : Come). come-next true x k y) (f refl) (g refl)
 next-same false d e k b c f g = refl
 
-pub complete-by-bytes : (k : ℕ) (f : List ℕ) → Bytes f → complete k (bits f) ≡ in-bits (arrived k f)
+complete-by-bytes : (k : ℕ) (f : List ℕ) → Bytes f → complete k (bits f) ≡ in-bits (arrived k f)
 unfolding complete arrived
 complete-by-bytes zero f h = ap (λ (n : ℕ). record { contours = []; missing = 0; past = n }) (bits-length f)
 complete-by-bytes (suc k) f h =
@@ -161,7 +168,7 @@ wants-bits c = ap (λ (t : Bool). unless (first-of ((ltb 0 (c .missing), 10) ∷
 
 -- what is wrong with k contours is told by the first of them, or by what has come of all
 module _ (f : List ℕ) (h : Bytes f) where
-  pub contours-walked : (k : ℕ) → contours-in k (bits f) ≡ walk k true f
+  contours-walked : (k : ℕ) → contours-in k (bits f) ≡ walk k true f
   unfolding first-of
   contours-walked zero = ap wants-all (complete-by-bytes 0 f h) ∙ wants-bits (arrived 0 f) ∙ sym (walk-arrived 0 f) ∙ sym (walk-ends 0 true f refl)
   contours-walked (suc k) = go (ltb (length f) 2) refl
@@ -201,8 +208,10 @@ module _ (f : List ℕ) (h : Bytes f) (e : 2 ≤ length f) where
   pub promised-by-bytes : promised f ≡ pair f % 4096
   promised-by-bytes = low-bits f h e 4 12 refl
 
-  pub come-by-bytes : come f ≡ in-bits (arrived (pair f % 4096) (drop 2 f))
-  come-by-bytes = rw (promised-by-bytes, bits-dropped 2 f) (complete-by-bytes (pair f % 4096) (drop 2 f) (dropped 2 f h))
+  pub come-by-bytes : in-bytes (come f) ≡ arrived (pair f % 4096) (drop 2 f)
+  come-by-bytes =
+      ap₂ (λ (k : ℕ) (l : List Bool). in-bytes (complete k l)) promised-by-bytes (bits-dropped 2 f)
+      ∙ ap in-bytes (complete-by-bytes (pair f % 4096) (drop 2 f) (dropped 2 f h)) ∙ bytes-of-bits (arrived (pair f % 4096) (drop 2 f))
 
 pub parsed-by-bytes : (f : List ℕ) → Bytes f → parsed f ≡ walked f
 unfolding parsed walked

@@ -28,7 +28,7 @@ use Rattle.setfile.specs.InsideReading.{none-met, met-more, Inside, judg
 use Rattle.setfile.proofs.BitLaws.{byte-digit, digit-below}
 use Rattle.setfile.proofs.ReadLaws.{places-length, walk-more, Numbered, walk-numbered, Long, walk-long}
 
-all-on-append : (p q : List ℤ) → all-on-grid (p ++ q) ≡ (all-on-grid p && all-on-grid q)
+pub all-on-append : (p q : List ℤ) → all-on-grid (p ++ q) ≡ (all-on-grid p && all-on-grid q)
 unfolding all-on-grid
 all-on-append [] q = refl
 all-on-append (z ∷ p) q = ap (λ (b : Bool). on-grid z && b) (all-on-append p q) ∙ sym (and-assoc (on-grid z) (all-on-grid p) (all-on-grid q))

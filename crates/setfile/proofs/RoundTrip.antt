@@ -18,14 +18,13 @@ use Rattle.grid.specs.Domain.{count}
 use Rattle.grid.proofs.LadderLaws.{clear}
 use Rattle.buffer.specs.Sets.{joined, Even}
 use Rattle.setfile.specs.Bits.{digit, bits}
-use Rattle.setfile.specs.Format.{Entry, entry, contours-of, Parsed, begins, Come, come-next, contours-damage, unless, contours-in, head-damage, promised, come, parsed, damage, file, read-contours}
+use Rattle.setfile.specs.Format.{Entry, entry, contours-of, Parsed, begins, points-in, contour-in, is-complete, Come, come-next, complete, contours-damage, unless, contours-in, head-damage, promised, come, parsed, damage, file, read-contours}
 use Rattle.setfile.specs.Format.Parsed.{carries, damaged}
 use Rattle.setfile.specs.Inside.{Bytes, pair, quad, places, starts, held, fault, walk, head-fault, walked, two, four, coded-places, coded-contour, coded-contours, coded, and-then, front-entry, all-there, arrived}
 use Rattle.setfile.specs.Writing.{most-contours, most-points}
 use Rattle.setfile.specs.Promises.{Each, Short, Started, Carried}
 use Rattle.setfile.proofs.ReadLaws.{places-length}
-use Rattle.setfile.proofs.BitLaws.{bits-length, bits-dropped}
-use Rattle.setfile.proofs.ByteLaws.{dropped, pair-below, begins-starts, in-bits, promised-by-bytes, come-by-bytes, head-same, coded-places-length, coded-bytes, parsed-by-bytes, file-by-bytes}
+use Rattle.setfile.proofs.ByteLaws.{dropped, pair-below, in-bytes, promised-by-bytes, come-by-bytes, head-same, coded-places-length, coded-bytes, parsed-by-bytes, file-by-bytes}
 
 -- a number in two bytes, or in four, and back
 pair-two : (n : ℕ) (f : List ℕ) → n < 65536 → pair (two n ++ f) ≡ n
@@ -200,7 +199,7 @@ pub record Matched (k : ℕ) (f : List ℕ) (c : Come) : Type 0 where
   pub same : coded-contours (c .contours) ++ rest ≡ f
   pub past : c .missing ≡ 0 → c .past ≡ length rest
 
-pub arrived-matched : (k : ℕ) (f : List ℕ) → Bytes f → Matched k f (arrived k f)
+arrived-matched : (k : ℕ) (f : List ℕ) → Bytes f → Matched k f (arrived k f)
 unfolding arrived joined
 arrived-matched zero f h = record { number = refl; even = tt; short = tt; fitting = tt; rest = f; same = refl; past = λ z. refl }
 arrived-matched (suc k) f h = go (all-there f) refl (arrived-matched k more (dropped (2 + 8 * held f) f h))
@@ -225,38 +224,51 @@ arrived-matched (suc k) f h = go (all-there f) refl (arrived-matched k more (dro
         }
     go false t m = record { number = omega arith; even = tt; short = tt; fitting = tt; rest = f; same = refl; past = λ z. absurd (omega (arith, z)) }
 
--- the first of them begins a shape
-arrived-started : (k : ℕ) (f : List ℕ) → (0 < k → starts f ≡ true) → Started (arrived k f .contours)
-unfolding arrived
-arrived-started zero f h = tt
-arrived-started (suc k) f h = go (all-there f)
+-- the first contour that has come begins a shape, where nothing is wrong
+first-begins : (k : ℕ) (l : List Bool) → contours-damage k l ≡ 0 → Started (complete k l .contours)
+unfolding complete
+first-begins zero l e = tt
+first-begins (suc k) l e = go (is-complete l)
   where
-    go : (t : Bool) → Started (come-next t (front-entry f) k (arrived k (drop (2 + 8 * held f) f)) .contours)
-    go true = h (omega arith)
+    begun : begins l ≡ true
+    begun = not-false (begins l) (ap (λ (t : Bool). t && not (begins l)) (sym (lt-ltb 0 (suc k) (omega arith))) ∙ clear _ tt e .1 .0)
+
+    go : (t : Bool) → Started (come-next t (contour-in l) k (complete k (drop (16 + 64 * points-in l) l)) .contours)
+    go true = begun
     go false = tt
 
--- a file that is read has no damage, and what has come of its contours is read
-record Whole (f : List ℕ) (l : List Entry) : Type 0 where
-  head : head-damage f ≡ 0
-  contours : contours-damage (promised f) (drop 16 (bits f)) ≡ 0
-  is : l ≡ come f .contours
+-- a file that is read has no damage: what has come of its contours is read, and all have come
+pub record Whole (f : List ℕ) (l : List Entry) : Type 0 where
+  pub head : head-damage f ≡ 0
+  pub contours : contours-damage (promised f) (drop 16 (bits f)) ≡ 0
+  pub is : l ≡ come f .contours
+  pub none-missing : come f .missing ≡ 0
+  pub none-past : come f .past ≡ 0
 
-read-whole : (f : List ℕ) (l : List Entry) → parsed f ≡ carries l → Whole f l
+whole-read : (f : List ℕ) (l : List Entry) → parsed f ≡ carries l → Whole f l
 unfolding parsed
-read-whole f l h = go (head-damage f) (contours-damage (promised f) (drop 16 (bits f))) refl refl h
+whole-read f l h = go (head-damage f) (contours-damage (promised f) (drop 16 (bits f))) refl refl h
   where
     go : (r s : ℕ) → head-damage f ≡ r → contours-damage (promised f) (drop 16 (bits f)) ≡ s → _≡_ {A = Parsed} (elim r [ suc k ↦ damaged (suc k) | zero ↦ unless s (come f .contours) ]) (carries l) → Whole f l
-    go zero zero a b c = record { head = a; contours = b; is = ap read-contours (sym c) }
+    go zero zero a b c =
+        let d = clear _ tt b in
+        let m = ltb-false 0 (come f .missing) (d .1 .1 .0) in
+        let p = ltb-false 0 (come f .past) (d .1 .1 .1 .0) in
+        record { head = a; contours = b; is = ap read-contours (sym c); none-missing = omega arith; none-past = omega arith }
     go zero (suc s) a b c = let z : _≡_ {A = ℕ} 0 1 = cc in absurd (omega arith)
     go (suc r) s a b c = let z : _≡_ {A = ℕ} 0 1 = cc in absurd (omega arith)
 
+-- what has come of a file's contours
+pub come-matched : (f : List ℕ) → Bytes f → 2 ≤ length f → Matched (promised f) (drop 2 f) (in-bytes (come f))
+come-matched f h e = rw (come-by-bytes f h e, promised-by-bytes f h e) (arrived-matched (pair f % 4096) (drop 2 f) (dropped 2 f h))
+
 -- what is read of a file can be written, and is that file
 module _ (f : List ℕ) (h : Bytes f) (l : List Entry) (e : parsed f ≡ carries l) where
-  whole-file : Whole f l
-  whole-file = read-whole f l e
+  pub read-whole : Whole f l
+  read-whole = whole-read f l e
 
   right : head-fault f ≡ 0
-  right = sym (head-same f h) ∙ whole-file .head
+  right = sym (head-same f h) ∙ read-whole .head
 
   long : 2 ≤ length f
   long = ltb-false (length f) 2 (clear _ tt right .0)
@@ -264,56 +276,32 @@ module _ (f : List ℕ) (h : Bytes f) (l : List Entry) (e : parsed f ≡ carries
   edition : pair f / 4096 ≡ 1
   edition = eqb-true (pair f / 4096) 1 (not-false _ (clear _ tt right .1 .0))
 
-  found : Come
-  found = arrived (pair f % 4096) (drop 2 f)
+  matched : Matched (promised f) (drop 2 f) (in-bytes (come f))
+  matched = come-matched f h long
 
-  by-bytes : come f ≡ in-bits found
-  unfolding found
-  by-bytes = come-by-bytes f h long
-
-  is-found : l ≡ found .contours
-  is-found = whole-file .is ∙ ap (λ (c : Come). c .contours) by-bytes
-
-  matched : Matched (pair f % 4096) (drop 2 f) found
-  unfolding found
-  matched = arrived-matched (pair f % 4096) (drop 2 f) (dropped 2 f h)
-
-  none-missing : found .missing ≡ 0
-  none-missing = let n = ltb-false 0 (come f .missing) (clear _ tt (whole-file .contours) .1 .1 .0) in omega (arith, n, ap (λ (c : Come). c .missing) by-bytes)
-
-  none-past : found .past ≡ 0
-  none-past = let n = ltb-false 0 (come f .past) (clear _ tt (whole-file .contours) .1 .1 .1 .0) in omega (arith, n, ap (λ (c : Come). c .past) by-bytes)
-
-  all-here : coded-contours (found .contours) ≡ drop 2 f
-  all-here = go (matched .rest) (matched .same) (sym (matched .past none-missing) ∙ none-past)
+  all-here : coded-contours (come f .contours) ≡ drop 2 f
+  all-here = go (matched .rest) (matched .same) (sym (matched .past (read-whole .none-missing)) ∙ omega (arith, read-whole .none-past))
     where
-      go : (r : List ℕ) → coded-contours (found .contours) ++ r ≡ drop 2 f → length r ≡ 0 → coded-contours (found .contours) ≡ drop 2 f
-      go [] s n = sym (append-nil (coded-contours (found .contours))) ∙ s
+      go : (r : List ℕ) → coded-contours (come f .contours) ++ r ≡ drop 2 f → length r ≡ 0 → coded-contours (come f .contours) ≡ drop 2 f
+      go [] s n = sym (append-nil (coded-contours (come f .contours))) ∙ s
       go (b ∷ r) s n = absurd (omega arith)
 
-  first-begins : 0 < pair f % 4096 → starts (drop 2 f) ≡ true
-  first-begins z =
-      let c = clear _ tt (whole-file .contours) in
-      let k : ltb 0 (promised f) ≡ true = lt-ltb 0 (promised f) (omega (arith, promised-by-bytes f h long)) in
-      let n = ltb-false (length (drop 16 (bits f))) 16 (ap (λ (t : Bool). t && ltb (length (drop 16 (bits f))) 16) (sym k) ∙ c .0) in
-      let m : 2 ≤ length (drop 2 f) = omega (arith, n, length-drop 16 (bits f), bits-length f, length-drop 2 f) in
-      sym (begins-starts (drop 2 f) (dropped 2 f h) m) ∙ ap begins (sym (bits-dropped 2 f))
-      ∙ not-false (begins (drop 16 (bits f))) (ap (λ (t : Bool). t && not (begins (drop 16 (bits f)))) (sym k) ∙ c .1 .0)
+  started : Started (come f .contours)
+  started = first-begins (promised f) (drop 16 (bits f)) (read-whole .contours)
 
   pub read-carried : Carried l
-  unfolding found
   read-carried =
-      rw is-found
+      rw (read-whole .is)
       (record {
-        small = record { few = omega (arith, matched .number); even = matched .even; short = matched .short };
-        started = arrived-started (pair f % 4096) (drop 2 f) first-begins;
+        small = record { few = omega (arith, matched .number, promised-by-bytes f h long); even = matched .even; short = matched .short };
+        started = started;
         fitting = matched .fitting;
       })
 
   pub written-back : file l ≡ f
   written-back =
-      let n : 4096 + length (found .contours) ≡ pair f = omega (arith, matched .number, none-missing, edition) in
-      file-by-bytes l (read-carried .small) ∙ ap coded is-found
+      let n : 4096 + length (come f .contours) ≡ pair f = omega (arith, matched .number, read-whole .none-missing, promised-by-bytes f h long, edition) in
+      file-by-bytes l (read-carried .small) ∙ ap coded (read-whole .is)
       ∙ ap₂ (λ (a b : List ℕ). a ++ b) (ap two n ∙ two-back f h long) all-here ∙ take-append-drop 2 f
 
 -- damage has a number that is not 0

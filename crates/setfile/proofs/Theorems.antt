@@ -132,10 +132,10 @@ module _ (f : List ℕ) (h : Bytes f) (ok : first-of (R.refusals f) ≡ 0) where
   abbrev found : List Entry
   found = read-contours (parsed f)
 
-  right : Clear (R.refusals f)
+  pub right : Clear (R.refusals f)
   right = all-clear _ (damage (parsed f)) _ ok
 
-  whole : parsed f ≡ carries found
+  pub whole : parsed f ≡ carries found
   whole = undamaged f (eqb-true (damage (parsed f)) 0 (not-false _ (right .1 .0)))
 
   held : Carried found
