@@ -1,0 +1,129 @@
+-- Files that are cut off.
+use mathlib.Core.Path.{_≡_, refl, sym, _∙_, ap, ap₂}
+use mathlib.Core.Bool.{Bool, true, false}
+use mathlib.Core.List.{List, [], _∷_}
+use Prim.Native.Nat.{ℕ, zero, suc, _+_, _*_, _%_, _-_, _≤_, _<_}
+use native.Mathlib.Nat.{zero-add, suc-add}
+use native.Mathlib.Omega.{arith}
+use lib.Dec.{leb}
+use lib.ListN.{length, take, drop, length-take}
+use lib.Seq.{getD-take, take-nil}
+use lib.IntN.{ℤ}
+use mir.Syntax.{w32}
+use mir.Val.{toZ}
+use borrow.Author.Tests.{leb-true, leb-false, le-leb, lt-leb}
+use Rattle.setfile.specs.Format.{Entry, entry, Come, come-next}
+use Rattle.setfile.specs.Inside.{pair, quad, places, starts, held, front-entry, all-there, arrived}
+use Rattle.setfile.proofs.ReadLaws.{places-length}
+use Rattle.salvage.specs.Inside.{size}
+use Rattle.salvage.specs.Promises.{length-of, as-long, all-within}
+
+pub drop-take : {A : Type 0} (k n : ℕ) (l : List A) → drop k (take (k + n) l) ≡ take n (drop k l)
+drop-take zero n l = ap (λ (m : ℕ). take m l) (zero-add n)
+drop-take (suc k) n [] = ap (drop (suc k)) (take-nil (suc k + n)) ∙ sym (take-nil n)
+drop-take (suc k) n (a ∷ l) = ap (λ (m : ℕ). drop (suc k) (take m (a ∷ l))) (suc-add k n) ∙ drop-take k n l
+
+-- fields of bytes of which some are left
+module _ (f : List ℕ) (n : ℕ) where
+  pub pair-cut : 2 ≤ n → pair (take n f) ≡ pair f
+  pair-cut h = ap₂ (λ (a b : ℕ). a * 256 + b) (getD-take n f 0 0 (omega arith)) (getD-take n f 1 0 (omega arith))
+
+  quad-cut : 4 ≤ n → quad (take n f) ≡ quad f
+  quad-cut h =
+      omega (
+        arith,
+        getD-take n f 0 0 (omega arith),
+        getD-take n f 1 0 (omega arith),
+        getD-take n f 2 0 (omega arith),
+        getD-take n f 3 0 (omega arith),
+      )
+
+places-cut : (k m : ℕ) (f : List ℕ) → places k (take (4 * k + m) f) ≡ places k f
+unfolding places
+places-cut zero m f = refl
+places-cut (suc k) m f =
+    let e : 4 * suc k + m ≡ 4 + (4 * k + m) = omega arith in
+    ap₂ (λ (z : ℤ) (l : List ℤ). z ∷ l)
+    (ap (toZ w32) (quad-cut f (4 * suc k + m) (omega arith)))
+    (ap (places k) (ap (λ (n : ℕ). drop 4 (take n f)) e ∙ drop-take 4 (4 * k + m) f) ∙ places-cut k m (drop 4 f))
+
+-- the contour in front, where it is left whole, and where it is not
+module _ (f : List ℕ) (n : ℕ) where
+  entry-cut : size f ≤ n → front-entry (take n f) ≡ front-entry f
+  entry-cut h =
+      let p : pair (take n f) ≡ pair f = pair-cut f n (omega arith) in
+      let m : n ≡ 2 + (4 * (2 * held f) + (n - size f)) = omega arith in
+      ap (λ (k : ℕ). entry (leb 32768 k) (places (2 * (k % 32768)) (drop 2 (take n f)))) p
+      ∙ ap (entry (starts f))
+      (ap (λ (k : ℕ). places (2 * held f) (drop 2 (take k f))) m
+      ∙ ap (places (2 * held f)) (drop-take 2 (4 * (2 * held f) + (n - size f)) f) ∙ places-cut (2 * held f) (n - size f) (drop 2 f))
+
+  held-cut : 2 ≤ n → held (take n f) ≡ held f
+  held-cut h = ap (λ (k : ℕ). k % 32768) (pair-cut f n h)
+
+  there-cut : size f ≤ n → all-there f ≡ true → all-there (take n f) ≡ true
+  there-cut h t =
+      let p : held (take n f) ≡ held f = held-cut (omega arith) in
+      le-leb (size (take n f)) (length (take n f)) (omega (arith, p, leb-true (size f) (length f) t, length-take n f))
+
+  lost-cut : n < size f → all-there (take n f) ≡ false
+  lost-cut h = go (leb 2 n) refl
+    where
+      go : (b : Bool) → leb 2 n ≡ b → all-there (take n f) ≡ false
+      go true e =
+          let p : held (take n f) ≡ held f = held-cut (leb-true 2 n e) in
+          lt-leb (size (take n f)) (length (take n f)) (omega (arith, p, length-take n f))
+      go false e = lt-leb (size (take n f)) (length (take n f)) (omega (arith, leb-false 2 n e, length-take n f))
+
+  never-cut : all-there f ≡ false → all-there (take n f) ≡ false
+  never-cut t = go (leb (size f) n) refl
+    where
+      go : (b : Bool) → leb (size f) n ≡ b → all-there (take n f) ≡ false
+      go true e =
+          let m = leb-true (size f) n e in
+          let p : held (take n f) ≡ held f = held-cut (omega arith) in
+          lt-leb (size (take n f)) (length (take n f)) (omega (arith, p, leb-false (size f) (length f) t, length-take n f))
+      go false e = lost-cut (leb-false (size f) n e)
+
+  behind-cut : size f ≤ n → drop (size (take n f)) (take n f) ≡ take (n - size f) (drop (size f) f)
+  behind-cut h =
+      let p : held (take n f) ≡ held f = held-cut (omega arith) in
+      let m : n ≡ size f + (n - size f) = omega arith in
+      ap (λ (k : ℕ). drop (2 + 8 * k) (take n f)) p ∙ ap (λ (k : ℕ). drop (size f) (take k f)) m ∙ drop-take (size f) (n - size f) f
+
+entry-length : (f : List ℕ) → length-of (front-entry f) ≡ size f
+entry-length f = let n = places-length (2 * held f) (drop 2 f) in omega (arith, n)
+
+-- what has come of a file that is cut off
+pub record Cut (n : ℕ) (whole rest : Come) : Type 0 where
+  pub contours : rest .contours ≡ all-within n (whole .contours)
+  pub past : rest .past ≤ whole .past
+
+pub arrived-cut : (k n : ℕ) (f : List ℕ) → Cut n (arrived k f) (arrived k (take n f))
+unfolding arrived all-within
+arrived-cut zero n f = record { contours = refl; past = omega (arith, length-take n f) }
+arrived-cut (suc k) n f = go (all-there f) (leb (size f) n) refl refl (arrived-cut k (n - size f) (drop (size f) f))
+  where
+    rest : Come
+    rest = arrived k (drop (size f) f)
+
+    next : Bool → Come
+    next t = come-next t (front-entry (take n f)) k (arrived k (drop (size (take n f)) (take n f)))
+
+    lost : (c : Come) → all-there (take n f) ≡ false → all-within n (c .contours) ≡ [] → Cut n c (next (all-there (take n f)))
+    lost c t e = rw t (record { contours = sym e; past = omega arith })
+
+    go : (t b : Bool) → all-there f ≡ t → leb (size f) n ≡ b → Cut (n - size f) rest (arrived k (take (n - size f) (drop (size f) f))) → Cut n (come-next t (front-entry f) k rest) (next (all-there (take n f)))
+    go false b t e h = lost _ (never-cut f n t) refl
+    go true false t e h =
+        lost _ (lost-cut f n (leb-false (size f) n e))
+        (ap (λ (x : Bool). as-long x (front-entry f ∷ all-within (n - length-of (front-entry f)) (rest .contours))) (ap (λ (m : ℕ). leb m n) (entry-length f) ∙ e))
+    go true true t e h =
+        let m = leb-true (size f) n e in
+        rw (there-cut f n m t, behind-cut f n m)
+        (record {
+          contours =
+              ap₂ (λ (x : Entry) (l : List Entry). x ∷ l) (entry-cut f n m) (h .contours ∙ ap (λ (k : ℕ). all-within (n - k) (rest .contours)) (sym (entry-length f)))
+              ∙ sym (ap (λ (x : Bool). as-long x (front-entry f ∷ all-within (n - length-of (front-entry f)) (rest .contours))) (ap (λ (k : ℕ). leb k n) (entry-length f) ∙ e));
+          past = h .past;
+        })

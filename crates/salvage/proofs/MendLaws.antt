@@ -1,0 +1,177 @@
+-- What salvaging answers and leaves, once the contours are sifted.
+use mathlib.Core.Path.{_≡_, refl, sym, _∙_, ap, ap₂}
+use mathlib.Core.Bool.{Bool, true, false, not, _&&_, _||_}
+use mathlib.Core.List.{List, _∷_, _++_, append-assoc}
+use Prim.Native.Nat.{ℕ, zero, suc, _+_, _/_, _%_, _-_, _≤_}
+use native.Mathlib.Omega.{arith}
+use lib.Dec.{leb, ltb}
+use lib.ListN.{length, take, drop, length-append}
+use lib.Seq.{drop-at, length-take-le}
+use borrow.Author.Tests.{ltb-false, leb-true, leb-false, lt-ltb, le-ltb, not-false}
+use Rattle.integers.proofs.Logic.{and-left, and-right}
+use Rattle.grid.specs.Ladder.{Rung, first-of}
+use Rattle.grid.specs.Rows.{front}
+use Rattle.grid.proofs.LadderLaws.{First, first-is, cleared, clear, stopped, onward}
+use Rattle.grid.proofs.LadderLaws.First.{here, past, foot}
+use Rattle.buffer.specs.Rows.{placed}
+use Rattle.buffer.specs.Refusals.{room}
+use Rattle.buffer.proofs.RowLaws.{placed-front}
+use Rattle.buffer.proofs.PlacedLaws.{placed-long}
+use Rattle.setfile.specs.Format.{Come, file, come}
+use Rattle.setfile.specs.Inside.{Bytes, pair, arrived, two, coded-contours, coded}
+use Rattle.setfile.specs.InsideReading.{head-refusals}
+use Rattle.setfile.specs.InsideWriting.{Put, Room}
+use Rattle.setfile.specs.Reading.{long}
+use Rattle.setfile.proofs.FaultLaws.{head-long}
+use Rattle.setfile.proofs.ByteLaws.{dropped, head-by-bytes, promised-by-bytes, come-by-bytes}
+use Rattle.salvage.specs.declared.answer.Salvaged.{Salvaged}
+use Rattle.salvage.specs.Fates as F
+use Rattle.salvage.specs.Outcome as O
+use Rattle.salvage.specs.Outcome.{Left, left, salvaged, mended, kept-of, dropped-of, answered, outcome}
+use Rattle.salvage.specs.Inside.{refusals, none-sifted, Roomy, ended, ending}
+use Rattle.salvage.proofs.FileLaws.{the-counts, mended-is, kept-within}
+
+-- a row that lacks room, as the code asks
+lacks : (a b : ℕ) → ltb b a ≡ not (leb a b)
+lacks a b = go (leb a b) refl
+  where
+    go : (t : Bool) → leb a b ≡ t → ltb b a ≡ not t
+    go true e = le-ltb b a (leb-true a b e)
+    go false e = lt-ltb b a (leb-false a b e)
+
+either-lacks : (x y : Bool) → (not x || not y) ≡ not (x && y)
+either-lacks true y = refl
+either-lacks false y = refl
+
+-- the refusals, rung by rung
+module _ (f : List ℕ) (out list : ℕ) where
+  pub refused-head : (r : ℕ) → r ≡ first-of (head-refusals f) → (r ≡ 0 → ⊥) → r ≡ first-of (refusals f out list)
+  refused-head r e z = first-is _ _ (stopped (head-refusals f) (room (leb (length f) out && leb (pair f % 4096) list)) r e z)
+
+  module _ (e : first-of (head-refusals f) ≡ 0) (n : ℕ) (g : n ≡ pair f % 4096) where
+    beyond : (r : ℕ) → First (room (leb (length f) out && leb (pair f % 4096) list)) r → r ≡ first-of (refusals f out list)
+    beyond r x = first-is _ _ (onward (head-refusals f) (room (leb (length f) out && leb (pair f % 4096) list)) r tt e x)
+
+    either : (t : Bool) → (ltb out (length f) || ltb list n) ≡ t → not (leb (length f) out && leb (pair f % 4096) list) ≡ t
+    either t h =
+        sym (either-lacks (leb (length f) out) (leb (pair f % 4096) list))
+        ∙ ap₂ (λ (x y : Bool). x || y) (sym (lacks (length f) out)) (sym (lacks (pair f % 4096) list) ∙ ap (λ (k : ℕ). ltb list k) (sym g))
+        ∙ h
+
+    pub refused-room : (ltb out (length f) || ltb list n) ≡ true → 5 ≡ first-of (refusals f out list)
+    refused-room h = beyond 5 (here (either true h))
+
+    pub not-refused : (ltb out (length f) || ltb list n) ≡ false → 0 ≡ first-of (refusals f out list)
+    not-refused h = beyond 0 (past (either false h) foot)
+
+-- by bytes and by bits they are the same
+module _ (f : List ℕ) (h : Bytes f) (out : List ℕ) (list : List (List ℕ)) where
+  both-short : (a : Bool) (l m : List Rung) → first-of ((a, 2) ∷ (true, 10) ∷ l) ≡ first-of ((a, 2) ∷ (true, 10) ∷ m)
+  unfolding first-of
+  both-short true l m = refl
+  both-short false l m = refl
+
+  pub refusals-by-bytes : first-of (refusals f (length out) (length list)) ≡ first-of (O.refusals f out list)
+  refusals-by-bytes = go (ltb (length f) 2) refl
+    where
+      go : (t : Bool) → ltb (length f) 2 ≡ t → first-of (refusals f (length out) (length list)) ≡ first-of (O.refusals f out list)
+      go true e = rw e (both-short _ _ _)
+      go false e =
+          let l = ltb-false (length f) 2 e in
+          ap₂ (λ (a : List Rung) (k : ℕ). first-of (long (length f) ++ a ++ room (leb (length f) (length out) && leb k (length list)))) (sym (head-by-bytes f h l)) (sym (promised-by-bytes f h l))
+
+  pub mend-refused : (r : ℕ) → r ≡ first-of (refusals f (length out) (length list)) → (r ≡ 0 → ⊥) → {s : Salvaged} → s ≡ salvaged r 0 0 0 0 → left s out list ≡ outcome f out list
+  unfolding outcome
+  mend-refused r e z {s} g = ap (λ (s : Salvaged). left s out list) g ∙ go r z ∙ ap (λ (k : ℕ). answered k f out list) (e ∙ refusals-by-bytes)
+    where
+      go : (r : ℕ) → (r ≡ 0 → ⊥) → left (salvaged r 0 0 0 0) out list ≡ answered r f out list
+      go zero z = absurd (z refl)
+      go (suc r) z = refl
+
+-- a part that is written in front of another
+placed-before : (a b row : List ℕ) → length a + length b ≤ length row → placed 0 a (placed (length a) b row) ≡ placed 0 (a ++ b) row
+placed-before a b row h =
+    let n : length (take (length a) row) ≡ length a = length-take-le (length a) row (omega arith) in
+    let z : 0 + length a ≡ length a = omega arith in
+    let m : length a + length b ≡ 0 + length (a ++ b) = omega (arith, length-append a b) in
+    ap (λ (k : ℕ). a ++ drop k (placed (length a) b row)) z
+    ∙ ap (λ (l : List ℕ). a ++ drop (length a) l) (append-assoc (take (length a) row) b (drop (length a + length b) row))
+    ∙ ap (λ (l : List ℕ). a ++ l) (drop-at (take (length a) row) (b ++ drop (length a + length b) row) (length a) n)
+    ∙ sym (append-assoc a b (drop (length a + length b) row))
+    ∙ ap (λ (k : ℕ). (a ++ b) ++ drop k row) m
+
+same-salvaged : {a b c d k l m n : ℕ} → a ≡ b → c ≡ d → k ≡ l → m ≡ n → salvaged 0 a c k m ≡ salvaged 0 b d l n
+same-salvaged p q r s = cc
+
+same-left : {r s : Salvaged} {x y : List ℕ} {u v : List (List ℕ)} → r ≡ s → x ≡ y → u ≡ v → left r x u ≡ left s y v
+same-left p q w = cc
+
+-- a file that is not refused
+module _ (f : List ℕ) (h : Bytes f) (out : List ℕ) (list : List (List ℕ)) (z : first-of (refusals f (length out) (length list)) ≡ 0) (n : ℕ) (e : n ≡ pair f % 4096) where
+  head-right : first-of (head-refusals f) ≡ 0
+  head-right = cleared (head-refusals f) _ tt z .0
+
+  headed : 2 ≤ length f
+  headed = head-long f head-right
+
+  enough : (leb (length f) (length out) && leb (pair f % 4096) (length list)) ≡ true
+  enough = not-false _ (clear _ tt (cleared (head-refusals f) _ tt z .1) .0)
+
+  pub roomy : Roomy f n out list
+  roomy = record {
+    head = headed;
+    out-room = leb-true (length f) (length out) (and-left (leb (length f) (length out)) _ enough);
+    list-room = omega (arith, leb-true (pair f % 4096) (length list) (and-right (leb (length f) (length out)) _ enough));
+  }
+
+  counts : length (kept-of f) + length (dropped-of f) + come f .missing ≡ n
+  counts = the-counts f h headed ∙ promised-by-bytes f h headed ∙ sym e
+
+  body : List ℕ
+  body = coded-contours (kept-of f)
+
+  fits : 2 + length body ≤ length out
+  unfolding body
+  fits = omega (arith, kept-within f h headed, roomy .out-room)
+
+  -- what the pass has left
+  module _ {r : Salvaged} {mid : List ℕ} {list′ : List (List ℕ)} (p : left r mid list′ ≡ ending n 0 none-sifted f out list) where
+    by-bits : left r mid list′ ≡ left (salvaged 0 (2 + length body) (0 + length (dropped-of f)) (come f .missing) (come f .past / 8)) (placed 2 body out) (placed 0 (dropped-of f) list)
+    unfolding body
+    by-bits = p ∙ ap (λ (c : Come). ended c 0 none-sifted out list) (ap (λ (k : ℕ). arrived k (drop 2 f)) e ∙ sym (come-by-bytes f h headed))
+
+    answer-is : r ≡ salvaged 0 (2 + length body) (0 + length (dropped-of f)) (come f .missing) (come f .past / 8)
+    answer-is = ap (λ (o : Left). o .answer) by-bits
+
+    mid-is : mid ≡ placed 2 body out
+    mid-is = ap (λ (o : Left). o .bytes) by-bits
+
+    missing-is : r .missing ≡ come f .missing
+    missing-is = ap (λ (s : Salvaged). s .missing) answer-is
+
+    dropped-is : r .dropped ≡ 0 + length (dropped-of f)
+    dropped-is = ap (λ (s : Salvaged). s .dropped) answer-is
+
+    pub missing-few : r .missing ≤ n
+    missing-few = omega (arith, missing-is, counts)
+
+    pub dropped-few : r .dropped ≤ n - r .missing
+    dropped-few = omega (arith, missing-is, dropped-is, counts)
+
+    kept-is : n - r .missing - r .dropped ≡ length (kept-of f)
+    kept-is = omega (arith, missing-is, dropped-is, counts)
+
+    pub head-room : Room 0 (two (4096 + (n - r .missing - r .dropped))) mid
+    head-room = omega (arith, ap length mid-is ∙ placed-long out 2 body fits, fits)
+
+    pub mend-done : {b : ℕ} {out′ : List ℕ} → Put 0 (two (4096 + (n - r .missing - r .dropped))) mid b out′ → left r out′ list′ ≡ outcome f out list
+    unfolding outcome body
+    mend-done {b} {out′} u =
+        let o : out′ ≡ front (mended f) out =
+        u .is ∙ ap₂ (λ (k : ℕ) (l : List ℕ). placed 0 (two (4096 + k)) l) kept-is mid-is
+        ∙ placed-before (two (4096 + length (kept-of f))) body out fits ∙ placed-front out (coded (kept-of f)) ∙ ap (λ (l : List ℕ). front l out) (sym (mended-is f h headed)) in
+        same-left
+        (answer-is ∙ same-salvaged (sym (ap length (mended-is f h headed) ∙ omega arith)) (omega arith) refl refl)
+        o
+        (ap (λ (o : Left). o .list) by-bits ∙ placed-front list (dropped-of f))
+        ∙ ap (λ (k : ℕ). answered k f out list) (sym z ∙ refusals-by-bytes f h out list)
