@@ -1,7 +1,7 @@
 // The listing of a file, from its bytes: what the program `listing` writes.
 mod line;
 mod lines;
-mod text;
+pub mod text;
 
 ghost use mathlib.Core.List.{_++_};
 ghost use mathlib.Core.Path.{_≡_};
@@ -10,7 +10,7 @@ ghost use lib.ListN.{length};
 ghost use Rattle.grid.specs.Rows.{front};
 ghost use Rattle.buffer.specs.Spans.{spans};
 ghost use Rattle.buffer.specs.Sets.{contours};
-ghost use Rattle.report.specs.Text.{decimal, line-end, heading, refused as refused-of};
+ghost use Rattle.report.specs.Text.{heading};
 ghost use Rattle.report.specs.Listing.{lines as lines-of, listing};
 ghost use Rattle.report.specs.Inside.{Put, Small};
 
@@ -25,16 +25,6 @@ const NUMBERS: usize = 16382;
 
 // The most contours, and so the most shapes.
 const CONTOURS: usize = 4095;
-
-// Puts that the file is refused, and by which number.
-fn put_refused(text: &mut [u8], reply: u32) -> usize
-    requires { ⌜ length (refused-of ++ decimal reply ++ line-end) ≤ length (now text) ⌝ }
-    ensures { λ r. ⌜ Put 0 (refused-of ++ decimal reply ++ line-end) (now (text .entry)) r (now (text .exit)) ⌝ }
-{
-    let word = text::put(text, 0, b"refused ");
-    let number = text::put_number(text, word, reply as u64);
-    text::put(text, number, b"\n")
-}
 
 // Puts the heading, and a line for each contour.
 fn put_table(points: &[i32], ranges: &[[usize; 2]], text: &mut [u8]) -> usize
@@ -69,7 +59,7 @@ pub fn list(bytes: &[u8], text: &mut [u8]) -> usize
     let mut shapes = [[0usize; 2]; CONTOURS];
     let set = setfile::read(bytes, &mut points, &mut contours, &mut shapes);
     if set.reply != 0 {
-        return put_refused(text, set.reply);
+        return text::put_line(text, 0, b"refused ", set.reply as u64);
     }
     let numbers = 2 * set.points;
     let n = set.contours;

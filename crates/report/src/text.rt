@@ -1,7 +1,8 @@
 // Words and numbers as text, put into a row behind what stands there.
+ghost use mathlib.Core.List.{_++_};
 ghost use Prim.Native.Nat.{_+_, _≤_};
 ghost use lib.ListN.{length};
-ghost use Rattle.report.specs.Text.{decimal, signed};
+ghost use Rattle.report.specs.Text.{decimal, signed, line-end};
 ghost use Rattle.report.specs.Inside.{Put};
 
 // Puts a word into the text from `at` on, and answers where it ends.
@@ -38,4 +39,17 @@ pub fn put_signed(text: &mut [u8], at: usize, z: i64) -> usize
         return put_number(text, behind, size);
     }
     put_number(text, at, size)
+}
+
+// Puts a word, a number behind it, and the end of the line.
+pub fn put_line(text: &mut [u8], at: usize, word: &[u8], n: u64) -> usize
+    requires { ⌜ at + length (now word ++ decimal n ++ line-end) ≤ length (now text) ⌝ }
+    ensures { λ r. ⌜
+        Put at (now (word .entry) ++ decimal n ++ line-end)
+        (now (text .entry)) r (now (text .exit))
+        ⌝ }
+{
+    let second = put(text, at, word);
+    let third = put_number(text, second, n);
+    put(text, third, b"\n")
 }

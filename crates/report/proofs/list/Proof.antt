@@ -33,17 +33,23 @@ slice-aggregate-read-3 c = search needs
 read-requires : tie.Need-read-requires
 read-requires c κs = search needs
 
-put-refused-requires : tie.Need-put-refused-requires
-put-refused-requires c κs =
-    let s = c .before .before .before .before .before .before .before .before .before .before .before .before in
-    let e = report-refused (read-so (c .before .before .before .before .before .before)) (c .before .if1 .taken) in
+slice-aggregate-put-line : tie.Need-slice-aggregate-put-line
+slice-aggregate-put-line c = search needs
+
+cast-put-line : tie.Need-cast-put-line
+cast-put-line c = search needs
+
+put-line-requires : tie.Need-put-line-requires
+put-line-requires c κs =
+    let s = c .before .before .before .before .before .before .before .before .before .before .before .before .before .before in
+    let e = report-refused (read-so (c .before .before .before .before .before .before .before .before)) (c .before .before .before .if1 .taken) in
     omega (arith, s .pre, rw e at (listing-length (s .args .bytes .now)))
 
 same-length : tie.Need-same-length
 same-length c = search needs
 
 returns : tie.Need-returns
-returns c = rw (report-refused (read-so (c .before .before .before .before .before .before .before .before .before)) (c .before .before .before .before .if1 .taken)) (put-front (c .before .before .put-refused .ensures))
+returns c = rw (report-refused (read-so (c .before .before .before .before .before .before .before .before .before .before .before)) (c .before .before .before .before .before .before .if1 .taken)) (put-front (c .before .before .put-line .ensures))
 
 mul-numbers : tie.Need-mul-numbers
 mul-numbers c = record { fits = omega (arith, numbers-few (read-so (c .before .before .before .before .before .before)) (c .before .if1 .left)) }
@@ -80,7 +86,9 @@ list-spec =
     slice-aggregate-read-2
     slice-aggregate-read-3
     read-requires
-    put-refused-requires
+    slice-aggregate-put-line
+    cast-put-line
+    put-line-requires
     same-length
     returns
     mul-numbers
