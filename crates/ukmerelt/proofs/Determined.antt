@@ -19,6 +19,7 @@ use Rattle.buffer.specs.Parts.{part}
 use Rattle.buffer.specs.Answers as Packed
 use Rattle.sets.specs.Outcome as Sets
 use Rattle.setfile.specs.Writing as Written
+use Rattle.salvage.specs.Outcome as Salvaged
 use Rattle.drawing.specs.Exporting as Drawn
 use Rattle.grid.proofs.OneOutcome.{Determined, by-its-definition, ensuring, three, four, five, six, seven, eight, nine}
 use Rattle.area.proofs.area_two.Reads as area·area-two
@@ -70,6 +71,7 @@ use Rattle.sets.proofs.simple.simplified_shapes.Reads as sets·simple·simplifi
 use Rattle.sets.proofs.despike.despiked_shapes.Reads as sets·despike·despiked-shapes
 use Rattle.setfile.proofs.read.Reads as setfile·read
 use Rattle.setfile.proofs.write.Reads as setfile·write
+use Rattle.salvage.proofs.mend.Reads as salvage·mend
 use Rattle.drawing.proofs.import.Reads as drawing·import
 use Rattle.drawing.proofs.export.Reads as drawing·export
 
@@ -234,6 +236,9 @@ read = by-its-definition _ (λ κs a x e h. h)
 
 pub write : Determined setfile·write.Learnt (λ κs x e. four e (λ points contours shapes bytes. Written.left (x .reply) (x .bytes) (now bytes)))
 write = by-its-definition _ (λ κs a x e h. h)
+
+pub salvage : Determined salvage·mend.Learnt (λ κs x e. three e (λ bytes out dropped. Salvaged.left x (now out) (now dropped)))
+salvage = by-its-definition _ (λ κs a x e h. h)
 
 -- Drawings in millimetres.
 pub import : Determined drawing·import.Learnt (λ κs x e. four e (λ kinds floats points ranges. Packed.left x (now points) (now ranges) []))

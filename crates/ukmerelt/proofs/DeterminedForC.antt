@@ -13,8 +13,9 @@ use Rattle.clean.specs.Outcome as Cleaned
 use Rattle.buffer.specs.Answers as Packed
 use Rattle.sets.specs.Outcome as Sets
 use Rattle.setfile.specs.Writing as Written
+use Rattle.salvage.specs.Outcome as Salvaged
 use Rattle.drawing.specs.Exporting as Drawn
-use Rattle.grid.proofs.OneOutcome.{Determined, by-its-definition, ensuring, four, five, six, seven, eight, nine}
+use Rattle.grid.proofs.OneOutcome.{Determined, by-its-definition, ensuring, three, four, five, six, seven, eight, nine}
 use Rattle.ukmerelt.proofs.Determined.{Spans·Learnt}
 use Rattle.ukmerelt.proofs.contours.ukm_area_two.Reads as ukm-area-two·contract
 use Rattle.ukmerelt.proofs.contours.ukm_area.Reads as ukm-area·contract
@@ -46,6 +47,7 @@ use Rattle.ukmerelt.proofs.packing.ukm_add_contour.Reads as ukm-add-con
 use Rattle.ukmerelt.proofs.packing.ukm_add_shape.Reads as ukm-add-shape·contract
 use Rattle.ukmerelt.proofs.files.ukm_read_set.Reads as ukm-read-set·contract
 use Rattle.ukmerelt.proofs.files.ukm_write_set.Reads as ukm-write-set·contract
+use Rattle.ukmerelt.proofs.files.ukm_salvage.Reads as ukm-salvage·contract
 use Rattle.ukmerelt.proofs.drawings.ukm_import_mm.Reads as ukm-import-mm·contract
 use Rattle.ukmerelt.proofs.drawings.ukm_export_mm.Reads as ukm-export-mm·contract
 
@@ -142,6 +144,9 @@ ukm-read-set = by-its-definition _ (λ κs a x e h. h)
 
 pub ukm-write-set : Determined ukm-write-set·contract.Learnt (λ κs x e. four e (λ points contours shapes bytes. Written.left (x .reply) (x .bytes) (now bytes)))
 ukm-write-set = by-its-definition _ (λ κs a x e h. h)
+
+pub ukm-salvage : Determined ukm-salvage·contract.Learnt (λ κs x e. three e (λ bytes out dropped. Salvaged.left x (now out) (now dropped)))
+ukm-salvage = by-its-definition _ (λ κs a x e h. h)
 
 pub ukm-import-mm : Determined ukm-import-mm·contract.Learnt (λ κs x e. four e (λ kinds floats out records. Packed.left x (now out) (now records) []))
 ukm-import-mm = by-its-definition _ (λ κs a x e h. h)

@@ -1,9 +1,11 @@
-// The set file: read into a shape set's rows, and written from them.
+// The set file: read into a shape set's rows, written from them, and salvaged where it is damaged.
 ghost use mathlib.Core.Path.{_≡_};
 ghost use Rattle.buffer.specs.Answers.{left};
 ghost use Rattle.setfile.specs.Reading.{outcome as read-outcome};
 ghost use Rattle.setfile.specs.Writing.{left as written-left, outcome as write-outcome};
+ghost use Rattle.salvage.specs.Outcome.{left as salvage-left, outcome as salvage-outcome};
 use buffer::Packed;
+use salvage::Salvaged;
 use setfile::Written;
 
 // Reads a file into the front of the rows.
@@ -36,4 +38,15 @@ pub extern "C" fn ukm_write_set(
         ⌝ }
 {
     setfile::write(points, contours, shapes, bytes)
+}
+
+// Writes what is sound of a damaged file into the front of the row of bytes, and lists the contours that were dropped.
+#[no_mangle]
+pub extern "C" fn ukm_salvage(bytes: &[u8], out: &mut [u8], dropped: &mut [[usize; 2]]) -> Salvaged
+    ensures { λ r. ⌜
+        salvage-left r (now (out .exit)) (now (dropped .exit))
+        ≡ salvage-outcome (now (bytes .entry)) (now (out .entry)) (now (dropped .entry))
+        ⌝ }
+{
+    salvage::mend(bytes, out, dropped)
 }
