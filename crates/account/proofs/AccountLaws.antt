@@ -1,0 +1,195 @@
+-- What is written of a file and said of it, once it is salvaged.
+use mathlib.Core.Path.{_≡_, refl, sym, _∙_, ap, ap₂}
+use mathlib.Core.Bool.{Bool, true, false, not, _&&_}
+use mathlib.Core.List.{List, [], _∷_, _++_}
+use Prim.Native.Nat.{ℕ, zero, suc, _+_, _/_, _≤_}
+use native.Mathlib.Omega.{arith}
+use lib.Dec.{ltb, leb}
+use lib.ListN.{length, take, drop, length-append, length-drop}
+use lib.Seq.{take-at}
+use borrow.Author.Tests.{ltb-false, le-leb}
+use Rattle.grid.specs.Ladder.{Rung, first-of}
+use Rattle.grid.specs.Rows.{front}
+use Rattle.grid.proofs.LadderLaws.{clear}
+use Rattle.buffer.specs.Refusals.{room}
+use Rattle.setfile.specs.Bits.{bits}
+use Rattle.setfile.specs.Format.{bad-head, promised, come}
+use Rattle.setfile.proofs.BitLaws.{bits-length}
+use Rattle.setfile.proofs.SizeLaws.{Sized, complete-sized, promised-few}
+use Rattle.salvage.specs.declared.answer.Salvaged.{Salvaged}
+use Rattle.salvage.specs.Outcome as S
+use Rattle.salvage.specs.Outcome.{fates-of, dropped-of, mended, salvaged, answered}
+use Rattle.salvage.proofs.FateLaws.{fates-length}
+use Rattle.report.specs.Text.{decimal, line-end, refused}
+use Rattle.report.specs.Inside.{Put}
+use Rattle.report.proofs.TextLaws.{decimal-length, decimal-short}
+use Rattle.report.proofs.PutLaws.{Going, going-none, going-room, going-more, going-all, two-words, put-front, front-within}
+use Rattle.account.specs.declared.Lengths.{Lengths}
+use Rattle.account.specs.Words.{lines, counts, refusals, saved-by, account-by, saved, account, Left, left, outcome}
+use Rattle.account.specs.Inside.{Numbers}
+use Rattle.account.proofs.LineLaws.{lines-length, numbers}
+
+-- a rung at the foot that does not hold
+foot-off : (l : List Rung) (b : Bool) (k : ℕ) → b ≡ false → first-of (l ++ (b, k) ∷ []) ≡ first-of l
+unfolding first-of
+foot-off [] b k e = rw e
+foot-off ((true, n) ∷ l) b k e = refl
+foot-off ((false, n) ∷ l) b k e = foot-off l b k e
+
+-- a rung above does not tell them apart
+same-below : (b : Bool) (k : ℕ) (l m : List Rung) → (b ≡ false → first-of l ≡ first-of m) → first-of ((b, k) ∷ l) ≡ first-of ((b, k) ∷ m)
+unfolding first-of
+same-below true k l m h = refl
+same-below false k l m h = h refl
+
+same-left : {a b c d : ℕ} {x y u v : List ℕ} → a ≡ b → c ≡ d → x ≡ y → u ≡ v → left (record { bytes = a; text = c }) x u ≡ left (record { bytes = b; text = d }) y v
+same-left p q r s = cc
+
+-- how long an account can be
+module _ (f : List ℕ) where
+  sized : Sized (length (drop 16 (bits f))) (promised f) (come f)
+  sized = complete-sized (promised f) (drop 16 (bits f))
+
+  fates-few : length (fates-of f) ≤ 4095
+  fates-few = omega (arith, fates-length false (come f .contours), sized .number, promised-few f)
+
+  counts-length : length f ≤ 65536 → length (counts (come f .missing) (come f .past / 8)) ≤ 45
+  counts-length h =
+      let m = decimal-length (come f .missing) 4 (omega arith) (omega arith) (omega (arith, sized .number, promised-few f)) in
+      let p = decimal-length (come f .past / 8) 5 (omega arith) (omega arith) (omega (arith, sized .room, length-drop 16 (bits f), bits-length f)) in
+      simp length-append (omega arith)
+
+  pub account-length : length (account f) ≤ 143370
+  unfolding account
+  account-length = go (first-of (refusals f)) refl
+    where
+      go : (k : ℕ) → first-of (refusals f) ≡ k → length (account-by k f) ≤ 143370
+      go (suc k) e = simp length-append (omega (arith, decimal-short (suc k)))
+      go zero e =
+          let h = ltb-false 65536 (length f) (clear (refusals f) tt e .0) in
+          omega (arith, length-append (lines (dropped-of f)) (counts (come f .missing) (come f .past / 8)), lines-length 0 (fates-of f) (omega (arith, fates-few)), fates-few, counts-length h)
+
+-- what is answered where there is room for any file
+module _ (f out : List ℕ) (list : List (List ℕ)) (out-room : 65536 ≤ length out) (list-room : 4095 ≤ length list) where
+  always-room : first-of (S.refusals f out list) ≡ first-of (refusals f)
+  always-room =
+      same-below (ltb 65536 (length f)) 2 _ (bad-head f)
+      (λ e.
+      let n = ltb-false 65536 (length f) e in
+      foot-off (bad-head f) (not (leb (length f) (length out) && leb (promised f) (length list))) 5
+      (rw (le-leb (length f) (length out) (omega arith), le-leb (promised f) (length list) (omega (arith, promised-few f)))))
+
+  -- what the salvage has left
+  module _ {r : Salvaged} {out′ : List ℕ} {list′ : List (List ℕ)} (p : S.left r out′ list′ ≡ S.outcome f out list) where
+    answered-as : (k : ℕ) → first-of (refusals f) ≡ k → S.left r out′ list′ ≡ answered k f out list
+    unfolding S.outcome
+    answered-as k e = p ∙ ap (λ (n : ℕ). answered n f out list) (always-room ∙ e)
+
+    reply-is : r .reply ≡ first-of (refusals f)
+    reply-is = go (first-of (refusals f)) refl
+      where
+        go : (k : ℕ) → first-of (refusals f) ≡ k → r .reply ≡ first-of (refusals f)
+        go zero e = ap (λ (o : S.Left). o .answer .reply) (answered-as 0 e) ∙ sym e
+        go (suc k) e = ap (λ (o : S.Left). o .answer .reply) (answered-as (suc k) e) ∙ sym e
+
+    -- it is refused
+    module _ (n : r .reply ≡ 0 → ⊥) where
+      pub account-refused : account f ≡ refused ++ decimal (r .reply) ++ line-end
+      unfolding account
+      account-refused = ap (λ (k : ℕ). account-by k f) (sym reply-is) ∙ go (r .reply) n
+        where
+          go : (k : ℕ) → (k ≡ 0 → ⊥) → account-by k f ≡ refused ++ decimal k ++ line-end
+          go zero n = absurd (n refl)
+          go (suc k) n = refl
+
+      saved-none : saved f ≡ []
+      unfolding saved
+      saved-none = ap (λ (k : ℕ). saved-by k f) (sym reply-is) ∙ go (r .reply) n
+        where
+          go : (k : ℕ) → (k ≡ 0 → ⊥) → saved-by k f ≡ []
+          go zero n = absurd (n refl)
+          go (suc k) n = refl
+
+      out-same : out′ ≡ out
+      out-same = go (first-of (refusals f)) refl
+        where
+          go : (k : ℕ) → first-of (refusals f) ≡ k → out′ ≡ out
+          go zero e = absurd (n (reply-is ∙ e))
+          go (suc k) e = ap (λ (o : S.Left). o .bytes) (answered-as (suc k) e)
+
+      pub told-refused : {text : List ℕ} {b : ℕ} {text′ : List ℕ} → Put 0 (refused ++ decimal (r .reply) ++ line-end) text b text′
+          → left (record { bytes = 0; text = b }) out′ text′ ≡ outcome f out text
+      unfolding outcome
+      told-refused {text} q =
+          let x = put-front q in
+          same-left
+          (ap length (sym saved-none)) (x .0 ∙ ap length (sym account-refused))
+          (out-same ∙ ap (λ (l : List ℕ). front l out) (sym saved-none))
+          (x .1 ∙ ap (λ (l : List ℕ). front l text) (sym account-refused))
+
+    -- it is not
+    module _ (z : r .reply ≡ 0) where
+      none-refused : first-of (refusals f) ≡ 0
+      none-refused = sym reply-is ∙ z
+
+      answer-is : r ≡ salvaged 0 (length (mended f)) (length (dropped-of f)) (come f .missing) (come f .past / 8)
+      answer-is = ap (λ (o : S.Left). o .answer) (answered-as 0 none-refused)
+
+      saved-is : saved f ≡ mended f
+      unfolding saved
+      saved-is = ap (λ (k : ℕ). saved-by k f) none-refused
+
+      account-is : account f ≡ lines (dropped-of f) ++ counts (come f .missing) (come f .past / 8)
+      unfolding account
+      account-is = ap (λ (k : ℕ). account-by k f) none-refused
+
+      listed : list′ ≡ front (dropped-of f) list
+      listed = ap (λ (o : S.Left). o .list) (answered-as 0 none-refused)
+
+      pub dropped-in : r .dropped ≤ length list′
+      dropped-in = omega (arith, ap (λ (s : Salvaged). s .dropped) answer-is, ap length listed ∙ length-append (dropped-of f) (drop (length (dropped-of f)) list))
+
+      list-is : take (r .dropped) list′ ≡ dropped-of f
+      list-is = ap (take (r .dropped)) listed ∙ take-at (dropped-of f) _ (r .dropped) (sym (ap (λ (s : Salvaged). s .dropped) answer-is))
+
+      counts-are : counts (r .missing) (r .past) ≡ counts (come f .missing) (come f .past / 8)
+      counts-are = ap (λ (s : Salvaged). counts (s .missing) (s .past)) answer-is
+
+      pub listed-numbers : Numbers (take (r .dropped) list′)
+      listed-numbers = rw list-is (numbers 0 (fates-of f) (omega (arith, fates-few f)))
+
+      said : account f ≡ lines (take (r .dropped) list′) ++ counts (r .missing) (r .past)
+      said = account-is ∙ ap₂ (λ (l m : List ℕ). l ++ m) (ap lines (sym list-is)) (sym counts-are)
+
+      module _ (text : List ℕ) (text-room : 143370 ≤ length text) where
+        all-room : length (lines (take (r .dropped) list′) ++ counts (r .missing) (r .past)) ≤ length text
+        all-room = omega (arith, ap length said, account-length f)
+
+        going : Going 0 (account f) text 0 text (lines (take (r .dropped) list′) ∷ counts (r .missing) (r .past) ∷ [])
+        going = going-none 0 text _ (said ∙ two-words _ _) (omega (arith, account-length f))
+
+        pub lines-room : length (lines (take (r .dropped) list′)) ≤ length text
+        lines-room = omega (arith, going-room going)
+
+        pub counts-room : {b : ℕ} {mid : List ℕ} → Put 0 (lines (take (r .dropped) list′)) text b mid → b + length (counts (r .missing) (r .past)) ≤ length mid
+        counts-room q = going-room (going-more going q)
+
+        pub told-done : {b c : ℕ} {mid text′ : List ℕ} → Put 0 (lines (take (r .dropped) list′)) text b mid → Put b (counts (r .missing) (r .past)) mid c text′
+            → left (record { bytes = r .bytes; text = c }) out′ text′ ≡ outcome f out text
+        unfolding outcome
+        told-done q s =
+            let x = put-front (going-all (going-more (going-more going q) s)) in
+            same-left
+            (ap (λ (s : Salvaged). s .bytes) answer-is ∙ ap length (sym saved-is)) (x .0)
+            (ap (λ (o : S.Left). o .bytes) (answered-as 0 none-refused) ∙ ap (λ (l : List ℕ). front l out) (sym saved-is))
+            (x .1)
+
+-- both lengths are within the rows
+module _ (f out text : List ℕ) {r : Lengths} {out′ text′ : List ℕ} (p : left r out′ text′ ≡ outcome f out text) where
+  pub bytes-within : r .bytes ≤ length out′
+  unfolding outcome
+  bytes-within = front-within (saved f) out (r .bytes) out′ (ap (λ (o : Left). o .lengths .bytes) p) (ap (λ (o : Left). o .bytes) p)
+
+  pub text-within : r .text ≤ length text′
+  unfolding outcome
+  text-within = front-within (account f) text (r .text) text′ (ap (λ (o : Left). o .lengths .text) p) (ap (λ (o : Left). o .text) p)

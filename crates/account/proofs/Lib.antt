@@ -1,0 +1,4 @@
+pub mod LineLaws
+pub mod AccountLaws
+pub mod Theorems
+pub mod Cases
