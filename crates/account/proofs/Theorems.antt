@@ -1,14 +1,16 @@
 -- What a user may count on.
-use mathlib.Core.Path.{_≡_, sym, _∙_}
 use mathlib.Core.List.{List}
 use Prim.Native.Nat.{ℕ, _≤_}
 use lib.ListN.{length}
-use Rattle.account.specs.Words.{account, Left, outcome}
+use denote.Ref.{now}
+use Rattle.grid.proofs.OneOutcome.{Determined, by-its-definition, three}
+use Rattle.account.specs.Words.{account, left}
 use Rattle.account.proofs.AccountLaws.{account-length}
+use Rattle.account.proofs.mend.Reads as mend·contract
 
 -- any two outcomes that the contract of `mend` allows are identical
-pub a-file-has-one-account : (f out text : List ℕ) (o p : Left) → o ≡ outcome f out text → p ≡ outcome f out text → o ≡ p
-a-file-has-one-account f out text o p a b = a ∙ sym b
+pub a-file-has-one-account : Determined mend·contract.Learnt (λ κs r e. three e (λ bytes out text. left r (now out) (now text)))
+a-file-has-one-account = by-its-definition _ (λ κs a r e h. h)
 
 -- so the room that the program has is enough for any file
 pub no-account-is-longer : (f : List ℕ) → length (account f) ≤ 143370
