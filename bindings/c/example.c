@@ -1,5 +1,5 @@
-/* A worked example: ask about a contour, clean it, clean a shape with a hole, ask about shapes, build a set, and bring in
- * a drawing. */
+/* A worked example: ask about a contour, clean it, clean a shape with a hole, ask about shapes, build a set, bring in a
+ * drawing, and salvage a damaged file. */
 #include <inttypes.h>
 #include <math.h>
 #include <stdio.h>
@@ -112,6 +112,25 @@ static void a_drawing(void)
     printf("with a NaN: reply %" PRIu32 "\n", set.reply);
 }
 
+/* A file of three contours of a point each: the first begins a shape, the second is a hole off the grid, and of the
+ * third the last byte is gone. */
+static void a_damaged_file(void)
+{
+    const uint8_t file[] = {0x10, 3, 0x80, 1, 0, 0, 0, 5, 0, 0, 0, 6, /* hole */ 0, 1, 0x7f, 0, 0, 0, 0, 0, 0, 7,
+                            /* third */ 0x80, 1, 0, 0, 0, 8, 0, 0, 0};
+    uint8_t out[sizeof file];
+    UkmDropped dropped[3];
+
+    UkmSalvaged salvaged = ukm_salvage(file, sizeof file, out, sizeof out, dropped, LENGTH(dropped));
+    printf("salvaged: %zu bytes of %zu, %zu contour missing\n", salvaged.bytes, sizeof file, salvaged.missing);
+    for (size_t i = 0; i < salvaged.dropped; i++)
+        printf("contour %zu dropped: %s\n", dropped[i].contour,
+               dropped[i].reason == UKM_OFF_GRID ? "off the grid" : "no shape");
+
+    salvaged = ukm_salvage(file, sizeof file, out, sizeof out, dropped, 2);
+    printf("with room to list 2 of 3: reply %" PRIu32 "\n", salvaged.reply);
+}
+
 int main(void)
 {
     one_contour();
@@ -119,6 +138,7 @@ int main(void)
     two_shapes();
     a_set();
     a_drawing();
+    a_damaged_file();
 
     printf("area of nothing: reply %" PRIu32 "\n", ukm_area(NULL, 0).reply);
     return 0;

@@ -101,6 +101,11 @@ int main(void)
     DUE(ukm_read_set((const uint8_t *)"\x10", 2, NO, NO, NO), a.reply == 0 && a.points == 0 && a.shapes == 0);
     DUE(ukm_write_set(NO, NO, NO, NO), a.reply == 5);
     DUE(ukm_write_set(NO, NO, NO, mark, 3), a.reply == 0 && a.bytes == 2 && mark[0] == 16 && mark[1] == 0);
+    DUE(ukm_salvage(NO, NO, NO), a.reply == 10);
+    DUE(ukm_salvage((const uint8_t *)"\x10", 2, NO, NO), a.reply == 5);
+    DUE(ukm_salvage((const uint8_t *)"\x10\x01", 2, mark, 3, NO), a.reply == 5);
+    DUE(ukm_salvage((const uint8_t *)"\x10", 2, mark, 3, NO),
+        a.reply == 0 && a.bytes == 2 && a.dropped == 0 && mark[0] == 16 && mark[1] == 0);
 
     DUE(ukm_import_mm(NO, NO, NO, NO), a.reply == 0 && a.points == 0 && a.contours == 0 && a.shapes == 0);
     DUE(ukm_import_mm(begin, 1, NO, NO, NO), a.reply == 13);

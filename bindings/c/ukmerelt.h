@@ -11,9 +11,10 @@
  * that are only read may overlap. Nothing is kept after the call, nothing is allocated, and there is no shared state:
  * calls may run at the same time in many threads.
  *
- * Answers. `reply` is 0, or the number of the first refusal in the order 1, 2, 6, 3, 12, 4, 5, 8, 7; ukm_read_set
- * and ukm_import_mm have orders of their own. On a refusal every other field is 0 or false and every row is as it was, but for 7, which
- * reports its decisions and leaves the scratch zeroed. Whatever numbers arrive are answered or refused; none traps.
+ * Answers. `reply` is 0, or the number of the first refusal in the order 1, 2, 6, 3, 12, 4, 5, 8, 7; ukm_read_set,
+ * ukm_salvage and ukm_import_mm have orders of their own. On a refusal every other field is 0 or false and every row is
+ * as it was, but for 7, which reports its decisions and leaves the scratch zeroed. Whatever numbers arrive are answered
+ * or refused; none traps.
  *
  * Scratch. A cleaner is lent three rows, next, prev and mark, with at least as many entries each as the input has
  * points. After 0 and 7 that many entries of each are 0; what they held before plays no part.
@@ -108,6 +109,22 @@ typedef struct UkmWritten {
     uint32_t reply;
     size_t bytes;
 } UkmWritten;
+
+/* How many bytes are written, how many contours are dropped and listed, how many promised ones are not there, or not in
+ * full, and how many bytes stand past the promised count. */
+typedef struct UkmSalvaged {
+    uint32_t reply;
+    size_t bytes;
+    size_t dropped;
+    size_t missing;
+    size_t past;
+} UkmSalvaged;
+
+/* A contour of a file that was dropped: its number, from 0, and why, UKM_OFF_GRID or UKM_NO_SHAPE. */
+typedef struct UkmDropped {
+    size_t contour;
+    size_t reason;
+} UkmDropped;
 
 /* How many commands and floats are written. */
 typedef struct UkmDrawn {
@@ -312,6 +329,17 @@ UkmWritten ukm_write_set(const int32_t *points, size_t points_len,
                          const UkmRange *contours, size_t contours_len,
                          const UkmRange *shapes, size_t shapes_len,
                          uint8_t *bytes, size_t bytes_len);
+
+/* What is sound of a damaged file, as a file in front of out, and which contours are left out, in front of dropped.
+ * Contours are taken from the front as long as they are there in full. One with a coordinate off the grid is dropped,
+ * and if it began a shape, those behind it up to the next that begins one; a first contour that begins no shape is
+ * dropped in the same way. A contour that is off the grid is listed as UKM_OFF_GRID, any other as UKM_NO_SHAPE. What is
+ * written is a file that ukm_read_set takes; a sound file is written as it is. Refuses with 2; with 10 if there are
+ * under two bytes; with 9; and with 5 if out is shorter than bytes, or dropped than the count of contours that the file
+ * promises, which is at most 4,095. */
+UkmSalvaged ukm_salvage(const uint8_t *bytes, size_t bytes_len,
+                        uint8_t *out, size_t out_len,
+                        UkmDropped *dropped, size_t dropped_len);
 
 /* Drawings in millimetres. A drawing is a row of kinds and a row of floats, two for each UKM_MOVE or UKM_LINE, x and y
  * of its place. A millimetre is 1,024 of the library's units, so the grid ends 524,288 mm either side of 0. */

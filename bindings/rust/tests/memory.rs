@@ -4,6 +4,7 @@ use std::alloc::{GlobalAlloc, Layout, System};
 use std::cell::Cell;
 use ukmerelt::drawing::{Command, Place};
 use ukmerelt::flat::buffer::{FlatContoursBuffer, FlatShapesBuffer};
+use ukmerelt::flat::file::salvage;
 use ukmerelt::int::area::Area;
 use ukmerelt::int::despike::{DeSpikeContour, DeSpikeShape, DeSpikeShapes};
 use ukmerelt::int::path::ContourExtension;
@@ -238,6 +239,8 @@ fn files() {
     for (call, refused, taken) in asked! {
         FlatShapesBuffer::read_set(&bytes);
         FlatShapesBuffer::read_set(&bytes[..MOST + 1]);
+        salvage(&bytes);
+        salvage(&bytes[..MOST + 1]);
         points.write_set();
         contours.write_set();
     } {
@@ -247,6 +250,7 @@ fn files() {
         FlatShapesBuffer::read_set(&bytes[..MOST]),
         Err(Refused::Edition)
     );
+    assert_eq!(salvage(&bytes[..MOST]), Err(Refused::Edition));
 }
 
 #[test]

@@ -1,8 +1,9 @@
-//! Files read and sets written, against the reader and the writer in `cases`.
+//! Files read and mended, and sets written, against the reader and the writer in `cases`.
 
 use crate::input::{Found, Input};
 use crate::library::answer::{Packed, Written};
 use crate::library::{read_set, Flat, Lent, Rows};
+use crate::mending;
 use crate::sets::{flat, hold_rows, size_of};
 use cases::files::{Case, Reading, Writing};
 use cases::sets::rows::Lengths;
@@ -18,6 +19,7 @@ impl Input for Case {
                 writing(&mut found, &Writing::new(set, *room), flat(set, &points));
                 found.hold_unchanged(&set.points.all(), &points);
             }
+            Case::Mending { lent, file } => mending::hold(&mut found, *lent, file),
         }
         found.hold_unchanged(&before, self);
         found
@@ -25,7 +27,7 @@ impl Input for Case {
 
     fn size(&self) -> usize {
         match self {
-            Case::Reading { file, .. } => file.len(),
+            Case::Reading { file, .. } | Case::Mending { file, .. } => file.len(),
             Case::Writing { set, .. } => size_of(set),
         }
     }

@@ -8,6 +8,7 @@ mod files;
 mod input;
 mod kinds;
 mod library;
+mod mending;
 mod ranges;
 mod sets;
 mod tally;

@@ -1,6 +1,7 @@
 // A case of the list, whatever its kind.
 ghost use Prim.Native.Nat.{_≤_};
 ghost use Rattle.cases.specs.Buffer.{Held};
+use crate::mending;
 use crate::reading;
 use crate::records::RECORDS;
 use crate::writing;
@@ -27,6 +28,7 @@ pub fn replay(
     let kind = start.here;
     match kind {
         b'r' => reading::replay(start.step(bytes), bytes, text, case),
+        b'm' => mending::replay(start.step(bytes), bytes, text, case),
         b'w' => writing::replay(start.step(bytes), bytes, row, contours, shapes, text, case),
         _ => Replayed {
             length: 0,

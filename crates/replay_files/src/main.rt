@@ -1,5 +1,5 @@
-// Reads a list of set files and of sets on standard input, and writes what the library reads of the files and how it
-// writes the sets.
+// Reads a list of set files and of sets on standard input, and writes what the library reads and mends of the files and
+// how it writes the sets.
 //
 // A line is a case: its kind, then numbers, each after one space, and for a file its bytes. Files and ranges are given
 // as they are, so that they may be sound or not. A list that is damaged is replayed up to the first byte that cannot
@@ -9,6 +9,8 @@ mod hex;
 mod lent;
 mod list;
 mod listed;
+mod mended;
+mod mending;
 mod reading;
 mod records;
 mod writing;

@@ -1,4 +1,4 @@
-//! Sets of contours and of shapes in a few flat rows.
+//! Sets of contours and of shapes in a few flat rows, and the files that carry them.
 
 pub mod buffer;
-mod file;
+pub mod file;

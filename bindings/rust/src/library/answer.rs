@@ -2,6 +2,7 @@
 
 use crate::drawing::Place;
 use crate::flat::buffer::{FlatContoursBuffer, FlatShapesBuffer};
+use crate::flat::file::Dropped;
 use crate::int::shape::IntContour;
 use crate::refused::Refused;
 
@@ -45,6 +46,15 @@ pub struct Packed {
 pub struct Written {
     reply: u32,
     bytes: usize,
+}
+
+#[repr(C)]
+pub struct Salvaged {
+    reply: u32,
+    bytes: usize,
+    dropped: usize,
+    missing: usize,
+    past: usize,
 }
 
 #[repr(C)]
@@ -115,6 +125,25 @@ impl Written {
         Refused::read(self.reply, 0)?;
         out.truncate(self.bytes);
         Ok(out)
+    }
+}
+
+impl Salvaged {
+    /// The file and the list in front of the rows that were lent.
+    pub fn read(
+        self,
+        mut out: Vec<u8>,
+        dropped: &[[usize; 2]],
+    ) -> Result<crate::flat::file::Salvaged, Refused> {
+        Refused::read(self.reply, 0)?;
+        out.truncate(self.bytes);
+        let dropped = dropped.iter().take(self.dropped);
+        Ok(crate::flat::file::Salvaged {
+            file: out,
+            dropped: dropped.map(Dropped::read).collect(),
+            missing: self.missing,
+            past: self.past,
+        })
     }
 }
 

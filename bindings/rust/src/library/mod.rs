@@ -6,7 +6,7 @@ mod raw;
 use crate::drawing::Place;
 use crate::int::point::IntPoint;
 use crate::refused::Refused;
-use answer::{Area, Cleaned, CleanedSet, Drawn, Packed, Verdict, Written};
+use answer::{Area, Cleaned, CleanedSet, Drawn, Packed, Salvaged, Verdict, Written};
 
 /// A start and an end, laid as `UkmRange` of the header is.
 pub type Range = [usize; 2];
@@ -298,6 +298,10 @@ pub fn write_set(
     bytes: &mut [u8],
 ) -> Written {
     call!(ukm_write_set(points, contours, shapes; bytes;))
+}
+
+pub fn salvage(bytes: &[u8], out: &mut [u8], dropped: &mut [[usize; 2]]) -> Salvaged {
+    call!(ukm_salvage(bytes; out, dropped;))
 }
 
 /// The floats are places, or two for each.

@@ -1,6 +1,6 @@
 //! The functions of libukmerelt.a, as bindings/c/ukmerelt.h declares them.
 
-use super::answer::{Area, Cleaned, CleanedSet, Drawn, Packed, Verdict, Written};
+use super::answer::{Area, Cleaned, CleanedSet, Drawn, Packed, Salvaged, Verdict, Written};
 use super::Range;
 
 extern "C" {
@@ -258,6 +258,14 @@ extern "C" {
         bytes: *mut u8,
         bytes_len: usize,
     ) -> Written;
+    pub fn ukm_salvage(
+        bytes: *const u8,
+        bytes_len: usize,
+        out: *mut u8,
+        out_len: usize,
+        dropped: *mut [usize; 2],
+        dropped_len: usize,
+    ) -> Salvaged;
     pub fn ukm_import_mm(
         kinds: *const u8,
         kinds_len: usize,

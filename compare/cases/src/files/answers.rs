@@ -3,6 +3,7 @@
 use super::case::Case;
 use super::edition::{read, written, Shape};
 use super::listing::listing;
+use super::mend::Mending;
 use crate::checksum::checksum;
 use crate::reply::{Reply, DONE};
 use crate::sets::flat::Set;
@@ -22,6 +23,7 @@ pub fn answer(case: &Case) -> String {
             format!("{reading} {}{}", listed(file), again.unwrap_or_default())
         }
         Case::Writing { room, set } => Writing::new(set, *room).to_string(),
+        Case::Mending { lent, file } => Mending::new(*lent, file).to_string(),
     }
 }
 

@@ -1,5 +1,6 @@
 //! One line of the list of files.
 
+use super::mend::Lent;
 use super::text::{read_file, read_records, write_file, write_records};
 use crate::line::{length, Part, Row, Words, NO_KIND};
 use crate::sets::flat::Set;
@@ -10,6 +11,7 @@ use std::str::FromStr;
 /// The first byte of a line names its kind.
 const READING: &str = "r";
 const WRITING: &str = "w";
+const MENDING: &str = "m";
 
 /// A case gives at most so many bytes of a file, and so many records of each kind.
 pub const MOST_FILE: usize = 65_600;
@@ -22,12 +24,30 @@ pub const LONGEST: Lengths = Lengths {
     groups: 4100,
 };
 
+/// The longest rows that can be lent to a mending.
+pub const LONGEST_MENDED: Lent = Lent {
+    out: MOST_FILE,
+    list: LONGEST.records,
+};
+
 #[derive(Clone, Debug, PartialEq, Eq)]
 pub enum Case {
     /// A file is read into rows of these lengths.
     Reading { lent: Lengths, file: Vec<u8> },
     /// A set is written into a row of so many bytes.
     Writing { room: usize, set: Set },
+    /// What is sound of a file is written into rows of these lengths.
+    Mending { lent: Lent, file: Vec<u8> },
+}
+
+impl Case {
+    /// The file that is read or mended.
+    pub fn file(&self) -> Option<Vec<u8>> {
+        match self {
+            Case::Reading { file, .. } | Case::Mending { file, .. } => Some(file.clone()),
+            Case::Writing { .. } => None,
+        }
+    }
 }
 
 impl fmt::Display for Case {
@@ -42,6 +62,10 @@ impl fmt::Display for Case {
                 write_records(out, &set.contours)?;
                 write_records(out, &set.shapes)?;
                 write!(out, "{}", set.points)
+            }
+            Case::Mending { lent, file } => {
+                write!(out, "{MENDING} {lent}")?;
+                write_file(out, file)
             }
         }
     }
@@ -65,6 +89,10 @@ impl FromStr for Case {
                     points: Row::read(words)?,
                 },
             }),
+            Some(MENDING) => Ok(Case::Mending {
+                lent: Lent::read(words, LONGEST_MENDED)?,
+                file: read_file(words, MOST_FILE)?,
+            }),
             _ => Err(NO_KIND.into()),
         }
     }
@@ -85,6 +113,8 @@ mod tests {
             "w 0 0 0",
             "w 65600 1 0 1 1 0 1 5 -6",
             "w 9 32800 0 0*32799 1 0 1 0 2147483647 7 8 *8191",
+            "m 0 0",
+            "m 65600 4100 1fff 8000*4094 80",
         ]);
     }
 
@@ -96,5 +126,13 @@ mod tests {
         refused::<Case>(&["w", "w 0 0", "w 65601 0 0", "w 0 32801 0 0*32801 0"]);
         refused::<Case>(&["w 0 1 0 0*2 0", "w 0 1 0 0*0 0"]);
         refused::<Case>(&["w 0 2 0 0 0", "w 0 1 -1 0 0"]);
+        refused::<Case>(&[
+            "m",
+            "m 0",
+            "m 65601 0",
+            "m 0 4101",
+            "m 0 0 1",
+            "m 0 0 00*65601",
+        ]);
     }
 }

@@ -42,7 +42,7 @@ fn files() -> Vec<Vec<u8>> {
 }
 
 /// Where the header of each contour of a sound file stands.
-fn headers(file: &[u8]) -> Vec<usize> {
+pub fn headers(file: &[u8]) -> Vec<usize> {
     let mut places = vec![];
     let mut place = 2;
     while place < file.len() {
@@ -52,12 +52,12 @@ fn headers(file: &[u8]) -> Vec<usize> {
     places
 }
 
-fn pair(file: &[u8], place: usize) -> u16 {
+pub fn pair(file: &[u8], place: usize) -> u16 {
     u16::from_be_bytes([file[place], file[place + 1]])
 }
 
 /// The file with another number in these two bytes.
-fn with_pair(file: &[u8], place: usize, number: u16) -> Vec<u8> {
+pub fn with_pair(file: &[u8], place: usize, number: u16) -> Vec<u8> {
     let mut file = file.to_vec();
     file[place..place + 2].copy_from_slice(&number.to_be_bytes());
     file

@@ -1,5 +1,5 @@
-//! Set files, and sets to be written: their cases, the list of them, and the answers by
-//! a reader and a writer of our own.
+//! Set files, read and mended, and sets to be written: their cases, the list of them, and
+//! the answers by a reader and a writer of our own.
 
 mod answers;
 mod bits;
@@ -8,6 +8,8 @@ pub mod damaged;
 mod edition;
 mod large;
 mod listing;
+mod mend;
+pub mod mendings;
 pub mod sound;
 mod text;
 pub mod writings;
@@ -15,9 +17,21 @@ pub mod writings;
 pub use answers::{answer, Reading, Writing, HEADER};
 pub use case::Case;
 pub use listing::write_listings;
+pub use mend::{Lent, Mending};
 
-/// Every case, in the order of the list: files to be read, then sets to be written.
+/// How many contours a file has, if it is read.
+pub fn contours_read(file: &[u8]) -> Option<usize> {
+    let shapes = edition::read(file).ok()?;
+    Some(shapes.concat().len())
+}
+
+/// Every case, in the order of the list: files to be read, then sets to be written, then
+/// files to be mended.
 pub fn list() -> Vec<Case> {
+    [readings(), writings(), mendings()].concat()
+}
+
+fn readings() -> Vec<Case> {
     [
         sound::small(),
         sound::coordinates(),
@@ -31,12 +45,27 @@ pub fn list() -> Vec<Case> {
         damaged::off_in_one_place(),
         damaged::random(),
         large::readings(),
+    ]
+    .concat()
+}
+
+fn writings() -> Vec<Case> {
+    [
         writings::small(),
         writings::ranges(),
         writings::off_in_one_place(),
         writings::random(),
         writings::rows(),
         large::writings(),
+    ]
+    .concat()
+}
+
+fn mendings() -> Vec<Case> {
+    [
+        mendings::files(&readings()),
+        mendings::rows(),
+        mendings::random(),
     ]
     .concat()
 }
@@ -58,6 +87,7 @@ mod tests {
     fn every_reply_that_is_due_is_met() {
         assert_eq!(replies('r'), [0, 2, 3, 5, 9, 10, 11]);
         assert_eq!(replies('w'), [0, 1, 2, 3, 5, 6, 12]);
+        assert_eq!(replies('m'), [0, 2, 5, 9, 10]);
     }
 
     #[test]

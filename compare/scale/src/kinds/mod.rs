@@ -3,6 +3,7 @@
 mod drawn;
 mod every;
 mod long;
+mod mending;
 mod ranges;
 mod short;
 
@@ -46,7 +47,7 @@ impl Kind {
     }
 }
 
-pub const KINDS: [Kind; 23] = [
+pub const KINDS: [Kind; 25] = [
     Kind::new("the list of contours", All(short::list_of_contours)),
     Kind::new("the list of sets", All(short::list_of_sets)),
     Kind::new(
@@ -97,6 +98,14 @@ pub const KINDS: [Kind; 23] = [
         OneFor(20, short::file_read),
     ),
     Kind::new("files written", OneFor(20, short::file_written)),
+    Kind::new(
+        "files mended, sound and damaged",
+        OneFor(20, mending::short),
+    ),
+    Kind::new(
+        "files mended, of up to 65,537 bytes",
+        OneFor(5000, mending::long),
+    ),
     Kind::new(
         "all rows of up to 3 ranges at the ends of usize",
         All(ranges::at_the_ends),

@@ -49,6 +49,16 @@ pub struct Written {
 }
 
 #[repr(C)]
+#[derive(Clone, Copy, Debug, PartialEq, Eq)]
+pub struct Salvaged {
+    pub reply: u32,
+    pub bytes: usize,
+    pub dropped: usize,
+    pub missing: usize,
+    pub past: usize,
+}
+
+#[repr(C)]
 #[derive(Debug, PartialEq, Eq)]
 pub struct Drawn {
     pub reply: u32,

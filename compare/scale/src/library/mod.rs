@@ -6,7 +6,7 @@ mod lent;
 #[path = "../../../../bindings/rust/src/library/raw.rs"]
 mod raw;
 
-use answer::{Area, Cleaned, CleanedSet, Drawn, Packed, Verdict, Written};
+use answer::{Area, Cleaned, CleanedSet, Drawn, Packed, Salvaged, Verdict, Written};
 use cases::cleaner::Cleaner;
 use cases::drawings::exact::Bits;
 use cases::point::Point;
@@ -326,6 +326,10 @@ pub fn read_set(file: &[u8], rows: &mut Rows) -> Packed {
         groups,
     } = rows;
     call!(ukm_read_set(file; out, records, groups;))
+}
+
+pub fn salvage(file: &[u8], out: &mut Lent<u8>, dropped: &mut Lent<Record>) -> Salvaged {
+    call!(ukm_salvage(file; out, dropped;))
 }
 
 pub fn import_mm(
