@@ -1,7 +1,7 @@
 //! Drawings in millimetres brought in and given back, beside the plain arithmetic: a loop that rounds or divides each
 //! coordinate, tests nothing, and makes neither contours nor commands.
 
-use crate::linked::raw;
+use crate::linked::{call, Range};
 use std::f64::consts::TAU;
 use std::hint::black_box;
 
@@ -15,7 +15,7 @@ pub struct Drawing {
     kinds: Vec<u8>,
     floats: Vec<f64>,
     points: Vec<i32>,
-    records: Vec<[usize; 2]>,
+    records: Vec<Range>,
 }
 
 pub fn drawings() -> [Drawing; 2] {
@@ -55,38 +55,14 @@ fn divided(points: &[i32], floats: &mut [f64]) {
     }
 }
 
-fn import(kinds: &[u8], floats: &[f64], points: &mut [i32], records: &mut [[usize; 2]]) -> i64 {
-    // SAFETY: each row is a slice, and no lent row overlaps another.
-    let packed = unsafe {
-        raw::ukm_import_mm(
-            kinds.as_ptr(),
-            kinds.len(),
-            floats.as_ptr(),
-            floats.len(),
-            points.as_mut_ptr(),
-            points.len(),
-            records.as_mut_ptr(),
-            records.len(),
-        )
-    };
-    packed.points as i64
+/// How many points a drawing gives.
+fn import(kinds: &[u8], floats: &[f64], points: &mut [i32], records: &mut [Range]) -> i64 {
+    call!(ukm_import_mm(kinds, floats; points, records;)).points as i64
 }
 
-fn export(points: &[i32], records: &[[usize; 2]], kinds: &mut [u8], floats: &mut [f64]) -> i64 {
-    // SAFETY: as in `import`.
-    let drawn = unsafe {
-        raw::ukm_export_mm(
-            points.as_ptr(),
-            points.len(),
-            records.as_ptr(),
-            records.len(),
-            kinds.as_mut_ptr(),
-            kinds.len(),
-            floats.as_mut_ptr(),
-            floats.len(),
-        )
-    };
-    drawn.floats as i64 / 2
+/// How many places a set gives.
+fn export(points: &[i32], records: &[Range], kinds: &mut [u8], floats: &mut [f64]) -> i64 {
+    call!(ukm_export_mm(points, records; kinds, floats;)).floats as i64 / 2
 }
 
 /// A line for the way in and one for the way back.
@@ -94,7 +70,7 @@ pub fn lines(mut drawing: Drawing) {
     let Drawing { name, kinds, floats, points, records } = &mut drawing;
     let count = floats.len() / 2;
     let mut plain = vec![0; points.len()];
-    crate::line(
+    crate::table::line(
         name,
         "import",
         count,
@@ -107,7 +83,7 @@ pub fn lines(mut drawing: Drawing) {
     assert_eq!(plain, *points, "the points of {name} differ");
     let (mut kinds_back, mut floats_back) = (vec![0; kinds.len()], vec![0.0; floats.len()]);
     let mut plain = vec![0.0; floats.len()];
-    crate::line(
+    crate::table::line(
         name,
         "export",
         count,

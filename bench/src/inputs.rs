@@ -1,5 +1,8 @@
 //! The contours that are measured, the same in every run.
 
+// No program takes all of it.
+#![allow(dead_code)]
+
 use i_float::int::point::IntPoint;
 use i_shape::int::simple::SimpleContour;
 use std::f64::consts::TAU;
@@ -46,6 +49,31 @@ fn a_box(random: &mut Random) -> Vec<Point> {
     vec![Point::new(x, y), Point::new(x + w, y), Point::new(x + w, y + h), Point::new(x, y + h)]
 }
 
+pub fn boxes(seed: u64, count: usize) -> Vec<Vec<Point>> {
+    let random = &mut Random(seed);
+    (0..count).map(|_| a_box(random)).collect()
+}
+
+/// Three points that are on no line, wound either way.
+fn triangle(random: &mut Random) -> Vec<Point> {
+    loop {
+        let mut side = || 1 + random.below(1000) as i32;
+        let contour = vec![Point::new(side(), side()), Point::new(side(), side()), Point::new(side(), side())];
+        if contour[..].is_simple() {
+            return contour;
+        }
+    }
+}
+
+/// A box without one of its quarters, six points along the axes.
+fn ell(random: &mut Random) -> Vec<Point> {
+    let mut side = || 2 + random.below(1000) as i32;
+    let (x, y, w, h) = (side(), side(), side(), side());
+    let (u, v) = (x + w / 2, y + h / 2);
+    let corners = [(x, y), (x + w, y), (x + w, v), (u, v), (u, y + h), (x, y + h)];
+    corners.map(|(x, y)| Point::new(x, y)).to_vec()
+}
+
 /// A star of random radii with even coordinates, simple.
 fn star(random: &mut Random, points: usize) -> Vec<Point> {
     loop {
@@ -62,7 +90,7 @@ fn star(random: &mut Random, points: usize) -> Vec<Point> {
     }
 }
 
-fn circle(points: usize) -> Vec<Point> {
+pub fn circle(points: usize) -> Vec<Point> {
     (0..points)
         .map(|i| {
             let angle = i as f64 / points as f64 * TAU;
@@ -71,8 +99,18 @@ fn circle(points: usize) -> Vec<Point> {
         .collect()
 }
 
+/// A small circle with even coordinates.
+fn round(points: usize, (x, y): (f64, f64)) -> Vec<Point> {
+    (0..points)
+        .map(|i| {
+            let angle = i as f64 / points as f64 * TAU;
+            Point::new((x + 2.0e7 * angle.cos()) as i32 & !1, (y + 2.0e7 * angle.sin()) as i32 & !1)
+        })
+        .collect()
+}
+
 /// A closed staircase, its steps parallel to the axes.
-fn stairs(points: usize) -> Vec<Point> {
+pub fn stairs(points: usize) -> Vec<Point> {
     let mut contour = Vec::with_capacity(points);
     let (mut x, mut y) = (0, 0);
     for i in 0..points - 2 {
@@ -89,7 +127,7 @@ fn stairs(points: usize) -> Vec<Point> {
 }
 
 /// `percent` of `points` put in the middle of edges of a base, which has the others.
-fn with_straight(base: impl FnOnce(usize) -> Vec<Point>, points: usize, percent: usize) -> Vec<Point> {
+pub fn with_straight(base: impl FnOnce(usize) -> Vec<Point>, points: usize, percent: usize) -> Vec<Point> {
     let extra = points * percent / 100;
     let base = base(points - extra);
     let mut contour = Vec::with_capacity(points);
@@ -124,6 +162,41 @@ fn longest_walk(points: usize) -> Vec<Point> {
     let mut contour: Vec<Point> = (1..n - 2).map(|x| Point::new(x, 0)).collect();
     contour.extend([Point::new(1, 2), Point::new(n - 2, 0), Point::new(0, 0)]);
     contour
+}
+
+/// `points` of a base, of which some are straight, some are spikes, or none are either, by the number.
+fn with_faults(number: usize, base: impl FnOnce(usize) -> Vec<Point>, points: usize) -> Vec<Point> {
+    match number % 3 {
+        0 => base(points),
+        1 => with_straight(base, points, 20),
+        _ => with_spikes(base, points, 10),
+    }
+}
+
+/// Outlines of 100 points, each with round holes of 24 and 12 and a slot of 4. If the job is not clean the second of
+/// every three shapes has straight points and the third spikes, in its outline and in the larger hole, and the slot of
+/// every eighth is a line, which collapses.
+pub fn job(shapes: usize, clean: bool) -> Vec<Vec<Vec<Point>>> {
+    let random = &mut Random(2463534242);
+    let shape = |i: usize| {
+        let faults = if clean { 0 } else { i };
+        let outline = with_faults(faults, |points| star(random, points), 100);
+        let hole = with_faults(faults, |points| round(points, (3.0e7, 4.0e7)), 24);
+        let height = if faults % 8 == 7 { 0 } else { 1_000_000 };
+        let slot = [(0, 0), (0, height), (9_000_000, height), (9_000_000, 0)];
+        vec![outline, hole, round(12, (-3.0e7, 2.0e7)), slot.map(|(x, y)| Point::new(x, y)).to_vec()]
+    };
+    (0..shapes).map(shape).collect()
+}
+
+/// Triangles and ells, for which no target is set.
+pub fn small() -> [Kind; 2] {
+    let random = &mut Random(362436069362436069);
+    let mut kind = |name: &str, one: fn(&mut Random) -> Vec<Point>| Kind {
+        name: name.into(),
+        contours: (0..1000).map(|_| one(random)).collect(),
+    };
+    [kind("1000 triangles", triangle), kind("1000 ells of 6", ell)]
 }
 
 pub fn kinds() -> Vec<Kind> {

@@ -1,24 +1,27 @@
 //! The functions of the library that are measured, in the order of `original` and with the same answers.
 
+// No program takes all of it.
+#![allow(dead_code)]
+
 #[path = "../../compare/scale/src/library/answer.rs"]
-#[allow(dead_code)]
 mod answer;
 #[path = "../../bindings/rust/src/library/raw.rs"]
-#[allow(dead_code)]
 pub mod raw;
 
 use crate::inputs::ASKED;
 
 /// A start and an end.
-type Range = [usize; 2];
+pub type Range = [usize; 2];
 
-/// Calls a function with the row that it reads, the rows that it is lent, and plain numbers.
+/// Calls a function with the rows that it reads, the rows that it is lent, and plain numbers.
 macro_rules! call {
-    ($name:ident($read:ident; $($lent:ident),*; $($number:expr),*)) => {
+    ($name:ident($($read:expr),*; $($lent:expr),*; $($number:expr),*)) => {
         // SAFETY: each row is a slice or a vector, and no lent row overlaps another.
-        unsafe { raw::$name($read.as_ptr(), $read.len(), $($lent.as_mut_ptr(), $lent.len(),)* $($number),*) }
+        unsafe { $crate::linked::raw::$name($($read.as_ptr(), $read.len(),)* $($lent.as_mut_ptr(), $lent.len(),)* $($number),*) }
     };
 }
+#[allow(unused_imports)]
+pub(crate) use call;
 
 pub type Function = fn(&[i32], &mut Rows) -> i64;
 

@@ -1,7 +1,6 @@
 //! The library beside other libraries; `program` has its calls.
 
 #[path = "../../src/inputs.rs"]
-#[allow(dead_code)]
 mod inputs;
 #[path = "../../src/linked.rs"]
 mod linked;
