@@ -3,13 +3,13 @@
 use crate::input::{Found, Input};
 use crate::library::answer::Cleaned;
 use crate::library::{self, Lent, Scratch};
-use cases::answers::Verdicts;
-use cases::case::{Case, Kind};
-use cases::cleaner::Cleaner;
-use cases::counted::COUNTED;
-use cases::lent::{beside, need};
-use cases::point::Point;
-use cases::rows::{self, Lengths};
+use lists::cleaner::Cleaner;
+use lists::contours::case::{Case, Kind};
+use lists::contours::lent::{beside, need};
+use lists::contours::rows::{self, Lengths};
+use lists::contours::Verdicts;
+use lists::counted::COUNTED;
+use lists::point::Point;
 
 impl Input for Case {
     fn compare(&self) -> Found {
@@ -88,7 +88,7 @@ fn name(cleaner: Cleaner) -> &'static str {
     }
 }
 
-pub fn hold_scratch(found: &mut Found, original: &cases::scratch::Scratch, library: &Scratch) {
+pub fn hold_scratch(found: &mut Found, original: &lists::scratch::Scratch, library: &Scratch) {
     found.hold_row("next", &original.next, &library.next);
     found.hold_row("prev", &original.prev, &library.prev);
     found.hold_row("mark", &original.mark, &library.mark);

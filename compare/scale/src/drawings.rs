@@ -1,12 +1,12 @@
-//! Drawings brought in and sets given back, against the arithmetic in `cases`.
+//! Drawings brought in and sets given back, against the arithmetic in `requests`.
 
 use crate::input::{Found, Input};
 use crate::library::answer::{Drawn, Packed};
 use crate::library::{export_mm, import_mm, Lent};
-use cases::drawings::case::Lengths;
-use cases::drawings::command::Drawing;
-use cases::drawings::{Case, Export, Import, FLOAT, KIND, NUMBER, RECORD};
-use cases::sets::flat::Record;
+use lists::drawings::case::Lengths;
+use lists::drawings::{Case, Export, Import, FLOAT, KIND, NUMBER, RECORD};
+use lists::sets::flat::Record;
+use requests::drawing::Drawing;
 
 impl Input for Case {
     fn compare(&self) -> Found {

@@ -1,12 +1,12 @@
-//! Files read and mended, and sets written, against the reader and the writer in `cases`.
+//! Files read and mended, and sets written, against the reader and the writer in `requests`.
 
 use crate::input::{Found, Input};
 use crate::library::answer::{Packed, Written};
 use crate::library::{read_set, Flat, Lent, Rows};
 use crate::mending;
 use crate::sets::{flat, hold_rows, size_of};
-use cases::files::{Case, Reading, Writing};
-use cases::sets::rows::Lengths;
+use lists::files::{Case, Reading, Writing};
+use lists::sets::rows::Lengths;
 
 impl Input for Case {
     fn compare(&self) -> Found {

@@ -1,10 +1,10 @@
-//! Files mended, against the salvage in `cases`, and what holds of whatever is written.
+//! Files mended, against the salvage in `requests`, and what holds of whatever is written.
 
 use crate::input::Found;
 use crate::library::answer::Salvaged;
 use crate::library::{salvage, Lent};
-use cases::files::mendings::promised;
-use cases::files::{self, contours_read, Mending};
+use lists::files::mendings::promised;
+use lists::files::{self, contours_read, Mending};
 
 pub fn hold(found: &mut Found, lent: files::Lent, file: &[u8]) {
     let original = Mending::new(lent, file);

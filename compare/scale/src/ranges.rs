@@ -2,7 +2,7 @@
 
 use crate::input::{Found, Input};
 use crate::library::ranges_sound;
-use cases::sets::flat::{sound, write_records, Record};
+use lists::sets::flat::{sound, write_records, Record};
 use std::fmt;
 
 pub struct Ranges {

@@ -5,14 +5,14 @@ use crate::input::{Found, Input};
 use crate::library::answer::{CleanedSet, Packed};
 use crate::library::{Flat, Rows, Scratch};
 use crate::ranges;
-use cases::cleaner::Cleaner;
-use cases::cleaning::case::{Form, Lengths};
-use cases::cleaning::{self, cleaned, Verdicts};
-use cases::counted::COUNTED;
-use cases::point::Point;
-use cases::sets::flat::Set;
-use cases::sets::packing::{self, Call, Packed as What};
-use cases::sets::{self, case::Kind};
+use lists::cleaner::Cleaner;
+use lists::cleaning::case::{Form, Lengths};
+use lists::cleaning::{self, cleaned, Verdicts};
+use lists::counted::COUNTED;
+use lists::point::Point;
+use lists::sets::flat::Set;
+use lists::sets::packing::{self, Call, Packed as What};
+use lists::sets::{self, case::Kind};
 
 /// The set over a row that holds its points.
 pub fn flat<'a>(set: &'a Set, points: &'a [i32]) -> Flat<'a> {

@@ -8,10 +8,9 @@ use lib.Dec.{ltb, leb}
 use lib.ListN.{length, take, drop, length-append, length-drop}
 use lib.Seq.{take-at}
 use borrow.Author.Tests.{ltb-false, le-leb}
-use Rattle.grid.specs.Ladder.{Rung, first-of}
-use Rattle.grid.specs.Rows.{front}
-use Rattle.grid.proofs.LadderLaws.{clear}
-use Rattle.buffer.specs.Refusals.{room}
+use Rattle.replies.specs.Ladder.{Rung, first-of, room}
+use Rattle.rows.specs.Rows.{front}
+use Rattle.replies.proofs.LadderLaws.{clear, below-clear, same-below, room-clear}
 use Rattle.setfile.specs.Bits.{bits}
 use Rattle.setfile.specs.Format.{bad-head, promised, come}
 use Rattle.setfile.proofs.BitLaws.{bits-length}
@@ -21,29 +20,16 @@ use Rattle.salvage.specs.Outcome as S
 use Rattle.salvage.specs.Outcome.{fates-of, dropped-of, mended, salvaged, answered}
 use Rattle.salvage.proofs.FateLaws.{fates-length}
 use Rattle.report.specs.Text.{decimal, line-end, refused}
-use Rattle.report.specs.Inside.{Put}
+use Rattle.report.specs.inside.Lines.{Put}
 use Rattle.report.proofs.TextLaws.{decimal-length, decimal-short}
 use Rattle.report.proofs.PutLaws.{Going, going-none, going-room, going-more, going-all, two-words, put-front, front-within}
 use Rattle.account.specs.declared.Lengths.{Lengths}
-use Rattle.account.specs.Words.{lines, counts, refusals, saved-by, account-by, saved, account, Left, left, outcome}
-use Rattle.account.specs.Inside.{Numbers}
+use Rattle.account.specs.Words.{lines, counts, refusals, saved-by, account-by, saved, account, Outcome, leaving, outcome}
+use Rattle.account.specs.inside.Lines.{Numbers}
 use Rattle.account.proofs.LineLaws.{lines-length, numbers}
 
--- a rung at the foot that does not hold
-foot-off : (l : List Rung) (b : Bool) (k : ℕ) → b ≡ false → first-of (l ++ (b, k) ∷ []) ≡ first-of l
-unfolding first-of
-foot-off [] b k e = rw e
-foot-off ((true, n) ∷ l) b k e = refl
-foot-off ((false, n) ∷ l) b k e = foot-off l b k e
-
--- a rung above does not tell them apart
-same-below : (b : Bool) (k : ℕ) (l m : List Rung) → (b ≡ false → first-of l ≡ first-of m) → first-of ((b, k) ∷ l) ≡ first-of ((b, k) ∷ m)
-unfolding first-of
-same-below true k l m h = refl
-same-below false k l m h = h refl
-
-same-left : {a b c d : ℕ} {x y u v : List ℕ} → a ≡ b → c ≡ d → x ≡ y → u ≡ v → left (record { bytes = a; text = c }) x u ≡ left (record { bytes = b; text = d }) y v
-same-left p q r s = cc
+same-outcome : {a b c d : ℕ} {x y u v : List ℕ} → a ≡ b → c ≡ d → x ≡ y → u ≡ v → leaving (record { bytes = a; text = c }) x u ≡ leaving (record { bytes = b; text = d }) y v
+same-outcome p q r s = cc
 
 -- how long an account can be
 module _ (f : List ℕ) where
@@ -76,12 +62,12 @@ module _ (f out : List ℕ) (list : List (List ℕ)) (out-room : 65536 ≤ lengt
       same-below (ltb 65536 (length f)) 2 _ (bad-head f)
       (λ e.
       let n = ltb-false 65536 (length f) e in
-      foot-off (bad-head f) (not (leb (length f) (length out) && leb (promised f) (length list))) 5
-      (rw (le-leb (length f) (length out) (omega arith), le-leb (promised f) (length list) (omega (arith, promised-few f)))))
+      below-clear (bad-head f) (room (leb (length f) (length out) && leb (promised f) (length list)))
+      (room-clear (leb (length f) (length out) && leb (promised f) (length list)) (rw (le-leb (length f) (length out) (omega arith), le-leb (promised f) (length list) (omega (arith, promised-few f))))))
 
   -- what the salvage has left
-  module _ {r : Salvaged} {out′ : List ℕ} {list′ : List (List ℕ)} (p : S.left r out′ list′ ≡ S.outcome f out list) where
-    answered-as : (k : ℕ) → first-of (refusals f) ≡ k → S.left r out′ list′ ≡ answered k f out list
+  module _ {r : Salvaged} {out′ : List ℕ} {list′ : List (List ℕ)} (p : S.leaving r out′ list′ ≡ S.outcome f out list) where
+    answered-as : (k : ℕ) → first-of (refusals f) ≡ k → S.leaving r out′ list′ ≡ answered k f out list
     unfolding S.outcome
     answered-as k e = p ∙ ap (λ (n : ℕ). answered n f out list) (always-room ∙ e)
 
@@ -89,8 +75,8 @@ module _ (f out : List ℕ) (list : List (List ℕ)) (out-room : 65536 ≤ lengt
     reply-is = go (first-of (refusals f)) refl
       where
         go : (k : ℕ) → first-of (refusals f) ≡ k → r .reply ≡ first-of (refusals f)
-        go zero e = ap (λ (o : S.Left). o .answer .reply) (answered-as 0 e) ∙ sym e
-        go (suc k) e = ap (λ (o : S.Left). o .answer .reply) (answered-as (suc k) e) ∙ sym e
+        go zero e = ap (λ (o : S.Outcome). o .answer .reply) (answered-as 0 e) ∙ sym e
+        go (suc k) e = ap (λ (o : S.Outcome). o .answer .reply) (answered-as (suc k) e) ∙ sym e
 
     -- it is refused
     module _ (n : r .reply ≡ 0 → ⊥) where
@@ -115,14 +101,14 @@ module _ (f out : List ℕ) (list : List (List ℕ)) (out-room : 65536 ≤ lengt
         where
           go : (k : ℕ) → first-of (refusals f) ≡ k → out′ ≡ out
           go zero e = absurd (n (reply-is ∙ e))
-          go (suc k) e = ap (λ (o : S.Left). o .bytes) (answered-as (suc k) e)
+          go (suc k) e = ap (λ (o : S.Outcome). o .bytes) (answered-as (suc k) e)
 
       pub told-refused : {text : List ℕ} {b : ℕ} {text′ : List ℕ} → Put 0 (refused ++ decimal (r .reply) ++ line-end) text b text′
-          → left (record { bytes = 0; text = b }) out′ text′ ≡ outcome f out text
+          → leaving (record { bytes = 0; text = b }) out′ text′ ≡ outcome f out text
       unfolding outcome
       told-refused {text} q =
           let x = put-front q in
-          same-left
+          same-outcome
           (ap length (sym saved-none)) (x .0 ∙ ap length (sym account-refused))
           (out-same ∙ ap (λ (l : List ℕ). front l out) (sym saved-none))
           (x .1 ∙ ap (λ (l : List ℕ). front l text) (sym account-refused))
@@ -133,7 +119,7 @@ module _ (f out : List ℕ) (list : List (List ℕ)) (out-room : 65536 ≤ lengt
       none-refused = sym reply-is ∙ z
 
       answer-is : r ≡ salvaged 0 (length (mended f)) (length (dropped-of f)) (come f .missing) (come f .past / 8)
-      answer-is = ap (λ (o : S.Left). o .answer) (answered-as 0 none-refused)
+      answer-is = ap (λ (o : S.Outcome). o .answer) (answered-as 0 none-refused)
 
       saved-is : saved f ≡ mended f
       unfolding saved
@@ -144,7 +130,7 @@ module _ (f out : List ℕ) (list : List (List ℕ)) (out-room : 65536 ≤ lengt
       account-is = ap (λ (k : ℕ). account-by k f) none-refused
 
       listed : list′ ≡ front (dropped-of f) list
-      listed = ap (λ (o : S.Left). o .list) (answered-as 0 none-refused)
+      listed = ap (λ (o : S.Outcome). o .list) (answered-as 0 none-refused)
 
       pub dropped-in : r .dropped ≤ length list′
       dropped-in = omega (arith, ap (λ (s : Salvaged). s .dropped) answer-is, ap length listed ∙ length-append (dropped-of f) (drop (length (dropped-of f)) list))
@@ -175,21 +161,21 @@ module _ (f out : List ℕ) (list : List (List ℕ)) (out-room : 65536 ≤ lengt
         counts-room q = going-room (going-more going q)
 
         pub told-done : {b c : ℕ} {mid text′ : List ℕ} → Put 0 (lines (take (r .dropped) list′)) text b mid → Put b (counts (r .missing) (r .past)) mid c text′
-            → left (record { bytes = r .bytes; text = c }) out′ text′ ≡ outcome f out text
+            → leaving (record { bytes = r .bytes; text = c }) out′ text′ ≡ outcome f out text
         unfolding outcome
         told-done q s =
             let x = put-front (going-all (going-more (going-more going q) s)) in
-            same-left
+            same-outcome
             (ap (λ (s : Salvaged). s .bytes) answer-is ∙ ap length (sym saved-is)) (x .0)
-            (ap (λ (o : S.Left). o .bytes) (answered-as 0 none-refused) ∙ ap (λ (l : List ℕ). front l out) (sym saved-is))
+            (ap (λ (o : S.Outcome). o .bytes) (answered-as 0 none-refused) ∙ ap (λ (l : List ℕ). front l out) (sym saved-is))
             (x .1)
 
 -- both lengths are within the rows
-module _ (f out text : List ℕ) {r : Lengths} {out′ text′ : List ℕ} (p : left r out′ text′ ≡ outcome f out text) where
+module _ (f out text : List ℕ) {r : Lengths} {out′ text′ : List ℕ} (p : leaving r out′ text′ ≡ outcome f out text) where
   pub bytes-within : r .bytes ≤ length out′
   unfolding outcome
-  bytes-within = front-within (saved f) out (r .bytes) out′ (ap (λ (o : Left). o .lengths .bytes) p) (ap (λ (o : Left). o .bytes) p)
+  bytes-within = front-within (saved f) out (r .bytes) out′ (ap (λ (o : Outcome). o .lengths .bytes) p) (ap (λ (o : Outcome). o .bytes) p)
 
   pub text-within : r .text ≤ length text′
   unfolding outcome
-  text-within = front-within (account f) text (r .text) text′ (ap (λ (o : Left). o .lengths .text) p) (ap (λ (o : Left). o .text) p)
+  text-within = front-within (account f) text (r .text) text′ (ap (λ (o : Outcome). o .lengths .text) p) (ap (λ (o : Outcome). o .text) p)

@@ -1,7 +1,7 @@
 -- Worked accounts.
 use mathlib.Core.Path.{_≡_, refl}
 use mathlib.Core.List.{[], _∷_}
-use Rattle.grid.specs.Ladder.{first-of}
+use Rattle.replies.specs.Ladder.{first-of}
 use Rattle.grid.specs.Limits.{limit, on-grid, all-on-grid}
 use Rattle.setfile.specs.Bits.{value, field, bits}
 use Rattle.setfile.specs.Format.{complete, coordinates}

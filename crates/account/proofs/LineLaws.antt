@@ -12,11 +12,11 @@ use borrow.Author.Tests.{eq-eqb, ne-eqb}
 use Rattle.buffer.specs.Sets.{joined}
 use Rattle.salvage.specs.Fates.{dropped}
 use Rattle.report.specs.Text.{decimal, line-end}
-use Rattle.report.specs.Inside.{Put}
+use Rattle.report.specs.inside.Lines.{Put}
 use Rattle.report.proofs.PutLaws.{Going, going-none, going-room, going-more, going-all, going-same}
 use Rattle.report.proofs.TextLaws.{decimal-length}
 use Rattle.account.specs.Words.{contour, dropped-as, off-the-grid, no-shape, why, line, lines}
-use Rattle.account.specs.Inside.{Numbers}
+use Rattle.account.specs.inside.Lines.{Numbers}
 
 pub why-off : (r : ℕ) → r ≡ 3 → why r ≡ off-the-grid
 unfolding why

@@ -4,8 +4,8 @@ use mathlib.Core.List.{List, [], _∷_, _++_}
 use Prim.Native.Nat.{ℕ, zero, suc, _+_, _/_}
 use lib.Dec.{eqb}
 use lib.ListN.{length, getD}
-use Rattle.grid.specs.Ladder.{Rung, first-of}
-use Rattle.grid.specs.Rows.{front}
+use Rattle.replies.specs.Ladder.{Rung, first-of}
+use Rattle.rows.specs.Rows.{front}
 use Rattle.setfile.specs.Format.{bad-head, come}
 use Rattle.setfile.specs.Reading.{long}
 use Rattle.salvage.specs.Outcome.{dropped-of, mended}
@@ -74,15 +74,15 @@ unfoldable pub account : List ℕ → List ℕ
 account f = account-by (first-of (refusals f)) f
 
 -- both lengths, and both rows as they are left
-pub record Left : Type 0 where
+pub record Outcome : Type 0 where
   pub lengths : Lengths
   pub bytes : List ℕ
   pub text : List ℕ
 
-abbrev pub left : Lengths → List ℕ → List ℕ → Left
-left r bytes text = record { lengths = r; bytes = bytes; text = text }
+abbrev pub leaving : Lengths → List ℕ → List ℕ → Outcome
+leaving r bytes text = record { lengths = r; bytes = bytes; text = text }
 
 -- the file in front of one row, and the account in front of the other
-unfoldable pub outcome : List ℕ → List ℕ → List ℕ → Left
+unfoldable pub outcome : List ℕ → List ℕ → List ℕ → Outcome
 outcome f out text =
-    left (record { bytes = length (saved f); text = length (account f) }) (front (saved f) out) (front (account f) text)
+    leaving (record { bytes = length (saved f); text = length (account f) }) (front (saved f) out) (front (account f) text)

@@ -6,8 +6,9 @@ use lib.IntN.{ℤ, pos, negsuc}
 use Rattle.integers.specs.Modulo.{mod64}
 use Rattle.grid.specs.Limits.{limit, most, on-grid, all-on-grid}
 use Rattle.grid.specs.Points.{points}
+use Rattle.grid.specs.Edges.{cross}
 use Rattle.grid.specs.Area.{around, exact, wrapped}
-use Rattle.grid.specs.Ladder.{first-of}
+use Rattle.replies.specs.Ladder.{first-of}
 use Rattle.area.specs.Answers.{doubled, half}
 
 -- both areas of a contour are answered
@@ -19,7 +20,7 @@ abbrev Refused : List ℤ → ℕ → Type 0
 Refused row k = (doubled row ≡ record { reply = k; value = pos 0 }) × (half row ≡ record { reply = k; value = pos 0 })
 
 at-the-limit : Areas (pos 536870912 ∷ negsuc 536870911 ∷ []) (pos 0) (pos 0)
-unfolding doubled half first-of limit most on-grid all-on-grid points around exact wrapped mod64
+unfolding doubled half first-of limit most on-grid all-on-grid points cross around exact wrapped mod64
 at-the-limit = (refl, refl)
 
 past-the-limit : Refused (pos 536870913 ∷ pos 0 ∷ []) 3

@@ -4,20 +4,27 @@ use mathlib.Core.List.{List, [], _∷_}
 use Prim.Native.Nat.{ℕ, zero, suc, _-_, _<_}
 use native.Mathlib.Omega.{arith}
 use lib.ListN.{length, getD}
-use lib.IntN.{pos, _+ℤ_}
+use lib.IntN.{ℤ, pos, _+ℤ_}
 use Rattle.integers.specs.Polynomial.{Po, #, num, _:+_, _:-_, _:*_}
 use Rattle.integers.proofs.Polynomial.{ring, ring-by}
 use Rattle.grid.specs.declared.Point.{Point}
-use Rattle.grid.specs.Points.{origin, cross, bend}
-use Rattle.grid.specs.Neighbours.{following, preceding, leaving-out}
+use Rattle.grid.specs.Points.{origin}
+use Rattle.grid.specs.Edges.{from-origin, cross}
+use Rattle.grid.specs.Corners.{cross-at, corner-in}
+use Rattle.grid.specs.Neighbours.{leaving-out}
 use Rattle.grid.specs.Area.{around, exact}
+use Rattle.grid.proofs.AroundLaws.{corner}
 
 abbrev :cross : Po → Po → Po → Po → Po
 :cross ax ay bx by = ax :* by :- ay :* bx
 
+-- what a pair of points adds to the area
+abbrev pair : Point → Point → ℤ
+pair a b = cross (from-origin a) (from-origin b)
+
 -- the way from a to c by b, and the straight one
-by-way : (a b c : Point) → cross a b +ℤ cross b c ≡ cross a c +ℤ bend a b c
-unfolding bend
+by-way : (a b c : Point) → pair a b +ℤ pair b c ≡ pair a c +ℤ cross-at (corner a b c)
+unfolding cross
 by-way a b c =
     ring
     (:cross (# 0) (# 1) (# 2) (# 3) :+ :cross (# 2) (# 3) (# 4) (# 5))
@@ -25,16 +32,16 @@ by-way a b c =
     (a .x ∷ a .y ∷ b .x ∷ b .y ∷ c .x ∷ c .y ∷ []) refl
 
 -- a triangle may be read from any of its points
-pub bend-turned : (a b c : Point) → bend a b c ≡ bend b c a
-unfolding bend
-bend-turned a b c =
+pub cross-turned : (a b c : Point) → cross-at (corner a b c) ≡ cross-at (corner b c a)
+unfolding cross
+cross-turned a b c =
     ring
     (:cross (# 2 :- # 0) (# 3 :- # 1) (# 4 :- # 2) (# 5 :- # 3))
     (:cross (# 4 :- # 2) (# 5 :- # 3) (# 0 :- # 4) (# 1 :- # 5))
     (a .x ∷ a .y ∷ b .x ∷ b .y ∷ c .x ∷ c .y ∷ []) refl
 
-pub three-points : (a b c : Point) → exact (a ∷ b ∷ c ∷ []) ≡ bend a b c
-unfolding exact around bend
+pub three-points : (a b c : Point) → exact (a ∷ b ∷ c ∷ []) ≡ cross-at (corner a b c)
+unfolding exact around cross
 three-points a b c =
     ring
     (:cross (# 0) (# 1) (# 2) (# 3) :+ (:cross (# 2) (# 3) (# 4) (# 5) :+ :cross (# 4) (# 5) (# 0) (# 1)))
@@ -43,7 +50,7 @@ three-points a b c =
 
 -- under three points there is no area
 pub few-points : (l : List Point) → length l < 3 → exact l ≡ pos 0
-unfolding exact around
+unfolding exact around cross
 few-points [] h = refl
 few-points (a ∷ []) h = ring (:cross (# 0) (# 1) (# 0) (# 1)) (num (pos 0)) (a .x ∷ a .y ∷ []) refl
 few-points (a ∷ b ∷ []) h = ring (:cross (# 0) (# 1) (# 2) (# 3) :+ :cross (# 2) (# 3) (# 0) (# 1)) (num (pos 0)) (a .x ∷ a .y ∷ b .x ∷ b .y ∷ []) refl
@@ -51,38 +58,38 @@ few-points (a ∷ b ∷ c ∷ l) h = absurd (omega arith)
 
 -- on the way from a, number j of the points is left out
 along-removed : (o a : Point) (s : List Point) (j : ℕ) → j < length s
-    → around o a s ≡ around o a (leaving-out s j) +ℤ bend (getD (a ∷ s) j origin) (getD s j origin) (getD s (suc j) o)
+    → around o a s ≡ around o a (leaving-out s j) +ℤ cross-at (corner (getD (a ∷ s) j origin) (getD s j origin) (getD s (suc j) o))
 unfolding around
 along-removed o a [] j h = absurd (omega arith)
 along-removed o a (b ∷ []) zero h = by-way a b o
 along-removed o a (b ∷ d ∷ s) zero h =
     ring-by (# 0 :+ (# 1 :+ # 2)) ((# 3 :+ # 2) :+ # 4) (num (pos 1)) (# 0 :+ # 1) (# 3 :+ # 4)
-    (cross a b ∷ cross b d ∷ around o d s ∷ cross a d ∷ bend a b d ∷ []) (by-way a b d) refl
+    (pair a b ∷ pair b d ∷ around o d s ∷ pair a d ∷ cross-at (corner a b d) ∷ []) (by-way a b d) refl
 along-removed o a (b ∷ s) (suc j) h =
     ring-by (# 0 :+ # 1) ((# 0 :+ # 2) :+ # 3) (num (pos 1)) (# 1) (# 2 :+ # 3)
-    (cross a b ∷ around o b s ∷ around o b (leaving-out s j) ∷ bend (getD (b ∷ s) j origin) (getD s j origin) (getD s (suc j) o) ∷ [])
+    (pair a b ∷ around o b s ∷ around o b (leaving-out s j) ∷ cross-at (corner (getD (b ∷ s) j origin) (getD s j origin) (getD s (suc j) o)) ∷ [])
     (along-removed o b s j (omega arith)) refl
 
 -- the way back goes to another point
-back-to : (o p a : Point) (s : List Point) → around o a s +ℤ cross (getD (a ∷ s) (length s) origin) p ≡ around p a s +ℤ cross (getD (a ∷ s) (length s) origin) o
+back-to : (o p a : Point) (s : List Point) → around o a s +ℤ pair (getD (a ∷ s) (length s) origin) p ≡ around p a s +ℤ pair (getD (a ∷ s) (length s) origin) o
 unfolding around
-back-to o p a [] = ring (# 0 :+ # 1) (# 1 :+ # 0) (cross a o ∷ cross a p ∷ []) refl
+back-to o p a [] = ring (# 0 :+ # 1) (# 1 :+ # 0) (pair a o ∷ pair a p ∷ []) refl
 back-to o p a (b ∷ s) =
     let l : Point = getD (b ∷ s) (length s) origin in
     ring-by ((# 0 :+ # 1) :+ # 2) ((# 0 :+ # 3) :+ # 4) (num (pos 1)) (# 1 :+ # 2) (# 3 :+ # 4)
-    (cross a b ∷ around o b s ∷ cross l p ∷ around p b s ∷ cross l o ∷ []) (back-to o p b s) refl
+    (pair a b ∷ around o b s ∷ pair l p ∷ around p b s ∷ pair l o ∷ []) (back-to o p b s) refl
 
-first-removed : (o b : Point) (s : List Point) → exact (o ∷ b ∷ s) ≡ exact (b ∷ s) +ℤ bend (getD (b ∷ s) (length s) origin) o b
+first-removed : (o b : Point) (s : List Point) → exact (o ∷ b ∷ s) ≡ exact (b ∷ s) +ℤ cross-at (corner (getD (b ∷ s) (length s) origin) o b)
 unfolding exact around
 first-removed o b s =
     let l : Point = getD (b ∷ s) (length s) origin in
     ring-by (# 0 :+ # 1) (# 2 :+ # 3) (num (pos 1)) ((# 1 :+ # 4) :+ (# 5 :+ # 0)) ((# 2 :+ # 5) :+ (# 4 :+ # 3))
-    (cross o b ∷ around o b s ∷ around b b s ∷ bend l o b ∷ cross l b ∷ cross l o ∷ [])
+    (pair o b ∷ around o b s ∷ around b b s ∷ cross-at (corner l o b) ∷ pair l b ∷ pair l o ∷ [])
     (ap₂ _+ℤ_ (back-to o b b s) (by-way l o b)) refl
 
 -- whichever vertex goes, the first and the last too
 pub removed : (points : List Point) (j : ℕ) → j < length points → 1 < length points
-    → exact points ≡ exact (leaving-out points j) +ℤ bend (preceding origin points j) (getD points j origin) (following origin points j)
+    → exact points ≡ exact (leaving-out points j) +ℤ cross-at (corner-in points j)
 unfolding exact
 removed [] j h k = absurd (omega arith)
 removed (o ∷ []) j h k = absurd (omega arith)

@@ -10,6 +10,7 @@ use Rattle.integers.specs.Polynomial.{#, _:+_, _:-_, _:*_}
 use Rattle.integers.proofs.Modulo.{mod64-add, mod64-lt}
 use Rattle.integers.proofs.Polynomial.{ring}
 use Rattle.grid.specs.Points.{at, points}
+use Rattle.grid.specs.Edges.{cross}
 use Rattle.grid.specs.Area.{around, exact}
 use Rattle.grid.specs.Domain.{Contour}
 use Rattle.grid.proofs.RowLaws.{points-length, points-more, points-done}
@@ -41,7 +42,7 @@ module _ {row : List ℤ} {n : ℕ} (c : Contour row n) where
 
   -- the first share, and the others
   whole : 2 ≤ n → exact (points row) ≡ share row (n - 1) 0 1 +ℤ after row n 0
-  unfolding exact around
+  unfolding exact around cross
   whole h =
       let a = at row 0 in
       let b = at row 1 in
@@ -54,7 +55,7 @@ module _ {row : List ℤ} {n : ℕ} (c : Contour row n) where
 
   -- the share of position i + 1, and those after it
   next : (i : ℕ) → i + 2 < n → after row n i ≡ share row i (i + 1) (i + 2) +ℤ after row n (i + 1)
-  unfolding around
+  unfolding around cross
   next i h =
       let a = at row i in
       let b = at row (i + 1) in
@@ -70,7 +71,7 @@ module _ {row : List ℤ} {n : ℕ} (c : Contour row n) where
 
   -- the closing share is the last
   closing : 2 ≤ n → after row n (n - 2) ≡ share row (n - 2) (n - 1) 0
-  unfolding around
+  unfolding around cross
   closing h =
       let a = at row (n - 2) in
       let b = at row (n - 1) in

@@ -5,7 +5,7 @@ use lib.Dec.{eqb}
 use lib.IntN.{ℤ, pos}
 use Rattle.grid.specs.Points.{points}
 use Rattle.grid.specs.Area.{reported, halved}
-use Rattle.grid.specs.Ladder.{Rung, first-of}
+use Rattle.replies.specs.Ladder.{Rung, first-of}
 use Rattle.grid.specs.Domain.{count, domain}
 use Rattle.area.specs.declared.answer.Area.{Area}
 

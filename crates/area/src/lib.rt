@@ -1,91 +1,40 @@
 // The doubled and the halved area of a contour.
 mod answer;
+pub mod inner;
 
 pub use answer::Area;
 ghost use mathlib.Core.Path.{_≡_};
-ghost use mathlib.Core.Bool.{true};
-ghost use Prim.Native.Nat.{_*_, _<_, _^_};
-ghost use lib.IntN.{pos, _+ℤ_, _*ℤ_};
-ghost use Rattle.integers.specs.Bound.{In};
-ghost use Rattle.integers.specs.Modulo.{mod64};
-ghost use Rattle.grid.specs.Limits.{limit, on-grid};
-ghost use Rattle.grid.specs.Points.{points as points-of};
-ghost use Rattle.grid.specs.Area.{exact};
-ghost use Rattle.grid.specs.Domain.{Contour};
-ghost use Rattle.area.specs.Answers.{doubled, half};
-ghost use Rattle.area.specs.Shares.{share as share-of, Vertices};
+ghost use Rattle.replies.specs.Ladder.{first-of};
+ghost use Rattle.area.specs.Answers.{refusals, doubled, half};
 
-// The sum of total and t modulo 2^64.
-fn added(total: u64, t: i64) -> u64
-    requires { ⌜ In (2 ^ 62) t ⌝ }
-    ensures { λ r. ⌜ r ≡ mod64 (pos total +ℤ t) ⌝ }
+// The number of the first refusal, or 0.
+pub fn refusal(points: &[i32]) -> u32
+    ensures { λ r. ⌜ r ≡ first-of (refusals (now (points .entry))) ⌝ }
 {
-    if t < 0 {
-        std::num::wrapping_sub_u64(total, (0 - t) as u64)
-    } else {
-        std::num::wrapping_add_u64(total, t as u64)
+    let domain = grid::domain(points);
+    if domain != 0 {
+        return domain;
     }
-}
-
-// A coordinate times how far another goes.
-fn product(x: i32, dy: i64) -> i64
-    requires { ⌜ (on-grid x ≡ true) × In (2 * limit) dy ⌝ }
-    ensures { λ r. ⌜ r ≡ x *ℤ dy ⌝ }
-{
-    integers::wide(x) * dy
-}
-
-// The x of a position, times how far y goes from the position before it to the one after it.
-fn share(points: &[i32], before: usize, here: usize, after: usize) -> i64
-    requires { ⌜ Vertices (now points) before here after ⌝ }
-    ensures { λ r. ⌜ r ≡ share-of (now (points .entry)) before here after ⌝ }
-{
-    let at = grid::point_at(points, here);
-    let across = grid::edge_at(points, before, after);
-    product(at.x, across.dy)
-}
-
-// The exact doubled area modulo 2^64, one product a point: the shares of all positions add up to it.
-fn total(points: &[i32], n: usize) -> u64
-    requires { ⌜ Contour (now points) n × (0 < n) ⌝ }
-    ensures { λ r. ⌜ r ≡ mod64 (exact (points-of (now (points .entry)))) ⌝ }
-{
-    if n < 3 {
-        return 0;
+    if points.len() / 2 == 0 {
+        return replies::EMPTY;
     }
-    let mut sum = added(
-        added(0, share(points, n - 1, 0, 1)),
-        share(points, n - 2, n - 1, 0),
-    );
-    let mut i = n - 2;
-    while 0 < i {
-        sum = added(sum, share(points, i - 1, i, i + 1));
-        i -= 1;
-    }
-    sum
+    replies::DONE
 }
 
 // The doubled area: counter-clockwise is positive.
 pub fn area_two(points: &[i32]) -> Area
     ensures { λ r. ⌜ r ≡ doubled (now (points .entry)) ⌝ }
 {
-    let refusal = grid::domain(points);
-    if refusal != 0 {
+    let refused = refusal(points);
+    if refused != 0 {
         return Area {
-            reply: refusal,
-            value: 0,
-        };
-    }
-    let n = points.len() / 2;
-    if n == 0 {
-        return Area {
-            reply: grid::reply::EMPTY,
+            reply: refused,
             value: 0,
         };
     }
     Area {
-        reply: grid::reply::DONE,
-        value: integers::signed_64(total(points, n)),
+        reply: replies::DONE,
+        value: inner::doubled_area(points),
     }
 }
 
@@ -93,9 +42,15 @@ pub fn area_two(points: &[i32]) -> Area
 pub fn area(points: &[i32]) -> Area
     ensures { λ r. ⌜ r ≡ half (now (points .entry)) ⌝ }
 {
-    let two = area_two(points);
+    let refused = refusal(points);
+    if refused != 0 {
+        return Area {
+            reply: refused,
+            value: 0,
+        };
+    }
     Area {
-        reply: two.reply,
-        value: two.value / 2,
+        reply: replies::DONE,
+        value: inner::doubled_area(points) / 2,
     }
 }

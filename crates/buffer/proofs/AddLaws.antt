@@ -8,15 +8,16 @@ use lib.Dec.{leb}
 use lib.ListN.{length, length-append}
 use lib.IntN.{ℤ}
 use Rattle.grid.specs.Limits.{most}
-use Rattle.grid.specs.Ladder.{first-of}
+use Rattle.replies.specs.Ladder.{first-of, so-far, room}
 use Rattle.grid.specs.Domain.{count}
 use Rattle.buffer.specs.declared.answer.Packed.{Packed}
 use Rattle.buffer.specs.declared.ranges.Span.{Span}
-use Rattle.buffer.specs.Spans.{spans, rows, sound, moved, Movable}
+use Rattle.buffer.specs.Spans.{spans, rows, sound, moved}
+use Rattle.buffer.specs.inside.Ranges.{Movable}
 use Rattle.buffer.specs.Sets.{whole, every}
-use Rattle.grid.specs.Rows.{front}
-use Rattle.buffer.specs.Refusals.{both, told, room}
-use Rattle.buffer.specs.Answers.{packed, left}
+use Rattle.rows.specs.Rows.{front}
+use Rattle.buffer.specs.Refusals.{both}
+use Rattle.buffer.specs.Answers.{packed, leaving}
 use Rattle.buffer.specs.Contours as C
 use Rattle.buffer.specs.Shapes as S
 use Rattle.buffer.proofs.SpanLaws.{movable, one-movable}
@@ -33,11 +34,11 @@ module _ (p : List ℤ) (cs : List (List ℕ)) (more out : List ℤ) (records : 
   enlarged-length = added-length cs ((0 ∷ count more ∷ []) ∷ []) (count p)
 
   module _ (s : Bool) (k r : ℕ) (g : s ≡ sound (spans cs) (count p)) (e : k ≡ first-of (both p more s))
-      (f : r ≡ first-of (told k ++ room (leb (length p + length more) (length out) && leb (length cs + 1) (length records)))) where
+      (f : r ≡ first-of (so-far k ++ room (leb (length p + length more) (length out) && leb (length cs + 1) (length records)))) where
     judged : k ≡ first-of (both p more (sound (spans cs) (count p)))
     judged = e ∙ ap (λ (b : Bool). first-of (both p more b)) g
 
-    pub one-more-refused : (w : Packed) → w ≡ packed r 0 0 0 → (r ≡ 0 → ⊥) → left w out records [] ≡ C.with-one-more p cs more out records
+    pub one-more-refused : (w : Packed) → w ≡ packed r 0 0 0 → (r ≡ 0 → ⊥) → leaving w out records [] ≡ C.with-one-more p cs more out records
     unfolding enlarged
     one-more-refused w h n =
         contours-refused (p ++ more) enlarged out records _ _ (sym (length-append p more)) enlarged-length k r f w h n
@@ -60,7 +61,7 @@ module _ (p : List ℤ) (cs : List (List ℕ)) (more out : List ℤ) (records : 
           (fits .contours-in, movable cs (count p) 0 (a .sound) (omega (arith, a .few)), one-movable (count more) (count p) (omega (arith, a .few)))
 
       pub one-more-done : (o : List ℤ) (d : List (List ℕ)) → o ≡ front (p ++ more) out → d ≡ front (rows (spans cs ++ moved (count p) (whole more) ∷ [])) records
-          → left (packed 0 (count p + count more) (length cs + 1) 0) o d [] ≡ C.with-one-more p cs more out records
+          → leaving (packed 0 (count p + count more) (length cs + 1) 0) o d [] ≡ C.with-one-more p cs more out records
       unfolding enlarged
       one-more-done o d h i =
           contours-done (p ++ more) enlarged out records _ _ (sym (length-append p more)) enlarged-length k r f _ o d z (count-append p more (accepted .even)) h i
@@ -83,11 +84,11 @@ module _ (p : List ℤ) (cs ss : List (List ℕ)) (more : List ℤ) (mcs : List 
   shapes-length = added-length ss ((0 ∷ length mcs ∷ []) ∷ []) (length cs)
 
   module _ (s : Bool) (k r : ℕ) (g : s ≡ S.both-sound p cs ss more mcs) (e : k ≡ first-of (both p more s))
-      (f : r ≡ first-of (told k ++ room (leb (length p + length more) (length out) && leb (length cs + length mcs) (length records) && leb (length ss + 1) (length groups)))) where
+      (f : r ≡ first-of (so-far k ++ room (leb (length p + length more) (length out) && leb (length cs + length mcs) (length records) && leb (length ss + 1) (length groups)))) where
     shape-judged : k ≡ first-of (both p more (S.both-sound p cs ss more mcs))
     shape-judged = e ∙ ap (λ (b : Bool). first-of (both p more b)) g
 
-    pub shape-more-refused : (w : Packed) → w ≡ packed r 0 0 0 → (r ≡ 0 → ⊥) → left w out records groups ≡ S.with-one-more p cs ss more mcs out records groups
+    pub shape-more-refused : (w : Packed) → w ≡ packed r 0 0 0 → (r ≡ 0 → ⊥) → leaving w out records groups ≡ S.with-one-more p cs ss more mcs out records groups
     unfolding all-contours all-shapes
     shape-more-refused w h n =
         packing-refused (p ++ more) all-contours all-shapes out records groups _ _ _ (sym (length-append p more)) contours-length shapes-length k r f w h n
@@ -117,7 +118,7 @@ module _ (p : List ℤ) (cs ss : List (List ℕ)) (more : List ℤ) (mcs : List 
 
       pub shape-more-done : (o : List ℤ) (c d : List (List ℕ)) → o ≡ front (p ++ more) out → c ≡ front (rows (spans cs ++ map (moved (count p)) (spans mcs))) records
           → d ≡ front (rows (spans ss ++ moved (length cs) (every mcs) ∷ [])) groups
-          → left (packed 0 (count p + count more) (length cs + length mcs) (length ss + 1)) o c d ≡ S.with-one-more p cs ss more mcs out records groups
+          → leaving (packed 0 (count p + count more) (length cs + length mcs) (length ss + 1)) o c d ≡ S.with-one-more p cs ss more mcs out records groups
       unfolding all-contours all-shapes
       shape-more-done o c d h i j =
           packing-done (p ++ more) all-contours all-shapes out records groups _ _ _ (sym (length-append p more)) contours-length shapes-length k r f _ o c d z (count-append p more (shape-accepted .even)) h i j

@@ -8,23 +8,17 @@ use lib.Dec.{T, leb, eqb, eqb·suc-zero}
 use lib.ListN.{length}
 use lib.IntN.{ℤ}
 use borrow.Author.Tests.{leb-true}
-use Rattle.grid.specs.Ladder.{Rung, first-of}
+use Rattle.replies.specs.Ladder.{Rung, first-of, room, so-far}
 use Rattle.grid.specs.Domain.{count}
-use Rattle.grid.specs.Verdicts.{verdict}
+use Rattle.replies.specs.Verdicts.{verdict}
 use Rattle.integers.proofs.Logic.{and-left, and-right}
-use Rattle.grid.proofs.LadderLaws.{numbered, first-is}
-use Rattle.grid.proofs.LadderLaws.First.{here}
+use Rattle.replies.proofs.LadderLaws.{numbered, first-is, so-far-then, clear-of}
+use Rattle.replies.proofs.LadderLaws.First.{here}
 use Rattle.buffer.specs.declared.answer.Packed.{Packed}
 use Rattle.buffer.specs.declared.ranges.Span.{Span}
 use Rattle.buffer.specs.Spans.{rows}
-use Rattle.grid.specs.Rows.{front}
-use Rattle.buffer.specs.Refusals.{room, told}
-use Rattle.buffer.specs.Answers.{counted, packed, left, enough, outcome, stored}
-use Rattle.buffer.proofs.RefusalLaws.{roomed}
-
-pub verdict-is : (r : ℕ) (b : Bool) → record { reply = r; yes = eqb r 0 && b } ≡ verdict r b
-verdict-is zero b = refl
-verdict-is (suc r) b = rw (eqb·suc-zero r)
+use Rattle.rows.specs.Rows.{front}
+use Rattle.buffer.specs.Answers.{counted, packed, leaving, enough, outcome, stored}
 
 pub count-given : (r n : ℕ) → r ≡ 0 → record { reply = r; count = n } ≡ counted r n
 count-given r n e = rw e
@@ -40,22 +34,22 @@ module _ (p : List ℤ) (cs ss : List Span) (out : List ℤ) (contours shapes : 
     unfolding stored
     outcome-is = rw (f, e)
 
-    pub stored-refused : (a : Packed) → a ≡ packed r 0 0 0 → (r ≡ 0 → ⊥) → left a out contours shapes ≡ stored l p cs ss out contours shapes
-    stored-refused a g n = ap (λ (a : Packed). left a out contours shapes) g ∙ go r n ∙ outcome-is
+    pub stored-refused : (a : Packed) → a ≡ packed r 0 0 0 → (r ≡ 0 → ⊥) → leaving a out contours shapes ≡ stored l p cs ss out contours shapes
+    stored-refused a g n = ap (λ (a : Packed). leaving a out contours shapes) g ∙ go r n ∙ outcome-is
       where
-        go : (r : ℕ) → (r ≡ 0 → ⊥) → left (packed r 0 0 0) out contours shapes ≡ outcome r p cs ss out contours shapes
+        go : (r : ℕ) → (r ≡ 0 → ⊥) → leaving (packed r 0 0 0) out contours shapes ≡ outcome r p cs ss out contours shapes
         go zero n = absurd (n refl)
         go (suc r) n = refl
 
     pub stored-done : (o : List ℤ) (c s : List (List ℕ)) → r ≡ 0 → o ≡ front p out → c ≡ front (rows cs) contours → s ≡ front (rows ss) shapes
-        → left (packed 0 (count p) (length cs) (length ss)) o c s ≡ stored l p cs ss out contours shapes
+        → leaving (packed 0 (count p) (length cs) (length ss)) o c s ≡ stored l p cs ss out contours shapes
     stored-done o c s z g h k = rw (g, h, k) (ap (λ (k : ℕ). outcome k p cs ss out contours shapes) (sym z) ∙ outcome-is)
 
   -- only the number of the first refusal counts
-  pub stored-told : (l : List Rung) → T (numbered l) → (r : ℕ) → r ≡ first-of l → stored (told r) p cs ss out contours shapes ≡ stored l p cs ss out contours shapes
+  pub stored-told : (l : List Rung) → T (numbered l) → (r : ℕ) → r ≡ first-of l → stored (so-far r) p cs ss out contours shapes ≡ stored l p cs ss out contours shapes
   stored-told l t r e =
-      sym (outcome-is (told r) _ refl _ refl)
-      ∙ ap (λ (k : ℕ). outcome k p cs ss out contours shapes) (ap (λ (k : ℕ). first-of (told k ++ room (enough p cs ss out contours shapes))) e ∙ roomed l (enough p cs ss out contours shapes) t)
+      sym (outcome-is (so-far r) _ refl _ refl)
+      ∙ ap (λ (k : ℕ). outcome k p cs ss out contours shapes) (so-far-then l (room (enough p cs ss out contours shapes)) t r _ e refl)
       ∙ outcome-is l _ refl _ refl
 
 -- a set that there is room for
@@ -65,23 +59,14 @@ pub record Fits (k a b c : ℕ) (out : List ℤ) (contours shapes : List (List �
   pub contours-in : b ≤ length contours
   pub shapes-in : c ≤ length shapes
 
-pub clear-of : (k : ℕ) (b : Bool) → first-of (told k ++ room b) ≡ 0 → (k ≡ 0) × (b ≡ true)
-unfolding first-of
-clear-of zero true e = (refl, refl)
-clear-of zero false e = absurd (omega arith)
-clear-of (suc k) b e = absurd (no (first-is (told (suc k) ++ room b) (suc k) (here (ap not (eqb·suc-zero k))) ∙ e))
-  where
-    no : suc k ≡ 0 → ⊥
-    no h = omega arith
-
 module _ (p : List ℤ) (cs ss : List Span) (out : List ℤ) (contours shapes : List (List ℕ)) (a b c : ℕ)
     (pa : a ≡ length p) (cb : b ≡ length cs) (sc : c ≡ length ss) (k r : ℕ)
-    (f : r ≡ first-of (told k ++ room (leb a (length out) && leb b (length contours) && leb c (length shapes)))) where
+    (f : r ≡ first-of (so-far k ++ room (leb a (length out) && leb b (length contours) && leb c (length shapes)))) where
   enough-is : (leb a (length out) && leb b (length contours) && leb c (length shapes)) ≡ enough p cs ss out contours shapes
   enough-is = rw (pa, cb, sc)
 
-  pub packing-refused : (w : Packed) → w ≡ packed r 0 0 0 → (r ≡ 0 → ⊥) → left w out contours shapes ≡ stored (told k) p cs ss out contours shapes
-  packing-refused = stored-refused p cs ss out contours shapes (told k) _ enough-is r f
+  pub packing-refused : (w : Packed) → w ≡ packed r 0 0 0 → (r ≡ 0 → ⊥) → leaving w out contours shapes ≡ stored (so-far k) p cs ss out contours shapes
+  packing-refused = stored-refused p cs ss out contours shapes (so-far k) _ enough-is r f
 
   pub packing-fits : r ≡ 0 → Fits k a b c out contours shapes
   packing-fits z =
@@ -97,23 +82,23 @@ module _ (p : List ℤ) (cs ss : List Span) (out : List ℤ) (contours shapes : 
       }
 
   pub packing-done : (n : ℕ) (o : List ℤ) (d s : List (List ℕ)) → r ≡ 0 → n ≡ count p → o ≡ front p out → d ≡ front (rows cs) contours → s ≡ front (rows ss) shapes
-      → left (packed 0 n b c) o d s ≡ stored (told k) p cs ss out contours shapes
+      → leaving (packed 0 n b c) o d s ≡ stored (so-far k) p cs ss out contours shapes
   packing-done n o d s z h g i j =
-      rw (h, cb, sc) (stored-done p cs ss out contours shapes (told k) _ enough-is r f o d s z g i j)
+      rw (h, cb, sc) (stored-done p cs ss out contours shapes (so-far k) _ enough-is r f o d s z g i j)
 
 -- the same of a contour set, which has no row of shapes
 module _ (p : List ℤ) (cs : List Span) (out : List ℤ) (contours : List (List ℕ)) (a b : ℕ)
     (pa : a ≡ length p) (cb : b ≡ length cs) (k r : ℕ)
-    (f : r ≡ first-of (told k ++ room (leb a (length out) && leb b (length contours)))) where
-  no-shapes : r ≡ first-of (told k ++ room (leb a (length out) && leb b (length contours) && true))
-  no-shapes = f ∙ ap (λ (t : Bool). first-of (told k ++ room t)) (sym (and-true (leb a (length out) && leb b (length contours))))
+    (f : r ≡ first-of (so-far k ++ room (leb a (length out) && leb b (length contours)))) where
+  no-shapes : r ≡ first-of (so-far k ++ room (leb a (length out) && leb b (length contours) && true))
+  no-shapes = f ∙ ap (λ (t : Bool). first-of (so-far k ++ room t)) (sym (and-true (leb a (length out) && leb b (length contours))))
 
-  pub contours-refused : (w : Packed) → w ≡ packed r 0 0 0 → (r ≡ 0 → ⊥) → left w out contours [] ≡ stored (told k) p cs [] out contours []
+  pub contours-refused : (w : Packed) → w ≡ packed r 0 0 0 → (r ≡ 0 → ⊥) → leaving w out contours [] ≡ stored (so-far k) p cs [] out contours []
   contours-refused = packing-refused p cs [] out contours [] a b 0 pa cb refl k r no-shapes
 
   pub contours-fit : r ≡ 0 → Fits k a b 0 out contours []
   contours-fit = packing-fits p cs [] out contours [] a b 0 pa cb refl k r no-shapes
 
   pub contours-done : (n : ℕ) (o : List ℤ) (d : List (List ℕ)) → r ≡ 0 → n ≡ count p → o ≡ front p out → d ≡ front (rows cs) contours
-      → left (packed 0 n b 0) o d [] ≡ stored (told k) p cs [] out contours []
+      → leaving (packed 0 n b 0) o d [] ≡ stored (so-far k) p cs [] out contours []
   contours-done n o d z h g i = packing-done p cs [] out contours [] a b 0 pa cb refl k r no-shapes n o d [] z h g i refl

@@ -5,12 +5,12 @@ use mathlib.Core.List.{List, [], _∷_, _++_}
 use Prim.Native.Nat.{ℕ}
 use lib.IntN.{ℤ}
 use Rattle.grid.specs.Limits.{limit, most, on-grid, all-on-grid}
-use Rattle.grid.specs.Ladder.{first-of}
+use Rattle.replies.specs.Ladder.{first-of}
 use Rattle.grid.specs.Cases.{row}
 use Rattle.buffer.specs.Spans.{spans, sound-from, sound, laid}
 use Rattle.buffer.specs.Sets.{joined, contours, contour-spans}
-use Rattle.buffer.specs.Parts.{Part, lying}
-use Rattle.buffer.specs.Answers.{packed, left, stored}
+use Rattle.rows.specs.Parts.{Part, lying}
+use Rattle.buffer.specs.Answers.{packed, leaving, stored}
 use Rattle.buffer.specs.Contours as C
 use Rattle.buffer.specs.Shapes as S
 
@@ -99,18 +99,18 @@ room = row (9 ∷ 9 ∷ 9 ∷ 9 ∷ 9 ∷ 9 ∷ 9 ∷ 9 ∷ 9 ∷ [])
 
 -- a point added to a triangle: the rest of the rows is as it was
 added : C.with-one-more triangle (0 to 3 ∷ []) point room (9 to 9 ∷ 9 to 9 ∷ 9 to 9 ∷ [])
-    ≡ left (packed 0 4 2 0) (four ++ row (9 ∷ [])) (0 to 3 ∷ 3 to 4 ∷ 9 to 9 ∷ []) []
+    ≡ leaving (packed 0 4 2 0) (four ++ row (9 ∷ [])) (0 to 3 ∷ 3 to 4 ∷ 9 to 9 ∷ []) []
 unfolding limit most on-grid all-on-grid first-of sound-from stored
 added = refl
 
 -- one record too few
-cramped : C.with-one-more triangle (0 to 3 ∷ []) point room (9 to 9 ∷ []) ≡ left (packed 5 0 0 0) room (9 to 9 ∷ []) []
+cramped : C.with-one-more triangle (0 to 3 ∷ []) point room (9 to 9 ∷ []) ≡ leaving (packed 5 0 0 0) room (9 to 9 ∷ []) []
 unfolding limit most on-grid all-on-grid first-of sound-from stored
 cramped = refl
 
 -- a shape of two contours added to a shape set
 shape-added : S.with-one-more triangle (0 to 3 ∷ []) (0 to 1 ∷ []) point (0 to 0 ∷ 0 to 1 ∷ []) room (9 to 9 ∷ 9 to 9 ∷ 9 to 9 ∷ []) (9 to 9 ∷ 9 to 9 ∷ 9 to 9 ∷ [])
-    ≡ left (packed 0 4 3 2) (four ++ row (9 ∷ [])) (0 to 3 ∷ 3 to 3 ∷ 3 to 4 ∷ []) (0 to 1 ∷ 1 to 3 ∷ 9 to 9 ∷ [])
+    ≡ leaving (packed 0 4 3 2) (four ++ row (9 ∷ [])) (0 to 3 ∷ 3 to 3 ∷ 3 to 4 ∷ []) (0 to 1 ∷ 1 to 3 ∷ 9 to 9 ∷ [])
 unfolding limit most on-grid all-on-grid first-of sound-from stored
 shape-added = refl
 

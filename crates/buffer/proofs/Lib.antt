@@ -2,7 +2,6 @@ pub mod ListLaws
 pub mod SpanLaws
 pub mod RefusalLaws
 pub mod RowLaws
-pub mod PlacedLaws
 pub mod AnswerLaws
 pub mod PartLaws
 pub mod PackLaws

@@ -10,19 +10,21 @@ use lib.Dec.{leb}
 use borrow.Author.Tests.{ltb-false, eqb-false, not-false}
 use Rattle.integers.proofs.Logic.{and-left, and-right}
 use Rattle.grid.specs.Limits.{most, all-on-grid}
-use Rattle.grid.specs.Ladder.{first-of}
+use Rattle.replies.specs.Ladder.{first-of, so-far, room}
 use Rattle.grid.specs.Domain.{count}
-use Rattle.grid.proofs.LadderLaws.{clear}
-use Rattle.buffer.specs.Spans.{spans, rows, sound, moved, Movable}
+use Rattle.replies.proofs.LadderLaws.{clear}
+use Rattle.buffer.specs.Spans.{spans, rows, sound, moved}
+use Rattle.buffer.specs.inside.Ranges.{Movable}
 use Rattle.buffer.specs.declared.answer.Packed.{Packed}
-use Rattle.buffer.specs.Rows.{placed}
-use Rattle.buffer.specs.Refusals.{both, told, room}
-use Rattle.buffer.specs.Answers.{packed, left, stored}
+use Rattle.rows.specs.Rows.{placed}
+use Rattle.buffer.specs.Refusals.{both}
+use Rattle.buffer.specs.Answers.{packed, leaving, stored}
 use Rattle.buffer.specs.Contours as C
 use Rattle.buffer.specs.Shapes as S
 use Rattle.buffer.proofs.SpanLaws.{movable}
 use Rattle.buffer.proofs.RefusalLaws.{accepted}
-use Rattle.buffer.proofs.RowLaws.{spans-length, placed-front, records-front}
+use Rattle.buffer.proofs.RowLaws.{spans-length, records-front}
+use Rattle.rows.proofs.RowLaws.{placed-front}
 use Rattle.buffer.proofs.AnswerLaws.{Fits, packing-refused, packing-fits, packing-done, contours-refused, contours-fit, contours-done}
 
 pub shape-movable : (p : List ℤ) (cs : List (List ℕ)) (k : ℕ) → k ≡ first-of (C.refusals p cs) → k ≡ 0 → Movable cs 0
@@ -85,22 +87,22 @@ sound-parts p cs ss more mcs e =
 
 -- packing the contours of a row
 module _ (k r : ℕ) (p : List ℤ) (cs : List (List ℕ)) (out : List ℤ) (records : List (List ℕ))
-    (f : r ≡ first-of (told k ++ room (leb (length p) (length out) && leb (length cs) (length records)))) where
-  pub pack-refused : (w : Packed) → w ≡ packed r 0 0 0 → (r ≡ 0 → ⊥) → left w out records [] ≡ stored (told k) p (spans cs) [] out records []
+    (f : r ≡ first-of (so-far k ++ room (leb (length p) (length out) && leb (length cs) (length records)))) where
+  pub pack-refused : (w : Packed) → w ≡ packed r 0 0 0 → (r ≡ 0 → ⊥) → leaving w out records [] ≡ stored (so-far k) p (spans cs) [] out records []
   pack-refused = contours-refused p (spans cs) out records _ _ refl (sym (spans-length cs)) k r f
 
   pub pack-fits : r ≡ 0 → Fits k (length p) (length cs) 0 out records []
   pack-fits = contours-fit p (spans cs) out records _ _ refl (sym (spans-length cs)) k r f
 
   pub pack-done : (o : List ℤ) (d : List (List ℕ)) → r ≡ 0 → o ≡ placed 0 p out → d ≡ placed 0 (rows (map (moved 0) (spans cs))) records
-      → left (packed 0 (count p) (length cs) 0) o d [] ≡ stored (told k) p (spans cs) [] out records []
+      → leaving (packed 0 (count p) (length cs) 0) o d [] ≡ stored (so-far k) p (spans cs) [] out records []
   pack-done o d z g h =
       contours-done p (spans cs) out records _ _ refl (sym (spans-length cs)) k r f _ o d z refl (g ∙ placed-front out p) (h ∙ records-front cs records)
 
 -- packing the shapes of a row
 module _ (k r : ℕ) (p : List ℤ) (cs ss : List (List ℕ)) (out : List ℤ) (records groups : List (List ℕ))
-    (f : r ≡ first-of (told k ++ room (leb (length p) (length out) && leb (length cs) (length records) && leb (length ss) (length groups)))) where
-  pub group-refused : (w : Packed) → w ≡ packed r 0 0 0 → (r ≡ 0 → ⊥) → left w out records groups ≡ stored (told k) p (spans cs) (spans ss) out records groups
+    (f : r ≡ first-of (so-far k ++ room (leb (length p) (length out) && leb (length cs) (length records) && leb (length ss) (length groups)))) where
+  pub group-refused : (w : Packed) → w ≡ packed r 0 0 0 → (r ≡ 0 → ⊥) → leaving w out records groups ≡ stored (so-far k) p (spans cs) (spans ss) out records groups
   group-refused = packing-refused p (spans cs) (spans ss) out records groups _ _ _ refl (sym (spans-length cs)) (sym (spans-length ss)) k r f
 
   pub group-fits : r ≡ 0 → Fits k (length p) (length cs) (length ss) out records groups
@@ -108,7 +110,7 @@ module _ (k r : ℕ) (p : List ℤ) (cs ss : List (List ℕ)) (out : List ℤ) (
 
   pub group-done : (o : List ℤ) (c d : List (List ℕ)) → r ≡ 0 → o ≡ placed 0 p out
       → c ≡ placed 0 (rows (map (moved 0) (spans cs))) records → d ≡ placed 0 (rows (map (moved 0) (spans ss))) groups
-      → left (packed 0 (count p) (length cs) (length ss)) o c d ≡ stored (told k) p (spans cs) (spans ss) out records groups
+      → leaving (packed 0 (count p) (length cs) (length ss)) o c d ≡ stored (so-far k) p (spans cs) (spans ss) out records groups
   group-done o c d z g h i =
       packing-done p (spans cs) (spans ss) out records groups _ _ _ refl (sym (spans-length cs)) (sym (spans-length ss)) k r f _ o c d z refl
       (g ∙ placed-front out p) (h ∙ records-front cs records) (i ∙ records-front ss groups)

@@ -10,14 +10,16 @@ use lib.IntN.{ℤ}
 use lib.Dec.{ltb}
 use borrow.Author.Tests.{ltb-true, ltb-false}
 use Rattle.integers.proofs.Logic.{and-left, and-right}
-use Rattle.grid.specs.Ladder.{first-of}
+use Rattle.replies.specs.Ladder.{first-of}
 use Rattle.grid.specs.Domain.{count, domain, Contour}
 use Rattle.grid.proofs.LimitLaws.{on-dropped, on-taken}
 use Rattle.buffer.specs.declared.answer.Counted.{Counted}
 use Rattle.buffer.specs.Spans.{span, spans, sound}
 use Rattle.buffer.specs.declared.ranges.Span.{Span}
-use Rattle.buffer.specs.Sets.{cut, contour, contours, shapes, Names}
-use Rattle.buffer.specs.Parts.{Part, none, named, contour-parts, shape-parts, handed}
+use Rattle.buffer.specs.Sets.{cut, contour, contours, shapes}
+use Rattle.buffer.specs.inside.Ranges.{Names}
+use Rattle.rows.specs.Parts.{Part, none}
+use Rattle.buffer.specs.Parts.{named, contour-parts, shape-parts, handed}
 use Rattle.buffer.specs.Answers.{counted}
 use Rattle.buffer.specs.Contours as C
 use Rattle.buffer.specs.Shapes as S
@@ -180,7 +182,7 @@ module _ (p : List ℤ) (cs ss : List (List ℕ)) (s r : ℕ) (e : r ≡ first-o
       inside-there a f = f ∙ rw (← e, z) (ap (λ (n : ℕ). counted 0 n) (sym (shape-length (contour p) cs ss s shape-within h)))
 
 -- a contour of a shape
-pub record Inside (p : Part) (cs ss : List (List ℕ)) (s c : ℕ) : Type 0 where
+pub record There (p : Part) (cs ss : List (List ℕ)) (s c : ℕ) : Type 0 where
   pub shape : s < length ss
   pub names : Names (p .numbers) cs (getD (getD ss s []) 0 0 + c)
   pub is : named p (span (getD cs (getD (getD ss s []) 0 0 + c) [])) ≡ S.contour-of p cs ss s c
@@ -197,15 +199,15 @@ module _ (p : Part) (cs ss : List (List ℕ)) (s c : ℕ) (a : Counted) (e : a �
       go zero h = sym (List·getD-eq-default l (none p) h)
       go (suc r) h = refl
 
-  pub inside : c < a .count → Inside p cs ss s c
+  pub inside : c < a .count → There p cs ss s c
   unfolding S.contours-in S.contour-of shape
   inside h = go (first-of (S.refusals (p .numbers) cs ss)) refl (rw e at h)
     where
-      go : (r : ℕ) → r ≡ first-of (S.refusals (p .numbers) cs ss) → c < counted r (length (shape (contour (p .numbers)) cs ss s)) .count → Inside p cs ss s c
+      go : (r : ℕ) → r ≡ first-of (S.refusals (p .numbers) cs ss) → c < counted r (length (shape (contour (p .numbers)) cs ss s)) .count → There p cs ss s c
       go (suc r) f h = absurd (omega arith)
       go zero f h = there (ltb s (length ss)) refl
         where
-          there : (b : Bool) → ltb s (length ss) ≡ b → Inside p cs ss s c
+          there : (b : Bool) → ltb s (length ss) ≡ b → There p cs ss s c
           there false g = absurd (omega (arith, ap length (shapes-past (contour (p .numbers)) cs ss s (ltb-false _ _ g))))
           there true g =
               let k = ltb-true s (length ss) g in

@@ -9,17 +9,11 @@ use lib.IntN.{ℤ}
 use lib.Dec.{T, eqb·suc-zero}
 use borrow.Author.Tests.{lt-ltb, le-ltb, ltb-false, eqb-false, not-false}
 use Rattle.grid.specs.Limits.{most, all-on-grid}
-use Rattle.grid.specs.Ladder.{Rung, first-of}
+use Rattle.replies.specs.Ladder.{Rung, first-of, room, so-far}
 use Rattle.grid.specs.Domain.{count, off, domain}
-use Rattle.grid.proofs.LadderLaws.{First, first-is, numbered, clear, stopped, onward}
-use Rattle.grid.proofs.LadderLaws.First.{here, past, foot}
-use Rattle.buffer.specs.Refusals.{room, set, both, told}
-
-pub found : (l : List Rung) (r : ℕ) → r ≡ first-of l → First l r
-unfolding first-of
-found [] r e = rw e foot
-found ((true, k) ∷ l) r e = rw e (here refl)
-found ((false, k) ∷ l) r e = past refl (found l r e)
+use Rattle.replies.proofs.LadderLaws.{First, first-is, numbered, clear, stopped, onward, found}
+use Rattle.replies.proofs.LadderLaws.First.{here, past, foot}
+use Rattle.buffer.specs.Refusals.{set, both}
 
 -- the three rungs of a row's domain
 module _ (d : ℕ) where
@@ -108,15 +102,6 @@ module _ (row more : List ℤ) (sound : Bool) (d k : ℕ) (e : d ≡ first-of (d
 
           pub both-rest : d ≡ 0 → k ≡ first-of (both row more sound)
           both-rest z = first-is _ _ (on _ (past h (onward (off row) (off more) k tt (sym row-off ∙ z) (found _ _ more-off))))
-
--- a ladder of which only the number is left, and 5 below it
-pub roomed : (l : List Rung) (enough : Bool) → T (numbered l) → first-of (told (first-of l) ++ room enough) ≡ first-of (l ++ room enough)
-unfolding first-of
-roomed l enough t = go (first-of l) refl
-  where
-    go : (k : ℕ) → k ≡ first-of l → first-of (told k ++ room enough) ≡ first-of (l ++ room enough)
-    go zero e = first-is _ _ (onward l (room enough) _ t (sym e) (found (room enough) _ refl))
-    go (suc k) e = sym (first-is (told (suc k) ++ room enough) (suc k) (here (ap not (eqb·suc-zero k)))) ∙ first-is _ _ (stopped l (room enough) (suc k) e (λ z. omega arith))
 
 -- a set that no call refuses
 pub record Accepted (p : List ℤ) (s : Bool) : Type 0 where

@@ -11,7 +11,8 @@ use lib.ListN.{length, getD, drop, length-map}
 use lib.Seq.{drop-cons, drop-length}
 use Rattle.integers.proofs.Logic.{and-left, and-right}
 use Rattle.buffer.specs.declared.ranges.Span.{Span}
-use Rattle.buffer.specs.Spans.{span, spans, follows, sound-from, sound, Movable}
+use Rattle.buffer.specs.Spans.{span, spans, follows, sound-from, sound}
+use Rattle.buffer.specs.inside.Ranges.{Movable}
 use Rattle.buffer.proofs.ListLaws.{map-at}
 
 -- what is left of a row from i on: one span more is met, or none is left

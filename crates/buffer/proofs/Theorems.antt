@@ -8,16 +8,16 @@ use lib.ListN.{length, getD, take, drop, length-append, length-map}
 use lib.Seq.{take-length}
 use lib.IntN.{ℤ}
 use Rattle.integers.proofs.Logic.{and-left}
-use Rattle.grid.specs.Ladder.{Rung, first-of}
+use Rattle.replies.specs.Ladder.{Rung, first-of}
 use Rattle.grid.specs.Domain.{count, domain}
 use Rattle.grid.proofs.DomainLaws.{in-domain}
 use Rattle.buffer.specs.declared.answer.Packed.{Packed}
 use Rattle.buffer.specs.declared.ranges.Span.{Span}
 use Rattle.buffer.specs.Spans.{spans, rows, sound, sound-from, moved, total, laid}
 use Rattle.buffer.specs.Sets.{cut, joined, doubled, contour, contours, shapes, contour-spans, shape-spans, whole, every, Even}
-use Rattle.buffer.specs.Parts.{lying}
+use Rattle.rows.specs.Parts.{lying}
 use Rattle.buffer.specs.Refusals.{both}
-use Rattle.buffer.specs.Answers.{Left, stored, written-points, written-contours, written-shapes}
+use Rattle.buffer.specs.Answers.{Outcome, stored, written-points, written-contours, written-shapes}
 use Rattle.buffer.specs.Contours as C
 use Rattle.buffer.specs.Shapes as S
 use Rattle.buffer.proofs.SetLaws.{sound-nothing, sound-first, laid-sound, sound-laid, sizes-are, cuts-joined, laid-cut, cuts-front, cuts-behind, sound-append, sound-moved, sound-doubled, as-cuts, doubled-laid, doubled-moved}
@@ -138,7 +138,7 @@ whole-sound : (n : ℕ) (s : Span) → s .start ≡ 0 → s .end ≡ n → sound
 whole-sound n s e f = sound-first 0 n s [] (sym e) (omega arith) (sound-nothing (s .end) n f)
 
 -- the calls that pack, and are not refused
-module _ (o : Left) (ok : o .answer .reply ≡ 0) where
+module _ (o : Outcome) (ok : o .answer .reply ≡ 0) where
   module _ (p out : List ℤ) (records : List (List ℕ)) (e : o ≡ C.with-contour p out records) where
     contour-written : Written (domain p) p (whole p ∷ []) [] o
     contour-written = written (domain p) tt p (whole p ∷ []) [] out records [] o e ok
@@ -314,6 +314,6 @@ module _ (o : Left) (ok : o .answer .reply ≡ 0) where
 
 -- and a refused call
 pub a-refusal-leaves-every-row-as-it-was :
-    (l : List Rung) (p : List ℤ) (cs ss : List Span) (out : List ℤ) (records groups : List (List ℕ)) (o : Left) → o ≡ stored l p cs ss out records groups
+    (l : List Rung) (p : List ℤ) (cs ss : List Span) (out : List ℤ) (records groups : List (List ℕ)) (o : Outcome) → o ≡ stored l p cs ss out records groups
     → (o .answer .reply ≡ 0 → ⊥) → (o .points ≡ out) × (o .contours ≡ records) × (o .shapes ≡ groups)
 a-refusal-leaves-every-row-as-it-was = refused-unchanged

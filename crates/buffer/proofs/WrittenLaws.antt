@@ -11,17 +11,17 @@ use lib.IntN.{ℤ}
 use borrow.Author.Tests.{ne-eqb, le-ltb}
 use Rattle.integers.proofs.Logic.{and-left, and-right}
 use Rattle.grid.specs.Limits.{on-grid, all-on-grid}
-use Rattle.grid.specs.Ladder.{Rung, first-of}
+use Rattle.replies.specs.Ladder.{Rung, first-of, room}
 use Rattle.grid.specs.Domain.{count}
-use Rattle.grid.proofs.LadderLaws.{numbered, cleared, first-is}
-use Rattle.grid.proofs.LadderLaws.First.{past, foot}
+use Rattle.replies.proofs.LadderLaws.{numbered, cleared, first-is}
+use Rattle.replies.proofs.LadderLaws.First.{past, foot}
 use Rattle.buffer.specs.declared.ranges.Span.{Span}
 use Rattle.buffer.specs.Spans.{spans, row, rows, sound}
 use Rattle.buffer.specs.Sets.{contours, shapes}
-use Rattle.grid.specs.Rows.{front}
-use Rattle.buffer.specs.Parts.{lying}
-use Rattle.buffer.specs.Refusals.{room, set}
-use Rattle.buffer.specs.Answers.{packed, Left, written-points, written-contours, written-shapes, enough, outcome, stored}
+use Rattle.rows.specs.Rows.{front}
+use Rattle.rows.specs.Parts.{lying}
+use Rattle.buffer.specs.Refusals.{set}
+use Rattle.buffer.specs.Answers.{packed, Outcome, written-points, written-contours, written-shapes, enough, outcome, stored}
 use Rattle.buffer.specs.Contours as C
 use Rattle.buffer.specs.Shapes as S
 use Rattle.buffer.proofs.RefusalLaws.{Accepted}
@@ -47,7 +47,7 @@ accepted-clear p s a =
     (past (ap not (a .on)) foot)))))
 
 -- a set that was written: nothing refused it, and it stands in front of the rows
-pub record Written (l : List Rung) (p : List ℤ) (cs ss : List Span) (o : Left) : Type 0 where
+pub record Written (l : List Rung) (p : List ℤ) (cs ss : List Span) (o : Outcome) : Type 0 where
   pub clear : first-of l ≡ 0
   pub answer : o .answer ≡ packed 0 (count p) (length cs) (length ss)
   pub points : length p ≡ 2 * count p → written-points o ≡ p
@@ -57,32 +57,32 @@ pub record Written (l : List Rung) (p : List ℤ) (cs ss : List Span) (o : Left)
 pub rows-front : (l : List Span) (row-out : List (List ℕ)) → spans (take (length l) (front (rows l) row-out)) ≡ l
 rows-front l row-out = ap spans (take-at (rows l) _ (length l) (length-map l row)) ∙ spans-rows l
 
-module _ (l : List Rung) (t : T (numbered l)) (p : List ℤ) (cs ss : List Span) (out : List ℤ) (contours shapes : List (List ℕ)) (o : Left) (e : o ≡ stored l p cs ss out contours shapes) where
+module _ (l : List Rung) (t : T (numbered l)) (p : List ℤ) (cs ss : List Span) (out : List ℤ) (contours shapes : List (List ℕ)) (o : Outcome) (e : o ≡ stored l p cs ss out contours shapes) where
   pub written : o .answer .reply ≡ 0 → Written l p cs ss o
   unfolding stored
-  written z = go (first-of (l ++ room (enough p cs ss out contours shapes))) refl (ap (λ (w : Left). w .answer .reply) (sym e) ∙ z) e
+  written z = go (first-of (l ++ room (enough p cs ss out contours shapes))) refl (ap (λ (w : Outcome). w .answer .reply) (sym e) ∙ z) e
     where
       go : (r : ℕ) → r ≡ first-of (l ++ room (enough p cs ss out contours shapes)) → outcome r p cs ss out contours shapes .answer .reply ≡ 0 → o ≡ outcome r p cs ss out contours shapes → Written l p cs ss o
       go (suc r) f h g = absurd (omega arith)
       go zero f h g = record {
         clear = cleared l (room (enough p cs ss out contours shapes)) t (sym f) .0;
-        answer = ap (λ (w : Left). w .answer) g;
+        answer = ap (λ (w : Outcome). w .answer) g;
         points = λ even. ap written-points g ∙ ap (λ (n : ℕ). take n (front p out)) (sym even) ∙ take-at p _ (length p) refl;
-        contours = ap (λ (w : Left). spans (written-contours w)) g ∙ rows-front cs contours;
-        shapes = ap (λ (w : Left). spans (written-shapes w)) g ∙ rows-front ss shapes;
+        contours = ap (λ (w : Outcome). spans (written-contours w)) g ∙ rows-front cs contours;
+        shapes = ap (λ (w : Outcome). spans (written-shapes w)) g ∙ rows-front ss shapes;
       }
 
-pub refused-unchanged : (l : List Rung) (p : List ℤ) (cs ss : List Span) (out : List ℤ) (contours shapes : List (List ℕ)) (o : Left) → o ≡ stored l p cs ss out contours shapes
+pub refused-unchanged : (l : List Rung) (p : List ℤ) (cs ss : List Span) (out : List ℤ) (contours shapes : List (List ℕ)) (o : Outcome) → o ≡ stored l p cs ss out contours shapes
     → (o .answer .reply ≡ 0 → ⊥) → (o .points ≡ out) × (o .contours ≡ contours) × (o .shapes ≡ shapes)
 unfolding stored
 refused-unchanged l p cs ss out contours shapes o e n = go (first-of (l ++ room (enough p cs ss out contours shapes))) e
   where
     go : (r : ℕ) → o ≡ outcome r p cs ss out contours shapes → (o .points ≡ out) × (o .contours ≡ contours) × (o .shapes ≡ shapes)
-    go zero g = absurd (n (ap (λ (w : Left). w .answer .reply) g))
-    go (suc r) g = (ap (λ (w : Left). w .points) g, ap (λ (w : Left). w .contours) g, ap (λ (w : Left). w .shapes) g)
+    go zero g = absurd (n (ap (λ (w : Outcome). w .answer .reply) g))
+    go (suc r) g = (ap (λ (w : Outcome). w .points) g, ap (λ (w : Outcome). w .contours) g, ap (λ (w : Outcome). w .shapes) g)
 
 -- unpacked by number
-module _ (l : List Rung) (p : List ℤ) (cs ss : List Span) (o : Left) (w : Written l p cs ss o) where
+module _ (l : List Rung) (p : List ℤ) (cs ss : List Span) (o : Outcome) (w : Written l p cs ss o) where
   pub unpacked-contour : Accepted p (sound cs (count p)) → (at : ℕ × ℕ) (k : ℕ) → C.contour-at (lying at (written-points o)) (written-contours o) k .numbers ≡ getD (contours p cs) k []
   unfolding C.contour-at
   unpacked-contour a at k = rw (w .points (a .even), w .contours, accepted-clear p (sound cs (count p)) a) (part-holds (lying at p) cs k)

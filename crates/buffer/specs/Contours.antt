@@ -4,16 +4,17 @@ use Prim.Native.Nat.{ℕ}
 use lib.Dec.{eqb}
 use lib.ListN.{length, getD}
 use lib.IntN.{ℤ}
-use Rattle.grid.specs.declared.Verdict.{Verdict}
-use Rattle.grid.specs.Ladder.{Rung, first-of}
+use Rattle.replies.specs.declared.Verdict.{Verdict}
+use Rattle.replies.specs.Ladder.{Rung, first-of}
 use Rattle.grid.specs.Domain.{count, domain}
-use Rattle.grid.specs.Verdicts.{verdict}
+use Rattle.replies.specs.Verdicts.{verdict}
 use Rattle.buffer.specs.declared.answer.Counted.{Counted}
 use Rattle.buffer.specs.Spans.{spans, sound, moved}
 use Rattle.buffer.specs.Sets.{whole}
-use Rattle.buffer.specs.Parts.{Part, none, contour-parts, handed}
+use Rattle.rows.specs.Parts.{Part, none}
+use Rattle.buffer.specs.Parts.{contour-parts, handed}
 use Rattle.buffer.specs.Refusals.{set, both}
-use Rattle.buffer.specs.Answers.{counted, Left, stored}
+use Rattle.buffer.specs.Answers.{counted, Outcome, stored}
 use Rattle.buffer.specs.Shapes.{refusals as shape-refusals}
 
 -- what every call asks of a contour set
@@ -46,19 +47,19 @@ first-contour p [] = handed (first-of (domain (p .numbers))) p p
 first-contour p (r ∷ ranges) = contour-at p (r ∷ ranges) 0
 
 -- a set of one contour
-abbrev pub with-contour : List ℤ → List ℤ → List (List ℕ) → Left
+abbrev pub with-contour : List ℤ → List ℤ → List (List ℕ) → Outcome
 with-contour p out ranges = stored (domain p) p (whole p ∷ []) [] out ranges []
 
 -- the contours of a shape
-abbrev pub with-shape : List ℤ → List (List ℕ) → List ℤ → List (List ℕ) → Left
+abbrev pub with-shape : List ℤ → List (List ℕ) → List ℤ → List (List ℕ) → Outcome
 with-shape p cs out ranges = stored (refusals p cs) p (spans cs) [] out ranges []
 
 -- the contours of shapes; where a shape ends is dropped
-abbrev pub with-shapes : List ℤ → List (List ℕ) → List (List ℕ) → List ℤ → List (List ℕ) → Left
+abbrev pub with-shapes : List ℤ → List (List ℕ) → List (List ℕ) → List ℤ → List (List ℕ) → Outcome
 with-shapes p cs ss out ranges = stored (shape-refusals p cs ss) p (spans cs) [] out ranges []
 
 -- the contours of a set, and one more
-abbrev pub with-one-more : List ℤ → List (List ℕ) → List ℤ → List ℤ → List (List ℕ) → Left
+abbrev pub with-one-more : List ℤ → List (List ℕ) → List ℤ → List ℤ → List (List ℕ) → Outcome
 with-one-more p cs more out ranges =
     stored (both p more (sound (spans cs) (count p)))
     (p ++ more) (spans cs ++ moved (count p) (whole more) ∷ []) []

@@ -1,21 +1,17 @@
 -- The refusals of the calls on sets, in the order in which they are told.
 use mathlib.Core.Bool.{Bool, not}
 use mathlib.Core.List.{List, [], _∷_, _++_}
-use Prim.Native.Nat.{ℕ, _+_, _%_}
+use Prim.Native.Nat.{_+_, _%_}
 use lib.ListN.{length}
 use lib.IntN.{ℤ}
 use lib.Dec.{ltb, eqb}
 use Rattle.grid.specs.Limits.{most}
-use Rattle.grid.specs.Ladder.{Rung}
+use Rattle.replies.specs.Ladder.{Rung}
 use Rattle.grid.specs.Domain.{count, size, off}
 
 -- 6: ranges that are not sound
 abbrev pub unsound : Bool → List Rung
 unsound sound = (not sound, 6) ∷ []
-
--- 5: a row too short for what is to be written
-abbrev pub room : Bool → List Rung
-room enough = (not enough, 5) ∷ []
 
 -- what every call asks of a set: 1, 2, 6, 3
 abbrev pub set : List ℤ → Bool → List Rung
@@ -28,7 +24,3 @@ both points more sound =
     ∷ (ltb most (count points + count more), 2)
     ∷ (not sound, 6)
     ∷ off points ++ off more
-
--- a refusal of which only the number is left
-abbrev pub told : ℕ → List Rung
-told refusal = (not (eqb refusal 0), refusal) ∷ []

@@ -1,12 +1,12 @@
 -- Sets: as lists of contours or of shapes, and flat.
 use mathlib.Core.Path.{_≡_}
 use mathlib.Core.List.{List, [], _∷_, _++_, map}
-use Prim.Native.Nat.{ℕ, _*_, _<_, _≤_}
-use lib.ListN.{length, getD, take, drop}
+use Prim.Native.Nat.{_*_}
+use lib.ListN.{length, take, drop}
 use lib.IntN.{ℤ}
 use Rattle.grid.specs.Domain.{count}
 use Rattle.buffer.specs.declared.ranges.Span.{Span}
-use Rattle.buffer.specs.Spans.{span, size, laid}
+use Rattle.buffer.specs.Spans.{size, laid}
 
 module _ {A : Type 0} where
   -- the part of a list that a span names
@@ -49,12 +49,6 @@ whole points = record { start = 0; end = count points }
 -- the span of all contours of a shape
 abbrev pub every : {A : Type 0} → List A → Span
 every contours = record { start = 0; end = length contours }
-
--- range number k of a row names a part of the points
-pub record Names (points : List ℤ) (ranges : List (List ℕ)) (k : ℕ) : Type 0 where
-  pub there : k < length ranges
-  pub forward : span (getD ranges k []) .start ≤ span (getD ranges k []) .end
-  pub fits : 2 * span (getD ranges k []) .end ≤ length points
 
 -- every contour has an even count of numbers
 abbrev pub Even : List (List ℤ) → Type 0

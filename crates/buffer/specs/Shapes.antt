@@ -5,16 +5,17 @@ use Prim.Native.Nat.{ℕ}
 use lib.Dec.{eqb}
 use lib.ListN.{length, getD}
 use lib.IntN.{ℤ}
-use Rattle.grid.specs.declared.Verdict.{Verdict}
-use Rattle.grid.specs.Ladder.{Rung, first-of}
+use Rattle.replies.specs.declared.Verdict.{Verdict}
+use Rattle.replies.specs.Ladder.{Rung, first-of}
 use Rattle.grid.specs.Domain.{count, domain}
-use Rattle.grid.specs.Verdicts.{verdict}
+use Rattle.replies.specs.Verdicts.{verdict}
 use Rattle.buffer.specs.declared.answer.Counted.{Counted}
 use Rattle.buffer.specs.Spans.{spans, sound, moved}
 use Rattle.buffer.specs.Sets.{shapes, whole, every}
-use Rattle.buffer.specs.Parts.{Part, none, shape-parts, handed}
+use Rattle.rows.specs.Parts.{Part, none}
+use Rattle.buffer.specs.Parts.{shape-parts, handed}
 use Rattle.buffer.specs.Refusals.{set, both}
-use Rattle.buffer.specs.Answers.{counted, Left, stored}
+use Rattle.buffer.specs.Answers.{counted, Outcome, stored}
 
 -- what every call asks of a shape set: its contours and its shapes have sound ranges
 abbrev pub refusals : List ℤ → List (List ℕ) → List (List ℕ) → List Rung
@@ -45,18 +46,18 @@ unfoldable pub contour-of : Part → List (List ℕ) → List (List ℕ) → ℕ
 contour-of p cs ss s c = handed (first-of (refusals (p .numbers) cs ss)) p (getD (getD (shape-parts p (spans cs) (spans ss)) s []) c (none p))
 
 -- a set of one shape, of one contour
-abbrev pub with-contour : List ℤ → List ℤ → List (List ℕ) → List (List ℕ) → Left
+abbrev pub with-contour : List ℤ → List ℤ → List (List ℕ) → List (List ℕ) → Outcome
 with-contour p out contours shapes = stored (domain p) p (whole p ∷ []) (every (whole p ∷ []) ∷ []) out contours shapes
 
 -- a set of one shape
-abbrev pub with-shape : List ℤ → List (List ℕ) → List ℤ → List (List ℕ) → List (List ℕ) → Left
+abbrev pub with-shape : List ℤ → List (List ℕ) → List ℤ → List (List ℕ) → List (List ℕ) → Outcome
 with-shape p cs out contours shapes =
     stored (set p (sound (spans cs) (count p)))
     p (spans cs) (every cs ∷ [])
     out contours shapes
 
 -- a set of shapes
-abbrev pub with-shapes : List ℤ → List (List ℕ) → List (List ℕ) → List ℤ → List (List ℕ) → List (List ℕ) → Left
+abbrev pub with-shapes : List ℤ → List (List ℕ) → List (List ℕ) → List ℤ → List (List ℕ) → List (List ℕ) → Outcome
 with-shapes p cs ss out contours shapes = stored (refusals p cs ss) p (spans cs) (spans ss) out contours shapes
 
 -- the ranges of a set and of a shape that is added to it are sound
@@ -64,7 +65,7 @@ abbrev pub both-sound : List ℤ → List (List ℕ) → List (List ℕ) → Lis
 both-sound p cs ss more mcs = sound (spans cs) (count p) && sound (spans ss) (length cs) && sound (spans mcs) (count more)
 
 -- the shapes of a set, and one more
-abbrev pub with-one-more : List ℤ → List (List ℕ) → List (List ℕ) → List ℤ → List (List ℕ) → List ℤ → List (List ℕ) → List (List ℕ) → Left
+abbrev pub with-one-more : List ℤ → List (List ℕ) → List (List ℕ) → List ℤ → List (List ℕ) → List ℤ → List (List ℕ) → List (List ℕ) → Outcome
 with-one-more p cs ss more mcs out contours shapes =
     stored (both p more (both-sound p cs ss more mcs))
     (p ++ more) (spans cs ++ map (moved (count p)) (spans mcs)) (spans ss ++ moved (length cs) (every mcs) ∷ [])

@@ -1,9 +1,9 @@
 -- Spans: where a part starts and where it ends.
 use mathlib.Core.Bool.{Bool, _&&_}
 use mathlib.Core.List.{List, [], _∷_, map}
-use Prim.Native.Nat.{ℕ, _+_, _-_, _<_, _^_}
+use Prim.Native.Nat.{ℕ, _+_, _-_}
 use lib.Dec.{leb, eqb}
-use lib.ListN.{length, getD}
+use lib.ListN.{getD}
 use Rattle.buffer.specs.declared.ranges.Span.{Span}
 
 -- a record of a lent row
@@ -52,8 +52,3 @@ total (n ∷ sizes) = n + total sizes
 unfoldable pub laid : ℕ → List ℕ → List Span
 laid p [] = []
 laid p (n ∷ sizes) = record { start = p; end = p + n } ∷ laid (p + n) sizes
-
--- ranges that stay numbers of the machine when they are set off by n
-pub record Movable (l : List (List ℕ)) (n : ℕ) : Type 0 where
-  pub starts : (i : ℕ) → i < length l → getD (getD l i []) 0 0 + n < 2 ^ 64
-  pub ends : (i : ℕ) → i < length l → getD (getD l i []) 1 0 + n < 2 ^ 64

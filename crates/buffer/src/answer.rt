@@ -1,8 +1,6 @@
 // The answers of the calls on sets.
 ghost use mathlib.Core.Path.{_≡_};
-ghost use Rattle.grid.specs.Verdicts.{verdict as verdict-of};
 ghost use Rattle.buffer.specs.Answers.{counted as counted-of, packed};
-use grid::Verdict;
 
 // A count: its reply number, and 0 where it is refused.
 pub struct Counted {
@@ -19,18 +17,8 @@ pub struct Packed {
     pub shapes: usize,
 }
 
-// No where it is refused, or the answer.
-pub fn verdict(refusal: u32, yes: bool) -> Verdict
-    ensures { λ r. ⌜ r ≡ verdict-of refusal yes ⌝ }
-{
-    Verdict {
-        reply: refusal,
-        yes: (refusal == 0) & yes,
-    }
-}
-
 // 0 where it is refused, or the count.
-pub fn count(refusal: u32, n: usize) -> Counted
+pub fn how_many(refusal: u32, n: usize) -> Counted
     ensures { λ r. ⌜ r ≡ counted-of refusal n ⌝ }
 {
     Counted {

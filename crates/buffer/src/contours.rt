@@ -1,22 +1,21 @@
 // Contour sets: points, and the ranges of their contours.
 ghost use mathlib.Core.Path.{_≡_};
 ghost use mathlib.Core.List.{[]};
-ghost use Rattle.grid.specs.Ladder.{first-of};
-ghost use Rattle.buffer.specs.Spans.{spans, Movable};
-ghost use Rattle.buffer.specs.Refusals.{told};
-ghost use Rattle.buffer.specs.Parts.{part};
-ghost use Rattle.buffer.specs.Answers.{left, stored};
+ghost use Rattle.replies.specs.Ladder.{first-of, so-far};
+ghost use Rattle.buffer.specs.Spans.{spans};
+ghost use Rattle.rows.specs.Parts.{part};
+ghost use Rattle.buffer.specs.Answers.{leaving, stored};
 ghost use Rattle.buffer.specs.Contours.{refusals, is-empty, is-single, points-count, contours-count, contour-at, first-contour, with-contour, with-shape, with-shapes, with-one-more};
 use crate::answer;
 use crate::answer::Counted;
 use crate::answer::Packed;
-use crate::copy;
-use crate::joining;
-use crate::parts;
+use crate::inner::joining;
+use crate::inner::packing;
+use crate::inner::parts;
 use crate::ranges;
 use crate::refusal;
 use crate::shapes;
-use grid::Verdict;
+use replies::Verdict;
 
 // What every call asks of a contour set: 0, or the number of its first refusal.
 pub fn refused(points: &[i32], ranges: &[[usize; 2]]) -> u32
@@ -29,28 +28,28 @@ pub fn refused(points: &[i32], ranges: &[[usize; 2]]) -> u32
 pub fn is_empty(points: &[i32], ranges: &[[usize; 2]]) -> Verdict
     ensures { λ r. ⌜ r ≡ is-empty (now (points .entry)) (now (ranges .entry)) ⌝ }
 {
-    answer::verdict(refused(points, ranges), points.len() / 2 == 0)
+    replies::answered(refused(points, ranges), points.len() / 2 == 0)
 }
 
 // Whether the set has exactly one contour.
 pub fn is_single_contour(points: &[i32], ranges: &[[usize; 2]]) -> Verdict
     ensures { λ r. ⌜ r ≡ is-single (now (points .entry)) (now (ranges .entry)) ⌝ }
 {
-    answer::verdict(refused(points, ranges), ranges.len() == 1)
+    replies::answered(refused(points, ranges), ranges.len() == 1)
 }
 
 // How many points the set has.
 pub fn points_count(points: &[i32], ranges: &[[usize; 2]]) -> Counted
     ensures { λ r. ⌜ r ≡ points-count (now (points .entry)) (now (ranges .entry)) ⌝ }
 {
-    answer::count(refused(points, ranges), points.len() / 2)
+    answer::how_many(refused(points, ranges), points.len() / 2)
 }
 
 // How many contours the set has.
 pub fn contours_count(points: &[i32], ranges: &[[usize; 2]]) -> Counted
     ensures { λ r. ⌜ r ≡ contours-count (now (points .entry)) (now (ranges .entry)) ⌝ }
 {
-    answer::count(refused(points, ranges), ranges.len())
+    answer::how_many(refused(points, ranges), ranges.len())
 }
 
 // Contour number k, as a part of the points; the empty part at their front where it is not there.
@@ -79,46 +78,16 @@ pub fn first_contour<'a>(points: &'a [i32], ranges: &[[usize; 2]]) -> &'a [i32]
     points
 }
 
-// Packs contours, unless they are refused.
-fn pack(
-    refusal: u32,
-    points: &[i32],
-    ranges: &[[usize; 2]],
-    out: &mut [i32],
-    records: &mut [[usize; 2]],
-) -> Packed
-    requires { ⌜ (refusal ≡ 0 → Movable (now ranges) 0) ⌝ }
-    ensures { λ r. ⌜
-        left r (now (out .exit)) (now (records .exit)) []
-        ≡ stored (told refusal) (now (points .entry)) (spans (now (ranges .entry))) []
-        (now (out .entry)) (now (records .entry)) []
-        ⌝ }
-{
-    let room = (points.len() <= out.len()) & (ranges.len() <= records.len());
-    let first = refusal::or_room(refusal, room);
-    if first != 0 {
-        return answer::refused(first);
-    }
-    copy::numbers(points, out, 0);
-    joining::records(ranges, records, 0, 0);
-    Packed {
-        reply: grid::reply::DONE,
-        points: points.len() / 2,
-        contours: ranges.len(),
-        shapes: 0,
-    }
-}
-
 // Packs one contour.
 pub fn set_with_contour(contour: &[i32], out: &mut [i32], records: &mut [[usize; 2]]) -> Packed
     ensures { λ r. ⌜
-        left r (now (out .exit)) (now (records .exit)) []
+        leaving r (now (out .exit)) (now (records .exit)) []
         ≡ with-contour (now (contour .entry)) (now (out .entry)) (now (records .entry))
         ⌝ }
 {
     let refusal = grid::domain(contour);
     let one = [[0, contour.len() / 2]];
-    pack(refusal, contour, &one, out, records)
+    packing::contours(refusal, contour, &one, out, records)
 }
 
 // Packs the contours of a shape.
@@ -129,12 +98,12 @@ pub fn set_with_shape(
     records: &mut [[usize; 2]],
 ) -> Packed
     ensures { λ r. ⌜
-        left r (now (out .exit)) (now (records .exit)) []
+        leaving r (now (out .exit)) (now (records .exit)) []
         ≡ with-shape (now (points .entry)) (now (ranges .entry)) (now (out .entry)) (now (records .entry))
         ⌝ }
 {
     let refusal = refused(points, ranges);
-    pack(refusal, points, ranges, out, records)
+    packing::contours(refusal, points, ranges, out, records)
 }
 
 // Packs the contours of shapes; where a shape ends is dropped.
@@ -146,13 +115,13 @@ pub fn set_with_shapes(
     records: &mut [[usize; 2]],
 ) -> Packed
     ensures { λ r. ⌜
-        left r (now (out .exit)) (now (records .exit)) []
+        leaving r (now (out .exit)) (now (records .exit)) []
         ≡ with-shapes (now (points .entry)) (now (contours .entry)) (now (shapes .entry))
         (now (out .entry)) (now (records .entry))
         ⌝ }
 {
     let refusal = shapes::refused(points, contours, shapes);
-    pack(refusal, points, contours, out, records)
+    packing::contours(refusal, points, contours, out, records)
 }
 
 // Writes the set and one contour more.
@@ -164,7 +133,7 @@ pub fn add_contour(
     records: &mut [[usize; 2]],
 ) -> Packed
     ensures { λ r. ⌜
-        left r (now (out .exit)) (now (records .exit)) []
+        leaving r (now (out .exit)) (now (records .exit)) []
         ≡ with-one-more (now (points .entry)) (now (ranges .entry)) (now (contour .entry))
         (now (out .entry)) (now (records .entry))
         ⌝ }
@@ -172,7 +141,7 @@ pub fn add_contour(
     let n = points.len() / 2;
     let refusal = refusal::of_both(points, contour, ranges::sound(ranges, n));
     let room = (points.len() + contour.len() <= out.len()) & (ranges.len() + 1 <= records.len());
-    let first = refusal::or_room(refusal, room);
+    let first = replies::or_room(refusal, room);
     if first != 0 {
         return answer::refused(first);
     }
@@ -180,7 +149,7 @@ pub fn add_contour(
     joining::both_numbers(points, contour, out);
     joining::both_records(ranges, &one, n, records);
     Packed {
-        reply: grid::reply::DONE,
+        reply: replies::DONE,
         points: n + contour.len() / 2,
         contours: ranges.len() + 1,
         shapes: 0,

@@ -1,9 +1,7 @@
 // Sets of contours and of shapes, flat: points, and the ranges that name their parts.
 pub mod answer;
 pub mod contours;
-pub mod copy;
-mod joining;
-pub mod parts;
+pub mod inner;
 pub mod ranges;
 pub mod refusal;
 pub mod shapes;

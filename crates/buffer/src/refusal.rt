@@ -1,22 +1,21 @@
 // The refusals that the calls on sets share.
 ghost use mathlib.Core.Path.{_≡_};
-ghost use mathlib.Core.List.{_++_};
-ghost use Rattle.grid.specs.Ladder.{first-of};
-ghost use Rattle.buffer.specs.Refusals.{set, both, told, room as room-left};
+ghost use Rattle.replies.specs.Ladder.{first-of};
+ghost use Rattle.buffer.specs.Refusals.{set, both};
 
 // What every call asks of a set, whose ranges are sound or not: 0, or the number of its first refusal.
 pub fn of_set(points: &[i32], sound: bool) -> u32
     ensures { λ r. ⌜ r ≡ first-of (set (now (points .entry)) sound) ⌝ }
 {
     let domain = grid::domain(points);
-    if domain == grid::reply::ODD {
-        return grid::reply::ODD;
+    if domain == replies::ODD {
+        return replies::ODD;
     }
-    if domain == grid::reply::TOO_MANY {
-        return grid::reply::TOO_MANY;
+    if domain == replies::TOO_MANY {
+        return replies::TOO_MANY;
     }
     if !sound {
-        return grid::reply::RANGES;
+        return replies::RANGES;
     }
     domain
 }
@@ -27,33 +26,20 @@ pub fn of_both(points: &[i32], more: &[i32], sound: bool) -> u32
 {
     let one = grid::domain(points);
     let two = grid::domain(more);
-    if one == grid::reply::ODD {
-        return grid::reply::ODD;
+    if one == replies::ODD {
+        return replies::ODD;
     }
-    if two == grid::reply::ODD {
-        return grid::reply::ODD;
+    if two == replies::ODD {
+        return replies::ODD;
     }
     if grid::MOST < points.len() / 2 + more.len() / 2 {
-        return grid::reply::TOO_MANY;
+        return replies::TOO_MANY;
     }
     if !sound {
-        return grid::reply::RANGES;
+        return replies::RANGES;
     }
     if one != 0 {
         return one;
     }
     two
-}
-
-// A refusal so far, or 5 where there is no room.
-pub fn or_room(refusal: u32, room: bool) -> u32
-    ensures { λ r. ⌜ r ≡ first-of (told refusal ++ room-left room) ⌝ }
-{
-    if refusal != 0 {
-        return refusal;
-    }
-    if !room {
-        return grid::reply::ROOM;
-    }
-    grid::reply::DONE
 }

@@ -1,25 +1,26 @@
 // Shape sets: points, the ranges of their contours, and the ranges of their shapes.
 ghost use mathlib.Core.Path.{_≡_};
-ghost use Rattle.grid.specs.Ladder.{first-of};
-ghost use Rattle.buffer.specs.Spans.{spans, Movable};
-ghost use Rattle.buffer.specs.Refusals.{told};
-ghost use Rattle.buffer.specs.Parts.{part};
-ghost use Rattle.buffer.specs.Answers.{left, stored};
+ghost use Rattle.replies.specs.Ladder.{first-of, so-far};
+ghost use Rattle.buffer.specs.Spans.{spans};
+ghost use Rattle.rows.specs.Parts.{part};
+ghost use Rattle.buffer.specs.Answers.{leaving, stored};
 ghost use Rattle.buffer.specs.Shapes.{refusals, is-empty, points-count, contours-count, shapes-count, contours-in, contour-of, with-contour, with-shape, with-shapes, with-one-more, both-sound};
 use crate::answer;
 use crate::answer::Counted;
 use crate::answer::Packed;
 use crate::contours;
-use crate::copy;
-use crate::joining;
-use crate::parts;
+use crate::inner::joining;
+use crate::inner::packing;
+use crate::inner::parts;
 use crate::ranges;
 use crate::refusal;
-use grid::Verdict;
+use replies::Verdict;
 
 // What every call asks of a shape set: 0, or the number of its first refusal.
 pub fn refused(points: &[i32], contours: &[[usize; 2]], shapes: &[[usize; 2]]) -> u32
-    ensures { λ r. ⌜ r ≡ first-of (refusals (now (points .entry)) (now (contours .entry)) (now (shapes .entry))) ⌝ }
+    ensures { λ r. ⌜
+        r ≡ first-of (refusals (now (points .entry)) (now (contours .entry)) (now (shapes .entry)))
+        ⌝ }
 {
     let sound = ranges::sound(contours, points.len() / 2) & ranges::sound(shapes, contours.len());
     refusal::of_set(points, sound)
@@ -29,28 +30,28 @@ pub fn refused(points: &[i32], contours: &[[usize; 2]], shapes: &[[usize; 2]]) -
 pub fn is_empty(points: &[i32], contours: &[[usize; 2]], shapes: &[[usize; 2]]) -> Verdict
     ensures { λ r. ⌜ r ≡ is-empty (now (points .entry)) (now (contours .entry)) (now (shapes .entry)) ⌝ }
 {
-    answer::verdict(refused(points, contours, shapes), points.len() / 2 == 0)
+    replies::answered(refused(points, contours, shapes), points.len() / 2 == 0)
 }
 
 // How many points the set has.
 pub fn points_count(points: &[i32], contours: &[[usize; 2]], shapes: &[[usize; 2]]) -> Counted
     ensures { λ r. ⌜ r ≡ points-count (now (points .entry)) (now (contours .entry)) (now (shapes .entry)) ⌝ }
 {
-    answer::count(refused(points, contours, shapes), points.len() / 2)
+    answer::how_many(refused(points, contours, shapes), points.len() / 2)
 }
 
 // How many contours the set has.
 pub fn contours_count(points: &[i32], contours: &[[usize; 2]], shapes: &[[usize; 2]]) -> Counted
     ensures { λ r. ⌜ r ≡ contours-count (now (points .entry)) (now (contours .entry)) (now (shapes .entry)) ⌝ }
 {
-    answer::count(refused(points, contours, shapes), contours.len())
+    answer::how_many(refused(points, contours, shapes), contours.len())
 }
 
 // How many shapes the set has.
 pub fn shapes_count(points: &[i32], contours: &[[usize; 2]], shapes: &[[usize; 2]]) -> Counted
     ensures { λ r. ⌜ r ≡ shapes-count (now (points .entry)) (now (contours .entry)) (now (shapes .entry)) ⌝ }
 {
-    answer::count(refused(points, contours, shapes), shapes.len())
+    answer::how_many(refused(points, contours, shapes), shapes.len())
 }
 
 // How many contours shape number s has, and 0 where it is not there.
@@ -64,12 +65,12 @@ pub fn contours_in(
 {
     let refusal = refused(points, contours, shapes);
     if refusal != 0 {
-        return answer::count(refusal, 0);
+        return answer::how_many(refusal, 0);
     }
     if shapes.len() <= s {
-        return answer::count(grid::reply::DONE, 0);
+        return answer::how_many(replies::DONE, 0);
     }
-    answer::count(grid::reply::DONE, shapes[s][1] - shapes[s][0])
+    answer::how_many(replies::DONE, shapes[s][1] - shapes[s][0])
 }
 
 // Contour number c of shape number s, as a part of the points; the empty part at their front where it is not there.
@@ -80,49 +81,16 @@ pub fn contour_of<'a>(
     s: usize,
     c: usize,
 ) -> &'a [i32]
-    ensures { λ r. ⌜ part r ≡ contour-of (part (points .entry)) (now (contours .entry)) (now (shapes .entry)) s c ⌝ }
+    ensures { λ r. ⌜
+        part r ≡ contour-of (part (points .entry)) (now (contours .entry)) (now (shapes .entry)) s c
+        ⌝ }
 {
-    let inside = contours_in(points, contours, shapes, s);
-    if inside.count <= c {
+    let held = contours_in(points, contours, shapes, s);
+    if held.count <= c {
         return &points[..0];
     }
     let first = shapes[s][0];
     parts::named(points, contours, first + c)
-}
-
-// Packs shapes, unless they are refused.
-fn pack(
-    refusal: u32,
-    points: &[i32],
-    contours: &[[usize; 2]],
-    shapes: &[[usize; 2]],
-    out: &mut [i32],
-    records: &mut [[usize; 2]],
-    groups: &mut [[usize; 2]],
-) -> Packed
-    requires { ⌜ (refusal ≡ 0 → Movable (now contours) 0 × Movable (now shapes) 0) ⌝ }
-    ensures { λ r. ⌜
-        left r (now (out .exit)) (now (records .exit)) (now (groups .exit))
-        ≡ stored (told refusal) (now (points .entry)) (spans (now (contours .entry))) (spans (now (shapes .entry)))
-        (now (out .entry)) (now (records .entry)) (now (groups .entry))
-        ⌝ }
-{
-    let room = (points.len() <= out.len())
-        & (contours.len() <= records.len())
-        & (shapes.len() <= groups.len());
-    let first = refusal::or_room(refusal, room);
-    if first != 0 {
-        return answer::refused(first);
-    }
-    copy::numbers(points, out, 0);
-    joining::records(contours, records, 0, 0);
-    joining::records(shapes, groups, 0, 0);
-    Packed {
-        reply: grid::reply::DONE,
-        points: points.len() / 2,
-        contours: contours.len(),
-        shapes: shapes.len(),
-    }
 }
 
 // Packs one shape, of one contour.
@@ -133,14 +101,14 @@ pub fn set_with_contour(
     groups: &mut [[usize; 2]],
 ) -> Packed
     ensures { λ r. ⌜
-        left r (now (out .exit)) (now (records .exit)) (now (groups .exit))
+        leaving r (now (out .exit)) (now (records .exit)) (now (groups .exit))
         ≡ with-contour (now (contour .entry)) (now (out .entry)) (now (records .entry)) (now (groups .entry))
         ⌝ }
 {
     let refusal = grid::domain(contour);
     let one = [[0, contour.len() / 2]];
     let only = [[0, 1]];
-    pack(refusal, contour, &one, &only, out, records, groups)
+    packing::shapes(refusal, contour, &one, &only, out, records, groups)
 }
 
 // Packs one shape.
@@ -152,13 +120,14 @@ pub fn set_with_shape(
     groups: &mut [[usize; 2]],
 ) -> Packed
     ensures { λ r. ⌜
-        left r (now (out .exit)) (now (records .exit)) (now (groups .exit))
-        ≡ with-shape (now (points .entry)) (now (ranges .entry)) (now (out .entry)) (now (records .entry)) (now (groups .entry))
+        leaving r (now (out .exit)) (now (records .exit)) (now (groups .exit))
+        ≡ with-shape (now (points .entry)) (now (ranges .entry)) (now (out .entry))
+        (now (records .entry)) (now (groups .entry))
         ⌝ }
 {
     let refusal = contours::refused(points, ranges);
     let only = [[0, ranges.len()]];
-    pack(refusal, points, ranges, &only, out, records, groups)
+    packing::shapes(refusal, points, ranges, &only, out, records, groups)
 }
 
 // Packs shapes.
@@ -171,13 +140,13 @@ pub fn set_with_shapes(
     groups: &mut [[usize; 2]],
 ) -> Packed
     ensures { λ r. ⌜
-        left r (now (out .exit)) (now (records .exit)) (now (groups .exit))
+        leaving r (now (out .exit)) (now (records .exit)) (now (groups .exit))
         ≡ with-shapes (now (points .entry)) (now (contours .entry)) (now (shapes .entry))
         (now (out .entry)) (now (records .entry)) (now (groups .entry))
         ⌝ }
 {
     let refusal = refused(points, contours, shapes);
-    pack(refusal, points, contours, shapes, out, records, groups)
+    packing::shapes(refusal, points, contours, shapes, out, records, groups)
 }
 
 // Whether the ranges of a set and of a shape that is added to it are sound.
@@ -188,7 +157,10 @@ fn both_sound(
     more: &[i32],
     ranges: &[[usize; 2]],
 ) -> bool
-    ensures { λ r. ⌜ r ≡ both-sound (now (points .entry)) (now (contours .entry)) (now (shapes .entry)) (now (more .entry)) (now (ranges .entry)) ⌝ }
+    ensures { λ r. ⌜
+        r ≡ both-sound (now (points .entry)) (now (contours .entry)) (now (shapes .entry))
+        (now (more .entry)) (now (ranges .entry))
+        ⌝ }
 {
     ranges::sound(contours, points.len() / 2)
         & ranges::sound(shapes, contours.len())
@@ -207,8 +179,9 @@ pub fn add_shape(
     groups: &mut [[usize; 2]],
 ) -> Packed
     ensures { λ r. ⌜
-        left r (now (out .exit)) (now (records .exit)) (now (groups .exit))
-        ≡ with-one-more (now (points .entry)) (now (contours .entry)) (now (shapes .entry)) (now (more .entry)) (now (ranges .entry))
+        leaving r (now (out .exit)) (now (records .exit)) (now (groups .exit))
+        ≡ with-one-more (now (points .entry)) (now (contours .entry)) (now (shapes .entry))
+        (now (more .entry)) (now (ranges .entry))
         (now (out .entry)) (now (records .entry)) (now (groups .entry))
         ⌝ }
 {
@@ -220,7 +193,7 @@ pub fn add_shape(
     let room = (points.len() + more.len() <= out.len())
         & (contours.len() + ranges.len() <= records.len())
         & (shapes.len() + 1 <= groups.len());
-    let first = refusal::or_room(refusal, room);
+    let first = replies::or_room(refusal, room);
     if first != 0 {
         return answer::refused(first);
     }
@@ -229,7 +202,7 @@ pub fn add_shape(
     joining::both_records(contours, ranges, points.len() / 2, records);
     joining::both_records(shapes, &only, contours.len(), groups);
     Packed {
-        reply: grid::reply::DONE,
+        reply: replies::DONE,
         points: points.len() / 2 + more.len() / 2,
         contours: contours.len() + ranges.len(),
         shapes: shapes.len() + 1,

@@ -1,11 +1,14 @@
-// Lists of cases: read byte by byte, a line a case, and answered by a line each.
+// Lists of cases: their lines, the rows that a case fills and lends, and the line of its answers.
+pub mod answer;
+pub mod case;
 pub mod checksum;
-pub mod column;
+pub mod floats;
 pub mod line;
+pub mod marks;
 pub mod number;
+pub mod numbers;
+pub mod positions;
 pub mod records;
-pub mod row;
-pub mod set;
+pub mod room;
 pub mod source;
 pub mod text;
-pub mod times;

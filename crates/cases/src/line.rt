@@ -1,48 +1,51 @@
-// A line of the list, once its case is answered.
-ghost use Prim.Native.Nat.{_≤_};
-ghost use Rattle.cases.specs.Buffer.{Held};
-use crate::number;
-use crate::source::BUFFER;
-use crate::source::Source;
-use crate::text;
-use crate::text::TEXT;
+// A line of the list, and the places in it. Where a line is damaged the place is DAMAGE more, so that nothing is there
+// to be read.
 
-// A case that was replayed: how long its line of answers is, and the end of its line in the list.
-pub struct Replayed {
-    pub length: usize,
-    pub source: Source,
+// More than a line has bytes.
+pub const DAMAGE: usize = 4294967296;
+
+// Entries that were read: where they end in their row, and the place after them.
+pub struct Read {
+    pub end: usize,
+    pub at: usize,
 }
 
-// Writes the answers of a line's case, or where the list is damaged, and answers where to go on.
-pub fn write(
-    replayed: Replayed,
-    bytes: &mut [u8; BUFFER],
-    text: &mut [u8; TEXT],
-    line: u64,
-) -> Source
-    requires { ⌜ Held (replayed .source) ⌝ }
-    requires { ⌜ replayed .length ≤ 512 ⌝ }
-    ensures { λ r. ⌜ Held r ⌝ }
-{
-    let source = replayed.source;
-    if source.damaged {
-        let length = put_damage(text, line, source.place);
-        text::write(text, length);
-        return source.close();
+// The byte at a place: behind the last one, a line's end.
+pub fn byte(line: &[u8], at: usize) -> u8 {
+    if line.len() <= at {
+        return b'\n';
     }
-    if text::write(text, replayed.length) {
-        return source.next_line(bytes);
-    }
-    source.close()
+    line[at]
 }
 
-// Puts the report of a damaged list into `text`, and answers how long it is.
-fn put_damage(text: &mut [u8; TEXT], line: u64, place: u64) -> usize
-    ensures { λ r. ⌜ r ≤ 512 ⌝ }
-{
-    let mut at = text::put(text, 0, b"damaged: line ");
-    at = number::put_unsigned(text, at, line);
-    at = text::put(text, at, b", byte ");
-    at = number::put_unsigned(text, at, place);
-    text::put(text, at, b"\n")
+// The next place.
+pub fn step(line: &[u8], at: usize) -> usize {
+    if line.len() <= at {
+        return at;
+    }
+    at + 1
+}
+
+// The place after `wanted`, which must stand there.
+pub fn past(line: &[u8], at: usize, wanted: u8) -> usize {
+    if byte(line, at) == wanted {
+        return step(line, at);
+    }
+    damaged(at)
+}
+
+// The same place, where the line must end.
+pub fn past_all(line: &[u8], at: usize) -> usize {
+    if at < line.len() {
+        return damaged(at);
+    }
+    at
+}
+
+// The same place, where the line is damaged.
+pub fn damaged(at: usize) -> usize {
+    if DAMAGE <= at {
+        return at;
+    }
+    at + DAMAGE
 }

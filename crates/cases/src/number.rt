@@ -1,128 +1,114 @@
-// Decimal numbers, read from the case list and put into a text.
-ghost use Prim.Native.Nat.{_+_, _≤_, _<_};
-ghost use mathlib.Core.Path.{_≡_};
-ghost use lib.IntN.{pos, negℤ};
-ghost use Rattle.cases.specs.Buffer.{Held};
-use crate::source::BUFFER;
-use crate::source::Source;
-use crate::text;
-use crate::text::TEXT;
+// The numbers of a line.
+ghost use Prim.Native.Nat.{_≤_};
+use crate::line;
 
-// Digits that were read: what they spell, and the byte after them.
-pub struct Digits {
-    pub value: u64,
-    pub source: Source,
-}
+// The largest number, as a start or an end, that a line can have.
+pub const LARGEST: usize = 2147483647;
 
-// A number that was read, and the byte after it.
+// A number that was read, and the place after it.
 pub struct Number {
-    pub value: i32,
-    pub source: Source,
+    pub value: usize,
+    pub at: usize,
 }
 
-// What a byte is worth as a digit; 10 where it is none.
-fn digit(byte: u8) -> u64
-    ensures { λ r. ⌜ r ≤ 10 ⌝ }
-    ensures { λ r. ⌜ (r < 10 → byte ≡ 48 + r) ⌝ }
+// What a byte is worth as a digit; 16 where it is none.
+pub fn digit(byte: u8) -> usize
+    ensures { λ r. ⌜ r ≤ 16 ⌝ }
 {
-    if byte < b'0' {
-        return 10;
+    match byte {
+        b'0'..=b'9' => (byte - b'0') as usize,
+        b'a'..=b'f' => (byte - b'a' + 10) as usize,
+        _ => 16,
     }
-    if b'9' < byte {
-        return 10;
-    }
-    (byte - b'0') as u64
 }
 
-// Reads one digit or more, which spell `most` or less. No such number needs more than ten digits.
-pub fn read_digits(start: Source, bytes: &mut [u8; BUFFER], most: u64) -> Digits
-    requires { ⌜ Held start ⌝ }
-    requires { ⌜ most ≤ 2147483648 ⌝ }
-    ensures { λ r. ⌜ Held (r .source) ⌝ }
-    ensures { λ r. ⌜ r .value ≤ most ⌝ }
-{
-    if 9 < digit(start.here) {
-        return Digits {
-            value: 0,
-            source: start.mark_damaged(),
-        };
-    }
-    let mut source = start;
-    let mut value = 0;
-    for _ in 0..10usize {
-        let next = digit(source.here);
+// Reads one decimal digit or more, which spell `most` or less.
+pub fn read(line: &[u8], start: usize, most: usize) -> Number {
+    let mut at = start;
+    let mut value: usize = 0;
+    while at < line.len() {
+        let next = digit(line[at]);
         if 9 < next {
             break;
         }
-        let more = value * 10 + next;
-        if most < more {
-            source = source.mark_damaged();
-            break;
-        }
-        value = more;
-        source = source.step(bytes);
+        value = with_digit(value, next);
+        at += 1;
     }
-    Digits { value, source }
+    limited(value, most, start, at)
+}
+
+// A value with one digit more; where it is too large for any number of a line it stays so.
+fn with_digit(value: usize, digit: usize) -> usize {
+    if 4294967295 < value {
+        return value;
+    }
+    value * 10 + digit % 10
+}
+
+// A number that stands from `start` to `at`: it must have a digit, and be `most` or less.
+fn limited(value: usize, most: usize, start: usize, at: usize) -> Number {
+    if at <= start || most < value {
+        return Number {
+            value: 0,
+            at: line::damaged(start),
+        };
+    }
+    Number { value, at }
 }
 
 // Reads a space and a number up to `most`.
-pub fn read_up_to(start: Source, bytes: &mut [u8; BUFFER], most: u64) -> Digits
-    requires { ⌜ Held start ⌝ }
-    requires { ⌜ most ≤ 2147483648 ⌝ }
-    ensures { λ r. ⌜ Held (r .source) ⌝ }
-    ensures { λ r. ⌜ r .value ≤ most ⌝ }
-{
-    read_digits(start.past(bytes, b' '), bytes, most)
+pub fn after_space(line: &[u8], start: usize, most: usize) -> Number {
+    read(line, line::past(line, start, b' '), most)
 }
 
-// `size` below zero.
-fn negated(size: u64) -> i32
-    requires { ⌜ size ≤ 2147483648 ⌝ }
-    ensures { λ r. ⌜ r ≡ negℤ (pos size) ⌝ }
-{
-    (0 - size as i64) as i32
+// Reads a space and a number that fits an i32, as the 32 bits of it.
+pub fn signed(line: &[u8], start: usize) -> Number {
+    let at = line::past(line, start, b' ');
+    if line::byte(line, at) != b'-' {
+        return read(line, at, LARGEST);
+    }
+    let size = read(line, line::step(line, at), 2147483648);
+    Number {
+        value: 4294967296 - size.value % 4294967296,
+        at: size.at,
+    }
 }
 
-// Reads a number that fits an i32.
-pub fn read(start: Source, bytes: &mut [u8; BUFFER]) -> Number
-    requires { ⌜ Held start ⌝ }
-    ensures { λ r. ⌜ Held (r .source) ⌝ }
-{
-    if start.here == b'-' {
-        let size = read_digits(start.step(bytes), bytes, 2147483648);
-        let source = size.source;
+// The number of the last 32 bits.
+pub fn of_bits(bits: usize) -> i32 {
+    integers::signed_32((bits % 4294967296) as u32)
+}
+
+// Reads so many hexadecimal digits.
+pub fn hex(line: &[u8], start: usize, count: usize) -> Number {
+    let mut at = start;
+    let mut value: usize = 0;
+    for _ in 0..count {
+        let next = digit(line::byte(line, at));
+        if 15 < next {
+            at = line::damaged(at);
+            break;
+        }
+        value = (value << 4) | next;
+        at = line::step(line, at);
+    }
+    Number { value, at }
+}
+
+// Reads a star and how often what is before it stands, from once to `most` times; without a star it is once.
+pub fn times(line: &[u8], start: usize, most: usize) -> Number {
+    if line::byte(line, start) != b'*' {
         return Number {
-            value: negated(size.value),
-            source,
+            value: 1,
+            at: start,
         };
     }
-    let size = read_digits(start, bytes, 2147483647);
-    let source = size.source;
-    Number {
-        value: size.value as i32,
-        source,
+    let times = read(line, line::step(line, start), most);
+    if times.value == 0 {
+        return Number {
+            value: 1,
+            at: line::damaged(times.at),
+        };
     }
-}
-
-// Puts the digits of `value` into `text` from `at` on, and answers where they end.
-pub fn put_unsigned(text: &mut [u8; TEXT], at: usize, value: u64) -> usize
-    requires { ⌜ at + 20 ≤ 512 ⌝ }
-    ensures { λ r. ⌜ r ≤ at + 20 ⌝ }
-{
-    let mut digits = [0u8; 20];
-    let count = io::decimal(value, &mut digits);
-    text::put(text, at, &digits[..count])
-}
-
-// Puts `value` into `text` from `at` on, and answers where it ends.
-pub fn put_signed(text: &mut [u8; TEXT], at: usize, value: i64) -> usize
-    requires { ⌜ at + 21 ≤ 512 ⌝ }
-    ensures { λ r. ⌜ r ≤ at + 21 ⌝ }
-{
-    let size = integers::magnitude(value);
-    if value < 0 {
-        let behind = text::put(text, at, b"-");
-        return put_unsigned(text, behind, size);
-    }
-    put_unsigned(text, at, size)
+    times
 }

@@ -1,44 +1,68 @@
-// Ranges as records, each a start and an end.
-ghost use Prim.Native.Nat.{_≤_};
-ghost use Rattle.cases.specs.Buffer.{Held};
+// Rows of records, each a start and an end.
 use crate::checksum;
+use crate::line::Read;
 use crate::number;
-use crate::source::BUFFER;
-use crate::source::Source;
+use crate::number::LARGEST;
+use crate::room;
 
-// How many records a case can give.
-pub const RECORDS: usize = 64;
+// How many records a row can have.
+pub const RECORDS: usize = 65600;
 
-// Records that were read: how many, and the byte after them.
-pub struct Records {
-    pub count: usize,
-    pub source: Source,
+// Reads how many records there are, then each with how often it stands, into the row behind its first `from`.
+pub fn read(line: &[u8], start: usize, row: &mut [[usize; 2]], from: usize) -> Read {
+    let room = room::without(row.len(), from);
+    let many = number::after_space(line, start, room);
+    let stop = from + room::at_most(many.value, room);
+    read_up_to(line, many.at, row, from, stop)
 }
 
-// Reads how many records there are, then their starts and ends.
-pub fn read(start: Source, bytes: &mut [u8; BUFFER], records: &mut [[usize; 2]; RECORDS]) -> Records
-    requires { ⌜ Held start ⌝ }
-    ensures { λ r. ⌜ Held (r .source) ⌝ }
-    ensures { λ r. ⌜ r .count ≤ 64 ⌝ }
-{
-    let many = number::read_up_to(start, bytes, RECORDS as u64);
-    let count = many.value as usize;
-    let mut source = many.source;
-    for i in 0..count {
-        let first = number::read_up_to(source, bytes, 2147483647);
-        let last = number::read_up_to(first.source, bytes, 2147483647);
-        records[i] = [first.value as usize, last.value as usize];
-        source = last.source;
+// Reads records up to the entry `stop`. There are no more of them than entries.
+fn read_up_to(line: &[u8], start: usize, row: &mut [[usize; 2]], from: usize, stop: usize) -> Read {
+    let mut at = start;
+    let mut end = from;
+    for _ in from..stop {
+        if stop <= end {
+            break;
+        }
+        let one = read_one(line, at, row, end, stop - end);
+        end = one.end;
+        at = one.at;
     }
-    Records { count, source }
+    Read { end, at }
+}
+
+// Reads a record and how often it stands, up to `most` times, into the row behind its first `from`.
+fn read_one(line: &[u8], start: usize, row: &mut [[usize; 2]], from: usize, most: usize) -> Read {
+    let first = number::after_space(line, start, LARGEST);
+    let last = number::after_space(line, first.at, LARGEST);
+    let times = number::times(line, last.at, most);
+    Read {
+        end: put(row, from, first.value, last.value, times.value),
+        at: times.at,
+    }
+}
+
+// Puts a record so many times into the row behind its first `from`, and answers where they end.
+pub fn put(row: &mut [[usize; 2]], from: usize, first: usize, last: usize, times: usize) -> usize {
+    let mut end = from;
+    for _ in 0..times {
+        if row.len() <= end {
+            break;
+        }
+        row[end] = [first, last];
+        end += 1;
+    }
+    end
 }
 
 // The checksum of the records' starts and ends, in a row.
-pub fn checksum(records: &[[usize; 2]]) -> u64 {
+pub fn checksum(row: &[[usize; 2]]) -> u64 {
     let mut sum: u64 = 0;
-    for i in 0..records.len() {
-        let first = checksum::added(sum, records[i][0] as u64 % 4294967296);
-        sum = checksum::added(first, records[i][1] as u64 % 4294967296);
+    let mut i: usize = 0;
+    while i < row.len() {
+        sum = checksum::with_count(sum, row[i][0]);
+        sum = checksum::with_count(sum, row[i][1]);
+        i += 1;
     }
     sum
 }

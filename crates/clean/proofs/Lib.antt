@@ -4,7 +4,7 @@ pub mod VerdictLaws
 pub mod Picked
 pub mod Theorems
 pub mod Unchanged
+pub mod LookLaws
 pub mod Demand
 pub mod Cases
 pub mod PartCases
-pub mod Idle

@@ -1,36 +1,36 @@
 -- What a cleaning comes to.
 use mathlib.Core.Path.{_≡_, refl, sym, _∙_, ap}
 use mathlib.Core.Bool.{Bool, true, false}
-use mathlib.Core.List.{List, _++_}
+use mathlib.Core.List.{List, [], _++_}
 use Prim.Native.Nat.{ℕ, zero, suc, _<_}
 use native.Mathlib.Omega.{arith}
 use lib.IntN.{ℤ}
 use lib.ListN.{length, take, drop, replicate, length-replicate}
 use lib.Seq.{length-take-le}
 use borrow.Author.Tests.{ltb-false, le-ltb}
-use Rattle.grid.specs.Ladder.{Rung, first-of}
+use Rattle.replies.specs.Ladder.{Rung}
 use Rattle.grid.specs.Domain.{count, domain, Contour}
-use Rattle.grid.specs.Rows.{front}
+use Rattle.rows.specs.Rows.{front}
 use Rattle.grid.specs.Corners.{Corner}
-use Rattle.grid.proofs.LadderLaws.{first-is, clear, onward, cleared}
-use Rattle.grid.proofs.LadderLaws.First.{past, foot}
+use Rattle.replies.proofs.LadderLaws.{first-is, clear, onward, cleared}
+use Rattle.replies.proofs.LadderLaws.First.{past, foot}
 use Rattle.grid.proofs.DomainLaws.{in-domain, contour-clear}
 use Rattle.ring.specs.declared.Rule.{Rule}
-use Rattle.ring.specs.declared.Walked.{Walked}
-use Rattle.ring.specs.Walk.{Stage, survivors, walk}
-use Rattle.ring.specs.Walk.Stage.{kept, collapsed}
+use Rattle.ring.specs.declared.Ending.{Ending}
+use Rattle.ring.specs.Walk.{Tally, End, survivors, tally, ending, walk}
+use Rattle.ring.specs.Walk.End.{kept, collapsed}
 use Rattle.ring.specs.Rule.{goes-at, goes}
-use Rattle.ring.specs.Rows.{ended}
+use Rattle.ring.specs.inside.Rows.{ended-as}
 use Rattle.ring.proofs.Ends.{walk-few}
 use Rattle.clean.specs.declared.cleaning.Cleaned.{Cleaned}
-use Rattle.clean.specs.Outcome.{refusals, scratch, room, walked-by, walked, chosen, told, written, zeroed, answer, left, outcome-by, outcome}
+use Rattle.clean.specs.Outcome.{scratch, room, walked-by, walked, chosen, answer, Lent, lent, leaving, swept, finished, refusal, outcome-by, outcome}
 use Rattle.clean.specs.Promises.{NotRefused, InDomainWithRoom}
-use Rattle.clean.specs.Inside.{Ready, Settled, Swept}
+use Rattle.clean.specs.inside.Settling.{Ready, Settled, Swept}
 
 -- what no rung refuses is in the domain, with room
-pub accepted : (row : List ℤ) (next prev mark : List ℕ) (out : List ℤ) → NotRefused row next prev mark out → InDomainWithRoom row next prev mark out
-accepted row next prev mark out e =
-    let rest : List Rung = scratch (count row) (length next) (length prev) (length mark) ++ room (count row) (length out) in
+pub accepted : (row : List ℤ) (l : Lent) → NotRefused row l → InDomainWithRoom row l
+accepted row l e =
+    let rest : List Rung = scratch (count row) (length (l .next)) (length (l .prev)) (length (l .mark)) ++ room (count row) (length (l .out)) in
     let d = cleared (domain row) rest tt e in
     let x = in-domain row (d .0) in
     let c = clear rest tt (d .1) in
@@ -44,12 +44,12 @@ accepted row next prev mark out e =
       room-in-out = ltb-false _ _ (c .1 .1 .1 .0);
     }
 
-module _ {row : List ℤ} {next prev mark : List ℕ} {out : List ℤ} (x : InDomainWithRoom row next prev mark out) where
+module _ {row : List ℤ} {l : Lent} (x : InDomainWithRoom row l) where
   pub contour : Contour row (count row)
   contour = record { even = x .even-count; few = x .at-most-65536; on = x .on-the-grid }
 
   -- and what is in the domain, with room, no rung refuses
-  pub not-refused : NotRefused row next prev mark out
+  pub not-refused : NotRefused row l
   not-refused =
       sym
       (first-is _ 0
@@ -66,11 +66,11 @@ contour-count c = omega (arith, c .even)
 module _ (rule : Rule) (row out : List ℤ) {n : ℕ} (c : Contour row n) where
   pub settled-few : n < 3 → Settled rule row out (answer 7 0 0) out
   settled-few h =
-      let w : walked rule row ≡ collapsed 0 = walk-few (goes rule row) (count row) (omega (arith, contour-count c)) in
-      record { answer = ap told (sym w); output = ap (λ (e : Stage). written row e out) (sym w) }
+      let w : walked rule row ≡ ending collapsed (tally 0) = walk-few (goes rule row) (count row) (omega (arith, contour-count c)) in
+      record { answer = rw w; output = rw w }
 
-  module _ (w : Walked) (mark : List ℕ) (e : walk (goes rule row) n ≡ ended w mark) where
-    ended-is : walked rule row ≡ ended w mark
+  module _ (w : Ending) (mark : List ℕ) (e : walk (goes rule row) n ≡ ended-as w mark) where
+    ended-is : walked rule row ≡ ended-as w mark
     ended-is = ap (walk (goes rule row)) (contour-count c) ∙ e
 
     pub settled-fallen : w .kept ≡ false → Settled rule row out (answer 7 0 (w .decisions)) out
@@ -81,34 +81,40 @@ module _ (rule : Rule) (row out : List ℤ) {n : ℕ} (c : Contour row n) where
     settled-kept t k exit f g = record { answer = rw (ended-is, t) (ap (λ (i : ℕ). answer 0 i (w .decisions)) f); output = rw (ended-is, t) g }
 
 -- the parts that are lent on
-pub ready-parts : (row : List ℤ) (next prev mark : List ℕ) (out : List ℤ) → InDomainWithRoom row next prev mark out
-    → Ready row (take (count row) next) (take (count row) prev) (take (count row) mark) out
-ready-parts row next prev mark out a =
-    let m = length-take-le (count row) mark (a .room-in-mark) in
+pub ready-parts : (row : List ℤ) (l : Lent) → InDomainWithRoom row l
+    → Ready row (take (count row) (l .next)) (take (count row) (l .prev)) (take (count row) (l .mark)) (l .out)
+ready-parts row l a =
+    let m = length-take-le (count row) (l .mark) (a .room-in-mark) in
     record {
       contour = rw m (contour a);
-      next-long = length-take-le (count row) next (a .room-in-next) ∙ sym m;
-      prev-long = length-take-le (count row) prev (a .room-in-prev) ∙ sym m;
+      next-long = length-take-le (count row) (l .next) (a .room-in-next) ∙ sym m;
+      prev-long = length-take-le (count row) (l .prev) (a .room-in-prev) ∙ sym m;
       room = omega (arith, a .even-count, a .room-in-out);
     }
 
-module _ (goes : Corner → Bool) (row : List ℤ) (next prev mark : List ℕ) (out : List ℤ) where
-  pub outcome-refused : (k : ℕ) → k ≡ first-of (refusals row (length next) (length prev) (length mark) (length out)) → (k ≡ 0 → ⊥)
-      → left (answer k 0 0) next prev mark out ≡ outcome-by goes row next prev mark out
+module _ (goes : Corner → Bool) (row : List ℤ) (l : Lent) where
+  pub outcome-refused : (k : ℕ) → k ≡ refusal row l → (k ≡ 0 → ⊥) → leaving (answer k 0 0) l ≡ outcome-by goes row l
   unfolding outcome-by
   outcome-refused zero e n = absurd (n refl)
   outcome-refused (suc k) e n = rw (← e, outcome-by)
 
-  pub outcome-done : NotRefused row next prev mark out
-      → outcome-by goes row next prev mark out ≡ left (told (walked-by goes row)) (zeroed (count row) next) (zeroed (count row) prev) (zeroed (count row) mark) (written row (walked-by goes row) out)
+  pub outcome-done : NotRefused row l → outcome-by goes row l ≡ finished row (walked-by goes row .end) (walked-by goes row .tally) l
   unfolding outcome-by
   outcome-done e = rw (e, outcome-by)
 
+-- a walk that has ended leaves the scratch zeroed, and the answer and the output that it has alone
+in-parts : (row : List ℤ) (e : End) (t : Tally) (l : Lent) →
+    let o = finished row e t (lent [] [] [] (l .out)) in
+    finished row e t l ≡ leaving (o .answer) (swept (count row) (lent (l .next) (l .prev) (l .mark) (o .rows .out)))
+in-parts row (kept s) t l = refl
+in-parts row collapsed t l = refl
+
 -- and put together again
-pub joined : (rule : Rule) (row : List ℤ) (next prev mark : List ℕ) (out : List ℤ) → NotRefused row next prev mark out → (r : Cleaned) (exit : List ℤ) (next′ prev′ mark′ : List ℕ)
-    → Settled rule row out r exit → Swept (length (take (count row) mark)) next′ prev′ mark′
-    → left r (next′ ++ drop (count row) next) (prev′ ++ drop (count row) prev) (mark′ ++ drop (count row) mark) exit ≡ outcome rule row next prev mark out
-joined rule row next prev mark out e r exit next′ prev′ mark′ t s =
-    let n : length (take (count row) mark) ≡ count row = length-take-le (count row) mark (accepted row next prev mark out e .room-in-mark) in
+pub joined : (rule : Rule) (row : List ℤ) (l : Lent) → NotRefused row l → (r : Cleaned) (exit : List ℤ) (next prev mark : List ℕ)
+    → Settled rule row (l .out) r exit → Swept (length (take (count row) (l .mark))) next prev mark
+    → leaving r (lent (next ++ drop (count row) (l .next)) (prev ++ drop (count row) (l .prev)) (mark ++ drop (count row) (l .mark)) exit) ≡ outcome rule row l
+joined rule row l e r exit next prev mark t s =
+    let n : length (take (count row) (l .mark)) ≡ count row = length-take-le (count row) (l .mark) (accepted row l e .room-in-mark) in
     let z : length {A = ℕ} (replicate (count row) 0) ≡ count row = length-replicate (count row) 0 in
-    rw (t .answer, t .output, s .next-zero, s .prev-zero, s .mark-zero, n) (sym (outcome-done (goes-at rule) row next prev mark out e ∙ rw z))
+    rw (t .answer, t .output, s .next-zero, s .prev-zero, s .mark-zero, n)
+    (sym (outcome-done (goes-at rule) row l e ∙ in-parts row (walked rule row .end) (walked rule row .tally) l ∙ rw z))

@@ -2,7 +2,7 @@
 use mathlib.Core.Path.{_≡_, refl}
 use mathlib.Core.List.{[], _∷_, _++_}
 use Rattle.grid.specs.Cases.{row, W4, W9}
-use Rattle.buffer.specs.Parts.{Part, lying}
+use Rattle.rows.specs.Parts.{Part, lying}
 use Rattle.clean.specs.Part.{kept-part}
 
 -- an output that begins with what is kept of W4, which is W9, in another block than the contours

@@ -8,10 +8,10 @@ use lib.IntN.{ℤ, pos}
 use lib.ListN.{length, getD, set, drop, replicate, length-set, length-append, length-replicate, drop-of-length-le}
 use lib.Seq.{drop-cons, drop-length, take-at, drop-at}
 use borrow.Author.Fill.{fill-none, fill-more}
-use Rattle.grid.specs.Rows.{front}
+use Rattle.rows.specs.Rows.{front, zeroed}
 use Rattle.ring.specs.Walk.{survivors-from, survivors}
 use Rattle.ring.proofs.Survivors.{survivors-yes, survivors-no}
-use Rattle.clean.specs.Outcome.{chosen, zeroed}
+use Rattle.clean.specs.Outcome.{chosen}
 use Rattle.clean.specs.Promises.{Zeroed}
 
 pub length-chosen : (row : List ℤ) (s : List ℕ) → length (chosen row s) ≡ 2 * length s
@@ -84,29 +84,6 @@ unfolding survivors-from
 writing-all {row} {mark} {out₀} {out} {kept} {i} x h =
     let e : x .done ≡ survivors mark = sym (append-nil (x .done)) ∙ ap (λ (l : List ℕ). x .done ++ survivors-from i l) (sym (drop-of-length-le mark h)) ∙ x .is in
     (x .kept-is ∙ ap length e, x .output ∙ ap (λ (s : List ℕ). front (chosen row s) out₀) e)
-
--- the entries below i are 0, the rest as it was
-pub record Zeroing (row₀ row : List ℕ) (i : ℕ) : Type 0 where
-  pub is : row ≡ replicate i 0 ++ drop i row₀
-  pub long : length row ≡ length row₀
-  pub high : i ≤ length row₀
-
-pub zeroing-none : (row : List ℕ) → Zeroing row row 0
-zeroing-none row = record { is = fill-none row 0; long = refl; high = omega arith }
-
-pub zeroing-more : {row₀ row : List ℕ} {i : ℕ} → Zeroing row₀ row i → i < length row → Zeroing row₀ (set row i 0) (i + 1)
-zeroing-more {row₀} {row} {i} x h =
-    let below : i < length row₀ = omega (arith, x .long) in
-    record {
-      is = ap (λ (l : List ℕ). set l i 0) (x .is) ∙ fill-more i 0 row₀ below;
-      long = length-set row i 0 ∙ x .long;
-      high = omega arith;
-    }
-
-pub zeroing-all : {row₀ row : List ℕ} {i : ℕ} → Zeroing row₀ row i → length row ≤ i → row ≡ replicate (length row₀) 0
-zeroing-all {row₀} {row} {i} x h =
-    let e : i ≡ length row₀ = omega (arith, x .long, x .high) in
-    x .is ∙ rw (e, drop-length row₀) (append-nil (replicate (length row₀) 0))
 
 -- so much of a zeroed row is 0, and the rest as it was
 pub zeroed-is : (n : ℕ) (row : List ℕ) → Zeroed n row (zeroed n row)

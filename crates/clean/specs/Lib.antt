@@ -2,4 +2,4 @@ pub mod Verdicts
 pub mod Outcome
 pub mod Promises
 pub mod Part
-pub mod Inside
+pub mod inside

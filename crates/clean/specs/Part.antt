@@ -3,7 +3,7 @@ use mathlib.Core.Bool.{true, false, _&&_}
 use Prim.Native.Nat.{ℕ, _*_}
 use lib.Dec.{eqb, ltb, leb}
 use lib.ListN.{length}
-use Rattle.buffer.specs.Parts.{Part, first, none}
+use Rattle.rows.specs.Parts.{Part, first, none}
 
 -- the contour itself if it has exactly 2k numbers; the output's first 2k if the contour has more and the output at least 2k; otherwise the empty part of the contour
 unfoldable pub kept-part : Part → Part → ℕ → Part

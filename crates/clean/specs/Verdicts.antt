@@ -5,24 +5,31 @@ use lib.Dec.{leb}
 use lib.ListN.{length}
 use lib.IntN.{ℤ}
 use Rattle.grid.specs.declared.Point.{Point}
-use Rattle.grid.specs.declared.Verdict.{Verdict}
+use Rattle.replies.specs.declared.Verdict.{Verdict}
 use Rattle.grid.specs.Points.{points}
-use Rattle.grid.specs.Corners.{distinct-neighbours, corners, some, straight, back}
-use Rattle.grid.specs.Ladder.{first-of}
+use Rattle.grid.specs.Corners.{distinct-neighbours, corners, some, aligned-at, reverses-at}
+use Rattle.replies.specs.Ladder.{first-of}
 use Rattle.grid.specs.Domain.{domain}
-use Rattle.grid.specs.Verdicts.{verdict}
+use Rattle.replies.specs.Verdicts.{verdict}
+use Rattle.ring.specs.declared.Rule.{Rule}
+use Rattle.ring.specs.declared.Rule.the-variants.{Collinear, Spike}
 
 -- three or more points, and no vertex whose two edges have cross 0
 unfoldable pub is-simple : List Point → Bool
-is-simple l = leb 3 (length l) && not (some straight (corners l))
+is-simple l = leb 3 (length l) && not (some aligned-at (corners l))
 
 -- three or more are left, and no vertex has cross 0 with dot below 0
 unfoldable pub no-spike-left : List Point → Bool
-no-spike-left l = leb 3 (length l) && not (some back (corners l))
+no-spike-left l = leb 3 (length l) && not (some reverses-at (corners l))
 
 -- three or more points; equal neighbours skipped, no spike is left
 unfoldable pub no-spikes : List Point → Bool
 no-spikes l = leb 3 (length l) && no-spike-left (distinct-neighbours l)
+
+-- the verdict that goes with a rule
+abbrev pub passes : Rule → List Point → Bool
+passes Collinear l = is-simple l
+passes Spike l = no-spikes l
 
 -- the answers
 unfoldable pub simple : List ℤ → Verdict

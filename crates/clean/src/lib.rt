@@ -1,6 +1,7 @@
 // The cleaners of one contour, their verdicts, and the call that hands back what they kept.
 pub mod cleaning;
 pub mod despike;
+pub mod inner;
 mod part;
 pub mod simple;
 

@@ -1,6 +1,6 @@
 // What a cleaning kept, as a part of one of two lent rows.
 ghost use mathlib.Core.Path.{_≡_};
-ghost use Rattle.buffer.specs.Parts.{part};
+ghost use Rattle.rows.specs.Parts.{part};
 ghost use Rattle.clean.specs.Part.{kept-part};
 
 // The contour itself if k points are all of it, the k points in front of the output if the contour has more,

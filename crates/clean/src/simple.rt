@@ -2,13 +2,15 @@
 ghost use mathlib.Core.Path.{_≡_};
 ghost use Rattle.ring.specs.declared.Rule as R;
 ghost use Rattle.clean.specs.Verdicts.{simple as simple-verdict};
-ghost use Rattle.clean.specs.Outcome.{left, outcome};
+ghost use Rattle.clean.specs.Outcome.{lent, leaving, outcome};
 use crate::cleaning;
 use crate::cleaning::Cleaned;
-use grid::Verdict;
+use crate::inner::verdicts;
+use replies::Verdict;
 use ring::Rule;
 
-// Whether the contour has three or more points, and no vertex whose two edges have cross 0.
+// Whether the contour has three or more points, and no vertex whose two edges have cross 0. Most contours are boxes: with
+// the length known LLVM makes no loop.
 pub fn is_simple(points: &[i32]) -> Verdict
     ensures { λ r. ⌜ r ≡ simple-verdict (now (points .entry)) ⌝ }
 {
@@ -19,16 +21,15 @@ pub fn is_simple(points: &[i32]) -> Verdict
             yes: false,
         };
     }
-    let n = points.len() / 2;
-    if n < 3 {
+    if points.len() == 8 {
         return Verdict {
-            reply: grid::reply::DONE,
-            yes: false,
+            reply: replies::DONE,
+            yes: ring::inner::standing_by(true, points, 4) == 4,
         };
     }
     Verdict {
-        reply: grid::reply::DONE,
-        yes: ring::standing(Rule::Collinear, points, n) == n,
+        reply: replies::DONE,
+        yes: verdicts::all_turn(points),
     }
 }
 
@@ -40,7 +41,11 @@ pub fn simplified(
     mark: &mut [u8],
     out: &mut [i32],
 ) -> Cleaned
-    ensures { λ r. ⌜ left r (now (next .exit)) (now (prev .exit)) (now (mark .exit)) (now (out .exit)) ≡ outcome R.Rule.Collinear (now (points .entry)) (now (next .entry)) (now (prev .entry)) (now (mark .entry)) (now (out .entry)) ⌝ }
+    ensures { λ r. ⌜
+        leaving r (lent (now (next .exit)) (now (prev .exit)) (now (mark .exit)) (now (out .exit)))
+        ≡ outcome R.Rule.Collinear (now (points .entry))
+        (lent (now (next .entry)) (now (prev .entry)) (now (mark .entry)) (now (out .entry)))
+        ⌝ }
 {
     cleaning::clean(Rule::Collinear, points, next, prev, mark, out)
 }

@@ -5,12 +5,12 @@ use Prim.Native.Nat.{ℕ}
 use lib.IntN.{ℤ, pos, negsuc}
 use lib.Ieee.{Float, binary64, ofBits, ofInt, div}
 use Rattle.grid.specs.Limits.{most}
-use Rattle.grid.specs.Ladder.{first-of}
+use Rattle.replies.specs.Ladder.{first-of}
 use Rattle.grid.specs.Points.{points}
 use Rattle.grid.specs.Cases.{row}
 use Rattle.buffer.specs.Spans.{sound-from, laid}
 use Rattle.buffer.specs.Sets.{joined}
-use Rattle.buffer.specs.Answers.{packed, left, stored, Left}
+use Rattle.buffer.specs.Answers.{packed, leaving, stored, Outcome}
 use Rattle.millimetres.specs.Scale.{bound, near, finite, size, units, on-grid, millimetres}
 use Rattle.drawing.specs.Commands.{item, brought, asked, items}
 use Rattle.drawing.specs.Faults.{first-fault}
@@ -48,12 +48,12 @@ out = row (9 ∷ 9 ∷ 9 ∷ 9 ∷ 9 ∷ 9 ∷ [])
 abbrev records : List (List ℕ)
 records = (7 ∷ 7 ∷ []) ∷ (7 ∷ 7 ∷ []) ∷ []
 
-abbrev imported : List ℕ → List ℕ → Left
+abbrev imported : List ℕ → List ℕ → Outcome
 imported kinds bits = I.outcome kinds (floats bits) out records
 
 -- the rows as they were
-abbrev refused : ℕ → Left
-refused reply = left (packed reply 0 0 0) out records []
+abbrev refused : ℕ → Outcome
+refused reply = leaving (packed reply 0 0 0) out records []
 
 -- rows whose lengths don't match: a kind that is no kind brings no floats; an odd count; a place too few
 lengths-differ :
@@ -98,18 +98,18 @@ first-counts = (refl, refl, refl)
 
 -- a Move after a Move leaves a contour of one point, and what is open at the row's end is ended
 moves : imported (0 ∷ 0 ∷ 1 ∷ []) (one ∷ naught ∷ one-half ∷ less-two ∷ naught ∷ one ∷ [])
-    ≡ left (packed 0 3 2 0) (pos 1024 ∷ pos 0 ∷ pos 1536 ∷ negsuc 2047 ∷ pos 0 ∷ pos 1024 ∷ []) ((0 ∷ 1 ∷ []) ∷ (1 ∷ 3 ∷ []) ∷ []) []
+    ≡ leaving (packed 0 3 2 0) (pos 1024 ∷ pos 0 ∷ pos 1536 ∷ negsuc 2047 ∷ pos 0 ∷ pos 1024 ∷ []) ((0 ∷ 1 ∷ []) ∷ (1 ∷ 3 ∷ []) ∷ []) []
 unfolding stored first-of asked brought items item first-fault lines outlines joined laid ofBits finite on-grid size near bound units most
 moves = refl
 
 -- a Close ends one; behind what is written the rows stay as they were
 closed : imported (0 ∷ 1 ∷ 2 ∷ []) (0x4120000000000000 ∷ 0x8000000000000000 ∷ 0x1 ∷ one ∷ [])
-    ≡ left (packed 0 2 1 0) (pos 536870912 ∷ pos 0 ∷ pos 0 ∷ pos 1024 ∷ pos 9 ∷ pos 9 ∷ []) ((0 ∷ 2 ∷ []) ∷ (7 ∷ 7 ∷ []) ∷ []) []
+    ≡ leaving (packed 0 2 1 0) (pos 536870912 ∷ pos 0 ∷ pos 0 ∷ pos 1024 ∷ pos 9 ∷ pos 9 ∷ []) ((0 ∷ 2 ∷ []) ∷ (7 ∷ 7 ∷ []) ∷ []) []
 unfolding stored first-of asked brought items item first-fault lines outlines joined laid ofBits finite on-grid size near bound units most
 closed = refl
 
 -- no commands draw no contours
-nothing : imported [] [] ≡ left (packed 0 0 0 0) out records []
+nothing : imported [] [] ≡ leaving (packed 0 0 0 0) out records []
 unfolding stored first-of asked items first-fault outlines joined laid most
 nothing = refl
 
@@ -128,22 +128,22 @@ kind-row = 7 ∷ 7 ∷ 7 ∷ 7 ∷ 7 ∷ 7 ∷ []
 abbrev float-row : List Float
 float-row = floats (far ∷ far ∷ far ∷ far ∷ far ∷ far ∷ [])
 
-abbrev exported : List ℤ → List (List ℕ) → E.Left
+abbrev exported : List ℤ → List (List ℕ) → E.Outcome
 exported p ranges = E.outcome p ranges kind-row float-row
 
-abbrev not-drawn : ℕ → E.Left
-not-drawn reply = E.left (record { reply = reply; commands = 0; floats = 0 }) kind-row float-row
+abbrev not-drawn : ℕ → E.Outcome
+not-drawn reply = E.leaving (record { reply = reply; commands = 0; floats = 0 }) kind-row float-row
 
 -- a point, an empty contour, which is exported as nothing, and two points; behind them the rows stay as they were
 drawn : exported (pos 1024 ∷ pos 0 ∷ pos 1536 ∷ negsuc 2047 ∷ pos 0 ∷ pos 1024 ∷ []) ((0 ∷ 1 ∷ []) ∷ (1 ∷ 1 ∷ []) ∷ (1 ∷ 3 ∷ []) ∷ [])
-    ≡ E.left (record { reply = 0; commands = 5; floats = 6 }) (0 ∷ 2 ∷ 0 ∷ 1 ∷ 2 ∷ 7 ∷ []) (floats (one ∷ naught ∷ one-half ∷ less-two ∷ naught ∷ one ∷ []))
+    ≡ E.leaving (record { reply = 0; commands = 5; floats = 6 }) (0 ∷ 2 ∷ 0 ∷ 1 ∷ 2 ∷ 7 ∷ []) (floats (one ∷ naught ∷ one-half ∷ less-two ∷ naught ∷ one ∷ []))
 unfolding E.outcome first-of most sound-from E.all-within bound E.outline joined points millimetres div ofInt ofBits
 drawn = refl
 
 -- empty contours alone, and no contours
 no-commands :
-    (exported [] ((0 ∷ 0 ∷ []) ∷ (0 ∷ 0 ∷ []) ∷ []) ≡ E.left (record { reply = 0; commands = 0; floats = 0 }) kind-row float-row)
-    × (exported [] [] ≡ E.left (record { reply = 0; commands = 0; floats = 0 }) kind-row float-row)
+    (exported [] ((0 ∷ 0 ∷ []) ∷ (0 ∷ 0 ∷ []) ∷ []) ≡ E.leaving (record { reply = 0; commands = 0; floats = 0 }) kind-row float-row)
+    × (exported [] [] ≡ E.leaving (record { reply = 0; commands = 0; floats = 0 }) kind-row float-row)
 unfolding E.outcome first-of most sound-from E.all-within E.outline joined points
 no-commands = (refl, refl)
 

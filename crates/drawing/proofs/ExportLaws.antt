@@ -13,16 +13,15 @@ use borrow.Author.Tests.{le-leb, lt-leb, leb-true, leb-false}
 use Rattle.grid.specs.declared.Point.{Point}
 use Rattle.grid.specs.Points.{points}
 use Rattle.grid.specs.Limits.{limit, most, on-grid, all-on-grid}
-use Rattle.grid.specs.Ladder.{first-of}
+use Rattle.replies.specs.Ladder.{first-of, room}
 use Rattle.grid.specs.Domain.{count}
-use Rattle.grid.specs.Rows.{front}
-use Rattle.grid.proofs.LadderLaws.{First, first-is, stopped, onward}
-use Rattle.grid.proofs.LadderLaws.First.{here, past, foot}
+use Rattle.rows.specs.Rows.{front}
+use Rattle.replies.proofs.LadderLaws.{First, first-is, stopped, onward}
+use Rattle.replies.proofs.LadderLaws.First.{here, past, foot}
 use Rattle.grid.proofs.RowLaws.{points-count}
 use Rattle.buffer.specs.declared.ranges.Span.{Span}
 use Rattle.buffer.specs.Spans.{spans, sound-from, sound, size, total}
 use Rattle.buffer.specs.Sets.{joined, contour, contours, Even}
-use Rattle.buffer.specs.Refusals.{room}
 use Rattle.buffer.specs.Contours as C
 use Rattle.buffer.proofs.RefusalLaws.{Accepted, accepted}
 use Rattle.buffer.proofs.SetLaws.{contours-even, joined-append, sizes-are}
@@ -33,8 +32,8 @@ use Rattle.drawing.specs.declared.answer.Drawn.{Drawn}
 use Rattle.drawing.specs.declared.command.Command.{Command}
 use Rattle.drawing.specs.declared.command.Command.the-variants.{Line, Close}
 use Rattle.drawing.specs.Commands.{kind, floats, kinds-of, floats-of}
-use Rattle.drawing.specs.Exporting.{place, outline, commands, all-within, refusals, left, enough, put, outcome}
-use Rattle.drawing.specs.Inside.{one, contour-kinds, set-kinds, filled, Forward, none-drawn}
+use Rattle.drawing.specs.Exporting.{place, outline, commands, all-within, refusals, leaving, enough, put, outcome}
+use Rattle.drawing.specs.inside.Rows.{one, contour-kinds, set-kinds, filled, Forward, none-drawn}
 use Rattle.drawing.proofs.PutLaws.{ones, set-length}
 
 -- a coordinate of a drawing is one of the grid
@@ -138,7 +137,7 @@ module _ (p : List ℤ) (ranges : List (List ℕ)) (even : length p ≡ 2 * coun
   commands-few = omega (arith, filled-few (spans ranges), sizes-total 0 (count p) (spans ranges) ok)
 
 -- what it answers
-put-refused : (l : List Command) (kinds : List ℕ) (floats : List Float) (r : ℕ) → (r ≡ 0 → ⊥) → left (none-drawn r) kinds floats ≡ put r l kinds floats
+put-refused : (l : List Command) (kinds : List ℕ) (floats : List Float) (r : ℕ) → (r ≡ 0 → ⊥) → leaving (none-drawn r) kinds floats ≡ put r l kinds floats
 put-refused l kinds floats zero n = absurd (n refl)
 put-refused l kinds floats (suc r) n = refl
 
@@ -153,9 +152,9 @@ module _ (p : List ℤ) (ranges : List (List ℕ)) (kinds : List ℕ) (floats : 
   judged : k ≡ first-of (refusals p ranges)
   judged = e ∙ ap first-of (same-refusals p ranges)
 
-  pub export-refused : (w : Drawn) → w ≡ none-drawn k → (k ≡ 0 → ⊥) → left w kinds floats ≡ outcome p ranges kinds floats
+  pub export-refused : (w : Drawn) → w ≡ none-drawn k → (k ≡ 0 → ⊥) → leaving w kinds floats ≡ outcome p ranges kinds floats
   export-refused w g n =
-      ap (λ (a : Drawn). left a kinds floats) g ∙ put-refused told-commands kinds floats k n
+      ap (λ (a : Drawn). leaving a kinds floats) g ∙ put-refused told-commands kinds floats k n
       ∙ by-number k (first-is _ _ (stopped (refusals p ranges) (room (enough told-commands kinds floats)) k judged n))
 
   module _ (z : k ≡ 0) where
@@ -175,9 +174,9 @@ module _ (p : List ℤ) (ranges : List (List ℕ)) (kinds : List ℕ) (floats : 
       onto : (r : ℕ) → First (room (enough told-commands kinds floats)) r → put r told-commands kinds floats ≡ outcome p ranges kinds floats
       onto r f = by-number r (first-is _ _ (onward (refusals p ranges) (room (enough told-commands kinds floats)) r tt (sym judged ∙ z) f))
 
-      pub export-cramped : (w : Drawn) → w ≡ none-drawn 5 → (leb (count p + n) (length kinds) && leb (length p) (length floats)) ≡ false → left w kinds floats ≡ outcome p ranges kinds floats
+      pub export-cramped : (w : Drawn) → w ≡ none-drawn 5 → (leb (count p + n) (length kinds) && leb (length p) (length floats)) ≡ false → leaving w kinds floats ≡ outcome p ranges kinds floats
       export-cramped w g h =
-          ap (λ (a : Drawn). left a kinds floats) g ∙ put-refused told-commands kinds floats 5 (λ i. omega arith)
+          ap (λ (a : Drawn). leaving a kinds floats) g ∙ put-refused told-commands kinds floats 5 (λ i. omega arith)
           ∙ onto 5 (here (ap not (sym same-room ∙ h)))
 
       module _ (h : (leb (count p + n) (length kinds) && leb (length p) (length floats)) ≡ true) where
@@ -192,12 +191,12 @@ module _ (p : List ℤ) (ranges : List (List ℕ)) (kinds : List ℕ) (floats : 
         export-places = (omega (arith, taken .even), leb-true _ _ (and-right (leb (count p + n) (length kinds)) (leb (length p) (length floats)) h))
 
         pub export-done : (c : List ℕ) (d : List Float) → c ≡ front (set-kinds (spans ranges)) kinds → d ≡ front (map millimetres p) floats
-            → left (record { reply = 0; commands = count p + n; floats = length p }) c d ≡ outcome p ranges kinds floats
+            → leaving (record { reply = 0; commands = count p + n; floats = length p }) c d ≡ outcome p ranges kinds floats
         export-done c d f g =
-            ap₂ (λ (a b : ℕ). left (record { reply = 0; commands = a; floats = b }) c d)
+            ap₂ (λ (a b : ℕ). leaving (record { reply = 0; commands = a; floats = b }) c d)
             (ap (λ (m : ℕ). count p + m) q ∙ sym (kinds-count p ranges (taken .even) (taken .sound)))
             (sym (floats-count p ranges (taken .even) (taken .sound)))
-            ∙ ap₂ (λ (a : List ℕ) (b : List Float). left (record { reply = 0; commands = length (kinds-of told-commands); floats = length (floats-of told-commands) }) a b)
+            ∙ ap₂ (λ (a : List ℕ) (b : List Float). leaving (record { reply = 0; commands = length (kinds-of told-commands); floats = length (floats-of told-commands) }) a b)
             (f ∙ ap (λ (l : List ℕ). front l kinds) (sym (kinds-are p ranges (taken .even) (taken .sound))))
             (g ∙ ap (λ (l : List Float). front l floats) (sym (floats-are p ranges (taken .even) (taken .sound))))
             ∙ onto 0 (past (ap not (sym same-room ∙ h)) foot)

@@ -6,9 +6,9 @@ use Prim.Native.Nat.{ℕ, zero, suc}
 use lib.Dec.{leb}
 use lib.Ieee.{Float}
 use Rattle.integers.proofs.Logic.{and-left, and-right}
-use Rattle.grid.specs.Ladder.{first-of}
-use Rattle.grid.proofs.LadderLaws.{first-is}
-use Rattle.grid.proofs.LadderLaws.First.{here, past, foot}
+use Rattle.replies.specs.Ladder.{first-of}
+use Rattle.replies.proofs.LadderLaws.{first-is}
+use Rattle.replies.proofs.LadderLaws.First.{here, past, foot}
 use Rattle.millimetres.specs.Scale.{bound, finite, size, on-grid}
 use Rattle.drawing.specs.declared.command.Place.{Place}
 use Rattle.drawing.specs.Commands.{Item}

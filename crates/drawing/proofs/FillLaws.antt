@@ -11,8 +11,8 @@ use lib.Seq.{drop-cons, drop-drop, drop-length, getD-drop}
 use mir.Val.{boolByte}
 use borrow.Author.Tests.{ne-eqb}
 use Rattle.buffer.specs.Spans.{rows, total, laid}
-use Rattle.buffer.proofs.RowLaws.{Copied, copied-none, copied-more}
-use Rattle.drawing.specs.Inside.{run, sizes}
+use Rattle.rows.proofs.RowLaws.{Copied, copied-none, copied-more}
+use Rattle.drawing.specs.inside.Rows.{run, sizes}
 
 -- two elements more of a list are written
 module _ {A : Type 0} {row₀ : List A} {at : ℕ} {l row : List A} {i : ℕ} (c : Copied row₀ at l row i) where

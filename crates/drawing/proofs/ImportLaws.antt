@@ -11,25 +11,23 @@ use lib.Ieee.{Float}
 use borrow.Author.Tests.{eqb-true, leb-true, ltb-false, eq-eqb, ne-eqb, lt-ltb, le-ltb}
 use Rattle.integers.proofs.Logic.{and-left, and-right}
 use Rattle.grid.specs.Limits.{most}
-use Rattle.grid.specs.Ladder.{Rung, first-of}
+use Rattle.replies.specs.Ladder.{Rung, first-of, so-far, room}
 use Rattle.grid.specs.Domain.{count}
-use Rattle.grid.specs.Rows.{front}
-use Rattle.grid.proofs.LadderLaws.{First, first-is, stopped}
-use Rattle.grid.proofs.LadderLaws.First.{here, past, foot}
+use Rattle.rows.specs.Rows.{front}
+use Rattle.replies.proofs.LadderLaws.{First, first-is, stopped, found, clear-of}
+use Rattle.replies.proofs.LadderLaws.First.{here, past, foot}
 use Rattle.buffer.specs.declared.answer.Packed.{Packed}
 use Rattle.buffer.specs.declared.ranges.Span.{Span}
 use Rattle.buffer.specs.Spans.{rows, laid}
 use Rattle.buffer.specs.Sets.{joined, contour-spans}
-use Rattle.buffer.specs.Refusals.{told, room}
-use Rattle.buffer.specs.Answers.{packed, left, enough}
-use Rattle.buffer.proofs.RefusalLaws.{found}
-use Rattle.buffer.proofs.AnswerLaws.{stored-refused, stored-done, clear-of}
+use Rattle.buffer.specs.Answers.{packed, leaving, enough}
+use Rattle.buffer.proofs.AnswerLaws.{stored-refused, stored-done}
 use Rattle.buffer.proofs.SetLaws.{laid-length}
 use Rattle.millimetres.specs.Scale.{units}
 use Rattle.drawing.specs.Commands.{asked, items}
 use Rattle.drawing.specs.Faults.{first-fault}
 use Rattle.drawing.specs.Importing.{drawn, refusals, outcome}
-use Rattle.drawing.specs.Inside.{Coordinates, sizes}
+use Rattle.drawing.specs.inside.Rows.{Coordinates, sizes}
 use Rattle.drawing.proofs.OutlineLaws.{Sound, sound-if, coordinates, numbers-are, points-are, sizes-are}
 
 -- a drawing that is not refused, room aside
@@ -78,9 +76,9 @@ module _ (kinds : List ℕ) (floats : List Float) where
   taken-if e = go (eqb (length floats) (asked kinds)) refl (first-fault false (items kinds floats)) refl e
     where
       go : (b : Bool) → eqb (length floats) (asked kinds) ≡ b → (f : ℕ) → first-fault false (items kinds floats) ≡ f
-          → first-of ((not b, 13) ∷ told f ++ (ltb most (count (joined (drawn kinds floats))), 2) ∷ []) ≡ 0 → Taken kinds floats
+          → first-of ((not b, 13) ∷ so-far f ++ (ltb most (count (joined (drawn kinds floats))), 2) ∷ []) ≡ 0 → Taken kinds floats
       go false p f q h = absurd (omega arith)
-      go true p (suc f) q h = absurd (no (first-is ((false, 13) ∷ told (suc f) ++ (ltb most (count (joined (drawn kinds floats))), 2) ∷ []) (suc f) (past refl (here (ap not (eqb·suc-zero f)))) ∙ h))
+      go true p (suc f) q h = absurd (no (first-is ((false, 13) ∷ so-far (suc f) ++ (ltb most (count (joined (drawn kinds floats))), 2) ∷ []) (suc f) (past refl (here (ap not (eqb·suc-zero f)))) ∙ h))
         where
           no : suc f ≡ 0 → ⊥
           no z = omega arith
@@ -105,7 +103,7 @@ module _ (kinds : List ℕ) (floats : List Float) where
   numbers-length t = ap length (numbers-are (taken-sound kinds floats t)) ∙ length-map floats units
 
 module _ (kinds : List ℕ) (floats : List Float) (out : List ℤ) (records : List (List ℕ)) (k r n : ℕ) (e : k ≡ first-of (refusals kinds floats)) (m : n ≡ length (sizes kinds))
-    (f : r ≡ first-of (told k ++ room (leb (length floats) (length out) && leb n (length records)))) where
+    (f : r ≡ first-of (so-far k ++ room (leb (length floats) (length out) && leb n (length records)))) where
   abbrev tested : Bool
   tested = leb (length floats) (length out) && leb n (length records)
 
@@ -121,15 +119,15 @@ module _ (kinds : List ℕ) (floats : List Float) (out : List ℤ) (records : Li
   unfolding first-of
   number = f ∙ go k e
     where
-      go : (j : ℕ) → j ≡ first-of (refusals kinds floats) → first-of (told j ++ room tested) ≡ first-of (refusals kinds floats ++ room enough-for)
+      go : (j : ℕ) → j ≡ first-of (refusals kinds floats) → first-of (so-far j ++ room tested) ≡ first-of (refusals kinds floats ++ room enough-for)
       go zero h =
           let t = taken-if kinds floats (sym h) in
           ap (λ (b : Bool). first-of (room b)) (same-room t) ∙ first-is _ _ (taken-past kinds floats t (room enough-for) _ (found (room enough-for) _ refl))
       go (suc j) h =
-          sym (first-is (told (suc j) ++ room tested) (suc j) (here (ap not (eqb·suc-zero j))))
+          sym (first-is (so-far (suc j) ++ room tested) (suc j) (here (ap not (eqb·suc-zero j))))
           ∙ first-is _ _ (stopped (refusals kinds floats) (room enough-for) (suc j) h (λ z. omega arith))
 
-  pub import-refused : (w : Packed) → w ≡ packed r 0 0 0 → (r ≡ 0 → ⊥) → left w out records [] ≡ outcome kinds floats out records
+  pub import-refused : (w : Packed) → w ≡ packed r 0 0 0 → (r ≡ 0 → ⊥) → leaving w out records [] ≡ outcome kinds floats out records
   import-refused = stored-refused (joined (drawn kinds floats)) (contour-spans (drawn kinds floats)) [] out records [] (refusals kinds floats) enough-for refl r number
 
   module _ (z : r ≡ 0) where
@@ -148,9 +146,9 @@ module _ (kinds : List ℕ) (floats : List Float) (out : List ℤ) (records : Li
         omega (arith, m)
 
     pub import-done : (o : List ℤ) (d : List (List ℕ)) → o ≡ front (map units floats) out → d ≡ front (rows (laid 0 (sizes kinds))) records
-        → left (packed 0 (length floats / 2) n 0) o d [] ≡ outcome kinds floats out records
+        → leaving (packed 0 (length floats / 2) n 0) o d [] ≡ outcome kinds floats out records
     import-done o d g h =
-        ap₂ (λ (a b : ℕ). left (packed 0 a b 0) o d []) (sym (points-are (taken-sound kinds floats taken))) (m ∙ sym (spans-length kinds floats))
+        ap₂ (λ (a b : ℕ). leaving (packed 0 a b 0) o d []) (sym (points-are (taken-sound kinds floats taken))) (m ∙ sym (spans-length kinds floats))
         ∙ stored-done (joined (drawn kinds floats)) (contour-spans (drawn kinds floats)) [] out records [] (refusals kinds floats) enough-for refl r number o d [] z
         (g ∙ ap (λ (l : List ℤ). front l out) (sym (numbers-are (taken-sound kinds floats taken))))
         (h ∙ ap (λ (l : List Span). front (rows l) records) (sym (spans-are kinds floats)))

@@ -9,16 +9,16 @@ use lib.IntN.{ℤ}
 use lib.Ieee.{Float, nan}
 use borrow.Author.Tests.{not-false}
 use Rattle.integers.proofs.Logic.{and-left, and-right}
-use Rattle.grid.specs.Ladder.{first-of}
+use Rattle.replies.specs.Ladder.{first-of}
 use Rattle.grid.specs.Domain.{count}
-use Rattle.grid.proofs.LadderLaws.{clear}
+use Rattle.replies.proofs.LadderLaws.{clear}
 use Rattle.buffer.specs.Sets.{joined}
 use Rattle.millimetres.specs.Scale.{units, on-grid}
 use Rattle.drawing.specs.Commands.{Item, item, brought, asked, items}
 use Rattle.drawing.specs.Faults.{place-faults, or-else, first-fault}
 use Rattle.drawing.specs.Outlines.{lines, outlines}
 use Rattle.drawing.specs.Importing.{drawn}
-use Rattle.drawing.specs.Inside.{Coordinates, run, sizes}
+use Rattle.drawing.specs.inside.Rows.{Coordinates, run, sizes}
 
 -- no command is at fault: its place is on the grid, and a Line or a Close finds a contour open
 pub data Sound : Bool → List ℕ → List Float → Type 0 where

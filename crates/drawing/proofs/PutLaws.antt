@@ -12,17 +12,17 @@ use lib.Ieee.{Float}
 use mir.Val.{boolByte}
 use borrow.Author.Tests.{lt-ltb, le-ltb}
 use Rattle.grid.specs.Points.{at}
-use Rattle.grid.specs.Rows.{front}
+use Rattle.rows.specs.Rows.{front, placed}
 use Rattle.buffer.specs.declared.ranges.Span.{Span}
 use Rattle.buffer.specs.Spans.{span, spans, size, total}
 use Rattle.buffer.specs.Sets.{joined}
-use Rattle.buffer.specs.Rows.{placed}
-use Rattle.buffer.proofs.RowLaws.{placed-next, spans-length}
+use Rattle.rows.proofs.RowLaws.{placed-next}
+use Rattle.buffer.proofs.RowLaws.{spans-length}
 use Rattle.buffer.proofs.ListLaws.{map-at}
-use Rattle.buffer.proofs.PlacedLaws.{placed-none, placed-long, placed-behind, set-placed}
+use Rattle.rows.proofs.PlacedLaws.{placed-none, placed-long, placed-behind, set-placed}
 use Rattle.buffer.proofs.SetLaws.{joined-append}
 use Rattle.millimetres.specs.Scale.{millimetres}
-use Rattle.drawing.specs.Inside.{one, contour-kinds, set-kinds, filled}
+use Rattle.drawing.specs.inside.Rows.{one, contour-kinds, set-kinds, filled}
 
 -- the floats of some points, from number `from` on
 module _ (points : List ℤ) (from n : ℕ) (h : 2 * (from + n) ≤ length points) where

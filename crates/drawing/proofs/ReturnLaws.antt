@@ -13,9 +13,9 @@ use Rattle.integers.proofs.Logic.{and-left, and-right}
 use Rattle.grid.specs.declared.Point.{Point}
 use Rattle.grid.specs.Points.{points}
 use Rattle.grid.specs.Limits.{most}
-use Rattle.grid.specs.Ladder.{first-of}
+use Rattle.replies.specs.Ladder.{first-of}
 use Rattle.grid.specs.Domain.{count}
-use Rattle.grid.proofs.LadderLaws.{clear}
+use Rattle.replies.proofs.LadderLaws.{clear}
 use Rattle.buffer.specs.Spans.{spans, sound}
 use Rattle.buffer.specs.Sets.{joined, contour, contours, Even}
 use Rattle.buffer.proofs.SetLaws.{contours-even}

@@ -9,14 +9,12 @@ use lib.Seq.{take-at}
 use lib.IntN.{ℤ}
 use lib.Ieee.{Float}
 use borrow.Author.Tests.{le-leb}
-use Rattle.grid.specs.Ladder.{Rung, first-of}
+use Rattle.replies.specs.Ladder.{Rung, first-of, room}
 use Rattle.grid.specs.Domain.{count}
-use Rattle.grid.proofs.LadderLaws.{cleared, first-is}
+use Rattle.replies.proofs.LadderLaws.{cleared, first-is, found}
 use Rattle.buffer.specs.Spans.{spans}
 use Rattle.buffer.specs.Sets.{joined, contour, contours, contour-spans}
-use Rattle.buffer.specs.Refusals.{room}
-use Rattle.buffer.specs.Answers.{Left, written-points, written-contours, enough, stored, outcome}
-use Rattle.buffer.proofs.RefusalLaws.{found}
+use Rattle.buffer.specs.Answers.{Outcome, written-points, written-contours, enough, stored, outcome}
 use Rattle.buffer.proofs.RowLaws.{spans-length}
 use Rattle.buffer.proofs.SetLaws.{laid-length}
 use Rattle.buffer.proofs.WrittenLaws.{written}
@@ -73,7 +71,7 @@ module _ (p : List ℤ) (ranges : List (List ℕ)) (ok : first-of (E.refusals p 
       ∙ ap (λ (q : List ℤ). stored [] q (contour-spans (without-empty (contours p (spans ranges)))) [] out records []) no-point-is-lost
 
 -- the same of what an export left
-module _ (p : List ℤ) (ranges : List (List ℕ)) (kinds : List ℕ) (floats : List Float) (o : E.Left) (e : o ≡ E.outcome p ranges kinds floats) (done : o .answer .reply ≡ 0) where
+module _ (p : List ℤ) (ranges : List (List ℕ)) (kinds : List ℕ) (floats : List Float) (o : E.Outcome) (e : o ≡ E.outcome p ranges kinds floats) (done : o .answer .reply ≡ 0) where
   record Kept : Type 0 where
     ok : first-of (E.refusals p ranges) ≡ 0
     kinds-are : written-kinds o ≡ drawn-kinds p ranges
@@ -92,7 +90,7 @@ module _ (p : List ℤ) (ranges : List (List ℕ)) (kinds : List ℕ) (floats : 
         kinds-are = ap written-kinds g ∙ take-at (drawn-kinds p ranges) (drop (length (drawn-kinds p ranges)) kinds) (length (drawn-kinds p ranges)) refl;
         floats-are = ap written-floats g ∙ take-at (drawn-floats p ranges) (drop (length (drawn-floats p ranges)) floats) (length (drawn-floats p ranges)) refl;
       }
-      go (suc r) f g = let z : suc r ≡ 0 = ap (λ (w : E.Left). w .answer .reply) (sym g) ∙ done in absurd (omega arith)
+      go (suc r) f g = let z : suc r ≡ 0 = ap (λ (w : E.Outcome). w .answer .reply) (sym g) ∙ done in absurd (omega arith)
 
   pub what-is-drawn-is-imported : (out : List ℤ) (records : List (List ℕ))
       → I.outcome (written-kinds o) (written-floats o) out records ≡ stored [] p (contour-spans (without-empty (contours p (spans ranges)))) [] out records []
@@ -101,7 +99,7 @@ module _ (p : List ℤ) (ranges : List (List ℕ)) (kinds : List ℕ) (floats : 
       ∙ every-set-that-can-be-drawn-is-imported p ranges (kept .ok) out records
 
   -- and of an import of it, into rows that have room
-  module _ (out : List ℤ) (records : List (List ℕ)) (i : Left) (g : i ≡ I.outcome (written-kinds o) (written-floats o) out records)
+  module _ (out : List ℤ) (records : List (List ℕ)) (i : Outcome) (g : i ≡ I.outcome (written-kinds o) (written-floats o) out records)
       (points-in : length p ≤ length out) (contours-in : length (without-empty (contours p (spans ranges))) ≤ length records) where
     abbrev back : List (List ℤ)
     back = without-empty (contours p (spans ranges))
@@ -115,7 +113,7 @@ module _ (p : List ℤ) (ranges : List (List ℕ)) (kinds : List ℕ) (floats : 
         let n : length (contour-spans back) ≡ length back = laid-length 0 (map count back) ∙ length-map back count in
         let a = le-leb (length p) (length out) points-in in
         let b = le-leb (length (contour-spans back)) (length records) (omega arith) in
-        ap (λ (w : Left). w .answer .reply) stored-is ∙ rw (a, b)
+        ap (λ (w : Outcome). w .answer .reply) stored-is ∙ rw (a, b)
 
     pub a-set-drawn-and-imported-comes-back-but-for-its-empty-contours : contours (written-points i) (spans (written-contours i)) ≡ without-empty (contours p (spans ranges))
     a-set-drawn-and-imported-comes-back-but-for-its-empty-contours =

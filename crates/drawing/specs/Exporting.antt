@@ -8,11 +8,11 @@ use lib.IntN.{ℤ, natAbs}
 use lib.Ieee.{Float}
 use Rattle.grid.specs.declared.Point.{Point}
 use Rattle.grid.specs.Points.{points}
-use Rattle.grid.specs.Ladder.{Rung, first-of}
+use Rattle.replies.specs.Ladder.{Rung, first-of, room}
 use Rattle.grid.specs.Domain.{count, size}
-use Rattle.grid.specs.Rows.{front}
+use Rattle.rows.specs.Rows.{front}
 use Rattle.buffer.specs.Spans.{spans, sound}
-use Rattle.buffer.specs.Refusals.{unsound, room}
+use Rattle.buffer.specs.Refusals.{unsound}
 use Rattle.buffer.specs.Sets.{joined, contours}
 use Rattle.millimetres.specs.Scale.{bound, millimetres}
 use Rattle.drawing.specs.declared.answer.Drawn.{Drawn}
@@ -44,26 +44,26 @@ abbrev pub refusals : List ℤ → List (List ℕ) → List Rung
 refusals p ranges = size p ++ unsound (sound (spans ranges) (count p)) ++ (not (all-within p), 3) ∷ []
 
 -- the answer, and the two rows as they are left
-pub record Left : Type 0 where
+pub record Outcome : Type 0 where
   pub answer : Drawn
   pub kinds : List ℕ
   pub floats : List Float
 
-abbrev pub left : Drawn → List ℕ → List Float → Left
-left answer kinds floats = record { answer = answer; kinds = kinds; floats = floats }
+abbrev pub leaving : Drawn → List ℕ → List Float → Outcome
+leaving answer kinds floats = record { answer = answer; kinds = kinds; floats = floats }
 
 -- each of the rows has room for these commands
 abbrev pub enough : List Command → List ℕ → List Float → Bool
 enough l kinds floats = leb (length (kinds-of l)) (length kinds) && leb (length (floats-of l)) (length floats)
 
 -- by the number of the first refusal: refused, and the rows as they were, or commands in front of them
-abbrev pub put : ℕ → List Command → List ℕ → List Float → Left
-put (suc k) l kinds floats = left (record { reply = suc k; commands = 0; floats = 0 }) kinds floats
+abbrev pub put : ℕ → List Command → List ℕ → List Float → Outcome
+put (suc k) l kinds floats = leaving (record { reply = suc k; commands = 0; floats = 0 }) kinds floats
 put zero l kinds floats =
-    left (record { reply = 0; commands = length (kinds-of l); floats = length (floats-of l) }) (front (kinds-of l) kinds) (front (floats-of l) floats)
+    leaving (record { reply = 0; commands = length (kinds-of l); floats = length (floats-of l) }) (front (kinds-of l) kinds) (front (floats-of l) floats)
 
 -- a set is refused, also for want of room, or its commands are written to the front of the rows
-unfoldable pub outcome : List ℤ → List (List ℕ) → List ℕ → List Float → Left
+unfoldable pub outcome : List ℤ → List (List ℕ) → List ℕ → List Float → Outcome
 outcome p ranges kinds floats =
     let l = commands (contours p (spans ranges)) in
     put (first-of (refusals p ranges ++ room (enough l kinds floats))) l kinds floats

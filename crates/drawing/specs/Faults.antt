@@ -2,7 +2,7 @@
 use mathlib.Core.Bool.{Bool, true, false, not, _&&_}
 use mathlib.Core.List.{List, [], _∷_, _++_}
 use Prim.Native.Nat.{ℕ, zero, suc}
-use Rattle.grid.specs.Ladder.{Rung, first-of}
+use Rattle.replies.specs.Ladder.{Rung, first-of}
 use Rattle.millimetres.specs.Scale.{finite, on-grid}
 use Rattle.drawing.specs.declared.command.Place.{Place}
 use Rattle.drawing.specs.declared.command.Command.the-variants.{Move, Line, Close}

@@ -7,11 +7,10 @@ use lib.ListN.{length}
 use lib.IntN.{ℤ}
 use lib.Ieee.{Float}
 use Rattle.grid.specs.Limits.{most}
-use Rattle.grid.specs.Ladder.{Rung}
+use Rattle.replies.specs.Ladder.{Rung, so-far}
 use Rattle.grid.specs.Domain.{count}
-use Rattle.buffer.specs.Refusals.{told}
 use Rattle.buffer.specs.Sets.{joined, contour-spans}
-use Rattle.buffer.specs.Answers.{Left, stored}
+use Rattle.buffer.specs.Answers.{Outcome, stored}
 use Rattle.drawing.specs.Commands.{asked, items}
 use Rattle.drawing.specs.Faults.{first-fault}
 use Rattle.drawing.specs.Outlines.{outlines}
@@ -30,9 +29,9 @@ many set = (ltb most (count (joined set)), 2) ∷ []
 
 -- what is refused of a drawing, in order: 13 for the lengths, the first faulty command's 13, 14 or 3, then 2
 abbrev pub refusals : List ℕ → List Float → List Rung
-refusals kinds floats = mismatched kinds floats ++ told (first-fault false (items kinds floats)) ++ many (drawn kinds floats)
+refusals kinds floats = mismatched kinds floats ++ so-far (first-fault false (items kinds floats)) ++ many (drawn kinds floats)
 
 -- a drawing is refused, also for want of room, or its contours are written, as a set, to the front of the rows
-abbrev pub outcome : List ℕ → List Float → List ℤ → List (List ℕ) → Left
+abbrev pub outcome : List ℕ → List Float → List ℤ → List (List ℕ) → Outcome
 outcome kinds floats out records =
     stored (refusals kinds floats) (joined (drawn kinds floats)) (contour-spans (drawn kinds floats)) [] out records []

@@ -3,5 +3,5 @@ pub mod Faults
 pub mod Outlines
 pub mod Importing
 pub mod Exporting
-pub mod Inside
+pub mod inside
 pub mod Promises

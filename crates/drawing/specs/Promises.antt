@@ -8,7 +8,7 @@ use Rattle.buffer.specs.Spans.{spans}
 use Rattle.buffer.specs.Sets.{contours}
 use Rattle.drawing.specs.declared.command.Command.{Command}
 use Rattle.drawing.specs.Commands.{kinds-of, floats-of}
-use Rattle.drawing.specs.Exporting.{Left, commands}
+use Rattle.drawing.specs.Exporting.{Outcome, commands}
 
 -- a set but for its empty contours, which a drawing can't say
 unfoldable pub without-empty : List (List ℤ) → List (List ℤ)
@@ -29,9 +29,9 @@ abbrev pub drawn-floats : List ℤ → List (List ℕ) → List Float
 drawn-floats p ranges = floats-of (commands-of p ranges)
 
 -- the drawing that was written, as far as the answer counts it: its kinds
-abbrev pub written-kinds : Left → List ℕ
+abbrev pub written-kinds : Outcome → List ℕ
 written-kinds o = take (o .answer .commands) (o .kinds)
 
 -- its floats
-abbrev pub written-floats : Left → List Float
+abbrev pub written-floats : Outcome → List Float
 written-floats o = take (o .answer .floats) (o .floats)

@@ -1,11 +1,7 @@
-// Places and commands, as they stand in the rows of kinds and floats, and on the grid.
+// Places and commands.
 ghost use mathlib.Core.Path.{_≡_};
-ghost use mathlib.Core.Bool.{true};
-ghost use Prim.Native.Nat.{_+_, _≤_, _<_};
-ghost use lib.ListN.{length, drop};
-ghost use Rattle.drawing.specs.Commands.{Item, place-of, item, brought as brought-of};
+ghost use Rattle.drawing.specs.Commands.{brought as brought-of};
 ghost use Rattle.drawing.specs.Exporting.{place as place-at};
-ghost use Rattle.drawing.specs.Inside.{on as on-grid, point as point-at};
 use grid::Point;
 
 pub const MOVE: u8 = 0;
@@ -26,47 +22,11 @@ pub enum Command {
     Close,
 }
 
-// The place whose floats stand from `at` on.
-pub fn place_from(floats: &[f64], at: usize) -> Place
-    requires { ⌜ at + 1 < length (now floats) ⌝ }
-    ensures { λ r. ⌜ r ≡ place-of (drop at (now (floats .entry))) ⌝ }
-{
-    Place {
-        x: floats[at],
-        y: floats[at + 1],
-    }
-}
-
 // How many floats a command of a kind brings.
 pub fn brought(kind: u8) -> usize
     ensures { λ r. ⌜ r ≡ brought-of kind ⌝ }
 {
     if kind < CLOSE { 2 } else { 0 }
-}
-
-// The command of a kind, whose floats, if it brings any, stand from `at` on.
-pub fn read(kind: u8, floats: &[f64], at: usize) -> Command
-    requires { ⌜ (kind ≤ 2) × (at + brought-of kind ≤ length (now floats)) ⌝ }
-    ensures { λ r. ⌜ Item.command r ≡ item kind (drop at (now (floats .entry))) ⌝ }
-{
-    if kind == MOVE {
-        Command::Move(place_from(floats, at))
-    } else if kind == LINE {
-        Command::Line(place_from(floats, at))
-    } else {
-        Command::Close
-    }
-}
-
-// The grid's point at a place.
-pub fn point_of(p: Place) -> Point
-    requires { ⌜ on-grid p ≡ true ⌝ }
-    ensures { λ r. ⌜ r ≡ point-at p ⌝ }
-{
-    Point {
-        x: millimetres::units(p.x),
-        y: millimetres::units(p.y),
-    }
 }
 
 // The place of a point.

@@ -1,9 +1,9 @@
 // A contour set, given back as a drawing.
 ghost use mathlib.Core.Path.{_≡_};
-ghost use Rattle.drawing.specs.Exporting.{left, outcome};
-ghost use Rattle.drawing.specs.Inside.{none-drawn};
+ghost use Rattle.drawing.specs.Exporting.{leaving, outcome};
+ghost use Rattle.drawing.specs.inside.Rows.{none-drawn};
 use crate::answer::Drawn;
-use crate::putting;
+use crate::inner::putting;
 
 // Nothing was written.
 fn refused(reply: u32) -> Drawn
@@ -19,7 +19,7 @@ fn refused(reply: u32) -> Drawn
 // Writes the commands of a contour set to the front of the rows.
 pub fn export(points: &[i32], ranges: &[[usize; 2]], kinds: &mut [u8], floats: &mut [f64]) -> Drawn
     ensures { λ r. ⌜
-        left r (now (kinds .exit)) (now (floats .exit))
+        leaving r (now (kinds .exit)) (now (floats .exit))
         ≡ outcome (now (points .entry)) (now (ranges .entry)) (now (kinds .entry)) (now (floats .entry))
         ⌝ }
 {
@@ -30,12 +30,12 @@ pub fn export(points: &[i32], ranges: &[[usize; 2]], kinds: &mut [u8], floats: &
     let commands = points.len() / 2 + putting::filled(ranges);
     let room = (commands <= kinds.len()) & (points.len() <= floats.len());
     if !room {
-        return refused(grid::reply::ROOM);
+        return refused(replies::ROOM);
     }
     putting::contours(ranges, kinds);
     putting::places(points, floats);
     Drawn {
-        reply: grid::reply::DONE,
+        reply: replies::DONE,
         commands,
         floats: points.len(),
     }

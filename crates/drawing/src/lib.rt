@@ -2,10 +2,8 @@
 pub mod answer;
 mod command;
 mod exporting;
-mod filling;
 mod importing;
-mod judging;
-mod putting;
+mod inner;
 
 pub use answer::Drawn;
 pub use command::Command;

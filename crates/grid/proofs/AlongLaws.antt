@@ -9,15 +9,17 @@ use lib.ListN.{length, drop}
 use lib.IntN.{ℤ}
 use Rattle.grid.specs.declared.Point.{Point}
 use Rattle.grid.specs.declared.Edge.{Edge}
-use Rattle.grid.specs.Points.{at, on, same, points, between, still, Short}
+use Rattle.grid.specs.Points.{at, on, same, points}
+use Rattle.grid.specs.Edges.{between, still}
 use Rattle.grid.specs.Corners.{last, differing, distinct-neighbours, Corner, corners-from, corners, some}
 use Rattle.grid.specs.Domain.{Contour}
-use Rattle.grid.specs.Inside.{FirstOther}
-use Rattle.grid.proofs.PointLaws.{at-on, corner-steps}
+use Rattle.grid.specs.inside.Edges.{Short}
+use Rattle.grid.specs.inside.Rows.{FirstOther}
+use Rattle.grid.proofs.PointLaws.{at-on}
 use Rattle.grid.proofs.RowLaws.{points-more, points-done}
 use Rattle.grid.proofs.CornerLaws.{same-is, differing-skip, differing-keep, last-kept, last-from, distinct-is}
 use Rattle.grid.proofs.AroundLaws.{Tally}
-use Rattle.grid.proofs.EdgeLaws.{same-before}
+use Rattle.grid.proofs.EdgeLaws.{corner-short, same-before}
 
 module _ (row : List ℤ) where
   -- the contour without equal neighbours
@@ -84,8 +86,8 @@ module _ (row : List ℤ) where
         pub next-from : from ≡ between b (at row j)
         next-from = rw (w .here) e
 
-        pub next-short : Short (to .dx) (to .dy) (from .dx) (from .dy)
-        next-short = rw (w .to-is, next-from) (corner-steps {a = a} {b = b} {c = at row j} (record { a-on = w .a-on; b-on = b-on; c-on = at-on row j (c .on) }))
+        pub next-short : Short to from
+        next-short = rw (w .to-is, next-from) (corner-short a b (at row j) (w .a-on) b-on (at-on row j (c .on)))
 
       module _ (l : i < n) {from : Edge} (e : from ≡ between (at row (i - 1)) (at row i)) where
         moves : {t : Bool} → still from ≡ t → same (at row i) b ≡ t

@@ -13,11 +13,13 @@ use Rattle.integers.proofs.Equal.{eqZ-true, eqZ-same}
 use Rattle.integers.proofs.Logic.{and-left, and-right, or-left, or-right}
 use Rattle.integers.proofs.Polynomial.{ring}
 use Rattle.grid.specs.declared.Point.{Point}
-use Rattle.grid.specs.Points.{at, origin, points, same, sign, bend, turn}
+use Rattle.grid.specs.Points.{at, origin, points, same}
+use Rattle.grid.specs.Edges.{between, cross, sign, turn}
 use Rattle.grid.specs.Neighbours.{preceding, following}
 use Rattle.grid.specs.Corners.{last, differing, distinct-neighbours, Corner, corner-in, corners-from, corners, some, turn-at}
 use Rattle.grid.specs.Domain.{Contour}
-use Rattle.grid.proofs.RowLaws.{any-default, points-more, points-done}
+use Rattle.rows.proofs.RowLaws.{any-default}
+use Rattle.grid.proofs.RowLaws.{points-more, points-done}
 
 pub same-is : (a b : Point) → same a b ≡ true → a ≡ b
 same-is a b e =
@@ -58,8 +60,8 @@ module _ {row : List ℤ} {n : ℕ} (c : Contour row n) where
       ap distinct-neighbours e ∙ ap (λ (l : Point). differing l (at row 0 ∷ drop 1 (points row))) (last-from (n - 1) 0 (omega arith)) ∙ ap (differing (at row (n - 1))) (sym e)
 
 -- two points or fewer turn nowhere
-flat : (a b : Point) → turn a b a ≡ pos 0
-unfolding bend
+flat : (a b : Point) → turn (between a b) (between b a) ≡ pos 0
+unfolding cross
 flat a b =
     ap sign
     (ring

@@ -8,10 +8,10 @@ use lib.ListN.{length}
 use lib.IntN.{ℤ}
 use borrow.Author.Tests.{ltb-false, eqb-false, not-false, ne-eqb, le-ltb}
 use Rattle.grid.specs.Limits.{all-on-grid, most}
-use Rattle.grid.specs.Ladder.{first-of}
+use Rattle.replies.specs.Ladder.{first-of}
 use Rattle.grid.specs.Domain.{count, domain, Contour}
-use Rattle.grid.proofs.LadderLaws.{clear, first-is}
-use Rattle.grid.proofs.LadderLaws.First.{past, foot}
+use Rattle.replies.proofs.LadderLaws.{clear, first-is}
+use Rattle.replies.proofs.LadderLaws.First.{past, foot}
 
 pub in-domain : (row : List ℤ) → first-of (domain row) ≡ 0 → Contour row (count row)
 in-domain row e =

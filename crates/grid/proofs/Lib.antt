@@ -1,11 +1,9 @@
 pub mod LimitLaws
 pub mod PointLaws
+pub mod SignLaws
+pub mod EdgeLaws
 pub mod RowLaws
 pub mod CornerLaws
 pub mod AroundLaws
-pub mod LadderLaws
 pub mod DomainLaws
-pub mod VerdictLaws
-pub mod EdgeLaws
 pub mod AlongLaws
-pub mod OneOutcome

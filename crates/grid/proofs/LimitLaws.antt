@@ -16,7 +16,7 @@ use Rattle.integers.specs.Bound.{In}
 use Rattle.integers.proofs.Bound.{tests-in, back}
 use Rattle.integers.proofs.Logic.{and-left, and-right}
 use Rattle.grid.specs.Limits.{limit, on-grid, all-on-grid}
-use Rattle.grid.specs.Inside.{raised}
+use Rattle.grid.specs.inside.Rows.{raised}
 
 pub on-grid-in : (z : ℤ) → on-grid z ≡ true → In limit z
 unfolding on-grid

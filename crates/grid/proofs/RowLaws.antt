@@ -10,12 +10,6 @@ use lib.IntN.{ℤ}
 use Rattle.grid.specs.Points.{at, origin, points}
 use Rattle.grid.specs.Domain.{count, Contour}
 
--- inside a list the default doesn't matter
-pub any-default : {A : Type 0} (l : List A) (j : ℕ) (d e : A) → j < length l → getD l j d ≡ getD l j e
-any-default [] j d e h = absurd (omega arith)
-any-default (x ∷ l) zero d e h = refl
-any-default (x ∷ l) (suc j) d e h = any-default l j d e (omega arith)
-
 pub points-count : (row : List ℤ) → length (points row) ≡ count row
 unfolding points
 points-count [] = refl

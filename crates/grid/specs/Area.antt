@@ -6,12 +6,12 @@ use mir.Syntax.{w64}
 use mir.Val.{toZ}
 use Rattle.integers.specs.Modulo.{mod64}
 use Rattle.grid.specs.declared.Point.{Point}
-use Rattle.grid.specs.Points.{cross}
+use Rattle.grid.specs.Edges.{from-origin, cross}
 
 -- the sum of x·y' - y·x' on the way from a through the points, and back to o
 unfoldable pub around : Point → Point → List Point → ℤ
-around o a [] = cross a o
-around o a (b ∷ points) = cross a b +ℤ around o b points
+around o a [] = cross (from-origin a) (from-origin o)
+around o a (b ∷ points) = cross (from-origin a) (from-origin b) +ℤ around o b points
 
 -- the exact doubled area: that sum over consecutive pairs, the closing pair included
 unfoldable pub exact : List Point → ℤ

@@ -1,12 +1,14 @@
 -- The corners of a closed contour, and the points that make one.
-use mathlib.Core.Bool.{Bool, true, false, _&&_, _||_}
+use mathlib.Core.Bool.{Bool, true, false, _||_}
 use mathlib.Core.List.{List, [], _∷_}
 use Prim.Native.Nat.{ℕ}
 use lib.ListN.{getD}
 use lib.IntN.{ℤ, pos, negsuc}
 use Rattle.integers.specs.Equal.{eqZ}
 use Rattle.grid.specs.declared.Point.{Point}
-use Rattle.grid.specs.Points.{origin, same, turn, reverses}
+use Rattle.grid.specs.declared.Edge.{Edge}
+use Rattle.grid.specs.Points.{origin, same}
+use Rattle.grid.specs.Edges.{between, cross, turn, aligned, reverses}
 use Rattle.grid.specs.Neighbours.{preceding, following}
 
 -- the last point, where a stands before the first
@@ -45,23 +47,36 @@ unfoldable pub some : (Corner → Bool) → List Corner → Bool
 some t [] = false
 some t (k ∷ rest) = t k || some t rest
 
--- the turn at a corner
+-- the edges to a corner's vertex and from it
+abbrev pub edge-to : Corner → Edge
+edge-to k = between (k .before) (k .vertex)
+
+abbrev pub edge-from : Corner → Edge
+edge-from k = between (k .vertex) (k .after)
+
+-- their cross
+abbrev pub cross-at : Corner → ℤ
+cross-at k = cross (edge-to k) (edge-from k)
+
+-- how the way turns there
 abbrev pub turn-at : Corner → ℤ
-turn-at k = turn (k .before) (k .vertex) (k .after)
+turn-at k = turn (edge-to k) (edge-from k)
 
-abbrev pub left : Corner → Bool
-left k = eqZ (turn-at k) (pos 1)
+-- to the left
+abbrev pub left-at : Corner → Bool
+left-at k = eqZ (turn-at k) (pos 1)
 
-abbrev pub right : Corner → Bool
-right k = eqZ (turn-at k) (negsuc 0)
+-- to the right
+abbrev pub right-at : Corner → Bool
+right-at k = eqZ (turn-at k) (negsuc 0)
 
 -- cross 0
-abbrev pub straight : Corner → Bool
-straight k = eqZ (turn-at k) (pos 0)
+abbrev pub aligned-at : Corner → Bool
+aligned-at k = aligned (edge-to k) (edge-from k)
 
 -- cross 0 with dot below 0
-abbrev pub back : Corner → Bool
-back k = straight k && reverses (k .before) (k .vertex) (k .after)
+abbrev pub reverses-at : Corner → Bool
+reverses-at k = reverses (edge-to k) (edge-from k)
 
 -- the corner at number j of a closed contour
 abbrev pub corner-in : List Point → ℕ → Corner

@@ -7,7 +7,7 @@ use lib.ListN.{length}
 use lib.IntN.{ℤ}
 use lib.Dec.{ltb, eqb}
 use Rattle.grid.specs.Limits.{most, all-on-grid}
-use Rattle.grid.specs.Ladder.{Rung}
+use Rattle.replies.specs.Ladder.{Rung}
 
 -- how many points a row has
 abbrev pub count : List ℤ → ℕ

@@ -1,11 +1,9 @@
 pub mod Limits
 pub mod Points
+pub mod Edges
 pub mod Neighbours
 pub mod Corners
 pub mod Area
-pub mod Ladder
 pub mod Domain
-pub mod Verdicts
-pub mod Rows
-pub mod Inside
+pub mod inside
 pub mod Cases

@@ -10,6 +10,6 @@ fn main() {
     let mut bytes = [0u8; BYTES];
     let mut text = [0u8; TEXT];
     let n = io::read_full(STDIN_FILENO, &mut bytes);
-    let length = report::list(&bytes[..n], &mut text);
+    let length = report::inner::listing::list(&bytes[..n], &mut text);
     io::write_all(STDOUT_FILENO, &text[..length]);
 }

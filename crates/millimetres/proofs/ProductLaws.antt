@@ -12,7 +12,7 @@ use lib.Ieee.Fits.{down-pos}
 use lib.Ieee.Nearest.{div-same}
 use lib.Ieee.Exact.{HasValue, round-exact}
 use Rattle.millimetres.specs.Scale.{near, size}
-use Rattle.millimetres.specs.Inside.{Small}
+use Rattle.millimetres.specs.inside.Small.{Small}
 use Rattle.millimetres.proofs.FloatLaws.{two-thousand, like, digits, deep}
 
 product : (s : Bool) (m : ℕ) (e : ℤ) → T (fits binary64 (fin s m e)) → m * up e < 1048576 * down e

@@ -10,7 +10,7 @@ use lib.IntN.{ℤ, pos, negsuc}
 use lib.Ieee.{Float, nan, inf, fin, up, down, lt, neg}
 use lib.Ieee.Fits.{up-pos, down-pos}
 use Rattle.millimetres.specs.Scale.{bound, near, finite, size, signed, units, on-grid}
-use Rattle.millimetres.specs.Inside.{Small}
+use Rattle.millimetres.specs.inside.Small.{Small}
 
 -- a float between the infinities
 pub finite-inside : (v : Float) → lt v (inf false) ≡ true → lt (inf true) v ≡ finite v

@@ -1,2 +1,2 @@
 pub mod Scale
-pub mod Inside
+pub mod inside

@@ -4,7 +4,7 @@ use mathlib.Core.Bool.{false}
 use lib.IntN.{pos}
 use Rattle.grid.specs.Limits.{limit, most, on-grid, all-on-grid}
 use Rattle.grid.specs.Points.{points}
-use Rattle.grid.specs.Ladder.{first-of}
+use Rattle.replies.specs.Ladder.{first-of}
 use Rattle.grid.specs.Cases.{W1}
 use Rattle.path.specs.Contains.{contained, contains}
 

@@ -13,20 +13,21 @@ use Rattle.integers.specs.Linear.{at as of}
 use Rattle.integers.proofs.Linear.{ltZ-difference, lt-holds, lt-fails, lt-means, lt-denies}
 use Rattle.integers.proofs.Polynomial.{ring}
 use Rattle.grid.specs.declared.Point.{Point}
-use Rattle.grid.specs.Points.{at, on, points, bend, turns-left}
+use Rattle.grid.specs.Points.{at, on, points}
+use Rattle.grid.specs.Edges.{between, cross, turns-left}
 use Rattle.grid.specs.Domain.{count, domain, Contour}
-use Rattle.grid.specs.Ladder.{first-of}
+use Rattle.replies.specs.Ladder.{first-of}
 use Rattle.grid.proofs.RowLaws.{points-count, points-more, points-done}
-use Rattle.grid.proofs.LadderLaws.{first-is, stopped, onward}
-use Rattle.grid.proofs.LadderLaws.First.{here, past, foot}
-use Rattle.grid.proofs.VerdictLaws.{verdict-refused, verdict-given}
+use Rattle.replies.proofs.LadderLaws.{first-is, stopped, onward}
+use Rattle.replies.proofs.LadderLaws.First.{here, past, foot}
+use Rattle.replies.proofs.VerdictLaws.{verdict-refused, verdict-given}
 use Rattle.grid.proofs.CornerLaws.{last-from}
 use Rattle.path.specs.Contains.{above, meets-right, crosses, odd, contained, refusals, contains}
-use Rattle.path.specs.Inside.{Across, Changing, before}
+use Rattle.path.specs.inside.Contains.{Across, Changing, before}
 
 -- the edge is met to the right of p where the way along it and on to p turns left
-meets-is : (p l h : Point) → turns-left l h p ≡ meets-right p l h
-unfolding turns-left bend
+pub meets-is : (p l h : Point) → turns-left (between l h) (between h p) ≡ meets-right p l h
+unfolding cross
 meets-is p l h =
     sym
     (ltZ-difference ((p .x -ℤ l .x) *ℤ (h .y -ℤ l .y)) ((p .y -ℤ l .y) *ℤ (h .x -ℤ l .x))
@@ -47,17 +48,17 @@ module _ (p a b : Point) where
   crosses-not e = rw (e, xor-self (above p b))
 
   -- an edge that rises over p's horizontal, and one that falls below it
-  pub crosses-up : above p a ≡ false → above p b ≡ true → turns-left a b p ≡ crosses p a b
+  pub crosses-up : above p a ≡ false → above p b ≡ true → meets-right p a b ≡ crosses p a b
   unfolding crosses xor
   crosses-up e f =
       let t : ltZ (a .y) (b .y) ≡ true = lt-holds (of (a .y)) (of (b .y)) (omega (arith, lt-denies (of (p .y)) (of (a .y)) e, lt-means (of (p .y)) (of (b .y)) f)) in
-      meets-is p a b ∙ rw (e, f, t)
+      rw (e, f, t)
 
-  pub crosses-down : above p a ≡ true → above p b ≡ false → turns-left b a p ≡ crosses p a b
+  pub crosses-down : above p a ≡ true → above p b ≡ false → meets-right p b a ≡ crosses p a b
   unfolding crosses xor
   crosses-down e f =
       let t : ltZ (a .y) (b .y) ≡ false = lt-fails (of (a .y)) (of (b .y)) (omega (arith, lt-means (of (p .y)) (of (a .y)) e, lt-denies (of (p .y)) (of (b .y)) f)) in
-      meets-is p b a ∙ rw (e, f, t)
+      rw (e, f, t)
 
 xor-assoc : (a b c : Bool) → xor (xor a b) c ≡ xor a (xor b c)
 unfolding xor

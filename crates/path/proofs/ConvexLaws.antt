@@ -7,42 +7,43 @@ use native.Mathlib.Omega.{arith}
 use native.Mathlib.Decide.{decLe}
 use lib.Dec.{leb}
 use lib.ListN.{length, drop}
-use lib.IntN.{ℤ, pos, negsuc, _-ℤ_, _*ℤ_}
+use lib.IntN.{ℤ, pos, negsuc}
 use lib.Signed.{ltZ}
 use borrow.Author.Tests.{le-leb, lt-leb}
 use Rattle.integers.specs.Equal.{eqZ}
 use Rattle.integers.proofs.Logic.{and-left, and-right}
 use Rattle.grid.specs.declared.Point.{Point}
 use Rattle.grid.specs.declared.Edge.{Edge}
-use Rattle.grid.specs.Points.{at, points, sign, bend, between, still, turn-along, against, opposed}
-use Rattle.grid.specs.Corners.{differing, corners, some, left, right, back}
+use Rattle.grid.specs.Points.{at, points}
+use Rattle.grid.specs.Edges.{between, still, cross, sign, turn, aligned, backward, reverses}
+use Rattle.grid.specs.Corners.{differing, corners, some, left-at, right-at, reverses-at}
 use Rattle.grid.specs.Domain.{count, Contour}
-use Rattle.grid.specs.Inside.{FirstOther}
-use Rattle.grid.proofs.PointLaws.{sign-left, sign-right, sign-none}
+use Rattle.grid.specs.inside.Rows.{FirstOther}
+use Rattle.grid.proofs.SignLaws.{sign-left, sign-right, sign-none, sign-zero}
 use Rattle.grid.proofs.RowLaws.{points-count}
 use Rattle.grid.proofs.CornerLaws.{few-turn-nowhere}
 use Rattle.grid.proofs.AroundLaws.{corner, Tally, tally-more, tally-met, tally-all}
-use Rattle.grid.proofs.EdgeLaws.{parallel-turn, moving, back-edges}
+use Rattle.grid.proofs.EdgeLaws.{moving}
 use Rattle.grid.proofs.AlongLaws.{left-over, Along, along-start, tally-start, next-from, next-skipped, along-skipped, next-kept, along-kept, closing-next, along-none, along-count}
-use Rattle.path.specs.declared.Seen.{Seen}
+use Rattle.path.specs.declared.inner.Seen.{Seen}
 use Rattle.path.specs.Convex.{one-way, convex-left, is-convex}
-use Rattle.path.specs.Inside.{looked, one-sided}
+use Rattle.path.specs.inside.Convex.{looked, one-sided}
 
--- the cross of two edges
-abbrev turned : Edge → Edge → ℤ
-turned u v = u .dx *ℤ v .dy -ℤ u .dy *ℤ v .dx
+-- two edges have cross 0 where the way does not turn
+aligned-turn : (u v : Edge) → aligned u v ≡ eqZ (turn u v) (pos 0)
+aligned-turn u v = sign-zero (cross u v)
 
 -- one corner more
 module _ (s : Seen) (u v : Edge) where
-  looked-left : ltZ (pos 0) (turn-along u v) ≡ true → record { left = true; right = s .right; back = s .back } ≡ looked s u v
-  looked-left t = simp (parallel-turn u v, sign-left (turned u v) t, or-true, or-false)
+  looked-left : ltZ (pos 0) (turn u v) ≡ true → record { left = true; right = s .right; reversed = s .reversed } ≡ looked s u v
+  looked-left t = simp (aligned-turn u v, sign-left (cross u v) t, or-true, or-false)
 
-  looked-right : ltZ (turn-along u v) (pos 0) ≡ true → record { left = s .left; right = true; back = s .back } ≡ looked s u v
-  looked-right t = simp (parallel-turn u v, sign-right (turned u v) t, or-true, or-false)
+  looked-right : ltZ (turn u v) (pos 0) ≡ true → record { left = s .left; right = true; reversed = s .reversed } ≡ looked s u v
+  looked-right t = simp (aligned-turn u v, sign-right (cross u v) t, or-true, or-false)
 
-  looked-none : (r : Bool) → ltZ (pos 0) (turn-along u v) ≡ false → ltZ (turn-along u v) (pos 0) ≡ false → r ≡ against u v
-      → record { left = s .left; right = s .right; back = s .back || r } ≡ looked s u v
-  looked-none r t f e = simp (parallel-turn u v, sign-none (turned u v) t f, or-false, e)
+  looked-none : (r : Bool) → ltZ (pos 0) (turn u v) ≡ false → ltZ (turn u v) (pos 0) ≡ false → r ≡ backward u v
+      → record { left = s .left; right = s .right; reversed = s .reversed || r } ≡ looked s u v
+  looked-none r t f e = simp (aligned-turn u v, sign-none (cross u v) t f, or-false, e)
 
 -- which turns are left and right
 left-test : (z : ℤ) → ltZ (pos 0) (sign z) ≡ eqZ (sign z) (pos 1)
@@ -56,17 +57,17 @@ right-test (pos (suc n)) = refl
 right-test (negsuc n) = refl
 
 -- the closing corner
-pub closes-told : (s : Seen) (u v : Edge) (t : ℤ) (o : Bool) → t ≡ turn-along u v → o ≡ opposed u v
-    → (not ((s .left || ltZ (pos 0) t) && (s .right || ltZ t (pos 0))) && not (s .back || o)) ≡ one-sided (looked s u v)
-closes-told s u v t o e f = rw (e, f, left-test (turned u v), right-test (turned u v))
+pub closes-told : (s : Seen) (u v : Edge) (t : ℤ) (o : Bool) → t ≡ turn u v → o ≡ reverses u v
+    → (not ((s .left || ltZ (pos 0) t) && (s .right || ltZ t (pos 0))) && not (s .reversed || o)) ≡ one-sided (looked s u v)
+closes-told s u v t o e f = rw (e, f, left-test (cross u v), right-test (cross u v))
 
 -- what the two edges at a corner show is what the corner shows
-looked-corner : (s : Seen) {u v : Edge} (a b p : Point) → u ≡ between a b → v ≡ between b p
-    → looked s u v ≡ record { left = s .left || left (corner a b p); right = s .right || right (corner a b p); back = s .back || back (corner a b p) }
-unfolding bend
-looked-corner s a b p e f =
-    ap₂ (looked s) e f
-    ∙ ap (λ (t : Bool). record { left = s .left || left (corner a b p); right = s .right || right (corner a b p); back = s .back || t }) (sym (back-edges a b p))
+looked-corner : (s : Seen) {u v : Edge} (a b p : Point) → u ≡ between a b → v ≡ between b p → looked s u v ≡ record {
+  left = s .left || left-at (corner a b p);
+  right = s .right || right-at (corner a b p);
+  reversed = s .reversed || reverses-at (corner a b p);
+}
+looked-corner s a b p e f = ap₂ (looked s) e f
 
 module _ (row : List ℤ) where
   -- what the corners up to the last point kept have shown
@@ -74,20 +75,20 @@ module _ (row : List ℤ) where
     pub a : Point
     pub b : Point
     pub along : Along row n a b to kept i
-    pub lefts : Tally left (s .left) (left-over row) (at row first) a b (differing b (drop i (points row)))
-    pub rights : Tally right (s .right) (left-over row) (at row first) a b (differing b (drop i (points row)))
-    pub backs : Tally back (s .back) (left-over row) (at row first) a b (differing b (drop i (points row)))
+    pub lefts : Tally left-at (s .left) (left-over row) (at row first) a b (differing b (drop i (points row)))
+    pub rights : Tally right-at (s .right) (left-over row) (at row first) a b (differing b (drop i (points row)))
+    pub reversals : Tally reverses-at (s .reversed) (left-over row) (at row first) a b (differing b (drop i (points row)))
 
   module _ {n : ℕ} (c : Contour row n) where
     pub sight-start : (first : ℕ) → FirstOther row n first → first < n → (closing : Edge) → closing ≡ between (at row (n - 1)) (at row first)
-        → Sight n (record { left = false; right = false; back = false }) first closing 1 (first + 1)
+        → Sight n (record { left = false; right = false; reversed = false }) first closing 1 (first + 1)
     sight-start first x h closing e = record {
       a = at row (n - 1);
       b = at row first;
       along = along-start row c first x h closing e;
-      lefts = tally-start row c first x h left;
-      rights = tally-start row c first x h right;
-      backs = tally-start row c first x h back;
+      lefts = tally-start row c first x h left-at;
+      rights = tally-start row c first x h right-at;
+      reversals = tally-start row c first x h reverses-at;
     }
 
     module _ {s : Seen} {first : ℕ} {to : Edge} {kept i : ℕ} (w : Sight n s first to kept i) where
@@ -95,7 +96,7 @@ module _ (row : List ℤ) where
         pub sight-skip : still from ≡ true → Sight n s first to kept (i + 1)
         sight-skip f =
             let r = next-skipped row c (w .along) l e f in
-            record { a = w .a; b = w .b; along = along-skipped row c (w .along) l e f; lefts = rw r at (w .lefts); rights = rw r at (w .rights); backs = rw r at (w .backs) }
+            record { a = w .a; b = w .b; along = along-skipped row c (w .along) l e f; lefts = rw r at (w .lefts); rights = rw r at (w .rights); reversals = rw r at (w .reversals) }
 
         sight-keep : still from ≡ false → Sight n (looked s to from) first from (kept + 1) (i + 1)
         sight-keep f =
@@ -107,21 +108,21 @@ module _ (row : List ℤ) where
               along = along-kept row c (w .along) l e f;
               lefts = tally-more (rw r at (w .lefts));
               rights = tally-more (rw r at (w .rights));
-              backs = tally-more (rw r at (w .backs));
+              reversals = tally-more (rw r at (w .reversals));
             })
 
-        pub sight-left : ltZ (pos 0) (turn-along to from) ≡ true → Sight n (record { left = true; right = s .right; back = s .back }) first from (kept + 1) (i + 1)
+        pub sight-left : ltZ (pos 0) (turn to from) ≡ true → Sight n (record { left = true; right = s .right; reversed = s .reversed }) first from (kept + 1) (i + 1)
         sight-left t =
-            let p = parallel-turn to from ∙ ap (λ (z : ℤ). eqZ z (pos 0)) (sign-left (turned to from) t) in
+            let p = aligned-turn to from ∙ ap (λ (z : ℤ). eqZ z (pos 0)) (sign-left (cross to from) t) in
             rw (looked-left s to from t) (sight-keep (moving to from p))
 
-        pub sight-right : ltZ (turn-along to from) (pos 0) ≡ true → Sight n (record { left = s .left; right = true; back = s .back }) first from (kept + 1) (i + 1)
+        pub sight-right : ltZ (turn to from) (pos 0) ≡ true → Sight n (record { left = s .left; right = true; reversed = s .reversed }) first from (kept + 1) (i + 1)
         sight-right t =
-            let p = parallel-turn to from ∙ ap (λ (z : ℤ). eqZ z (pos 0)) (sign-right (turned to from) t) in
+            let p = aligned-turn to from ∙ ap (λ (z : ℤ). eqZ z (pos 0)) (sign-right (cross to from) t) in
             rw (looked-right s to from t) (sight-keep (moving to from p))
 
-        pub sight-on : ltZ (pos 0) (turn-along to from) ≡ false → ltZ (turn-along to from) (pos 0) ≡ false → still from ≡ false → (r : Bool) → r ≡ against to from
-            → Sight n (record { left = s .left; right = s .right; back = s .back || r }) first from (kept + 1) (i + 1)
+        pub sight-on : ltZ (pos 0) (turn to from) ≡ false → ltZ (turn to from) (pos 0) ≡ false → still from ≡ false → (r : Bool) → r ≡ backward to from
+            → Sight n (record { left = s .left; right = s .right; reversed = s .reversed || r }) first from (kept + 1) (i + 1)
         sight-on t u f r e = rw (looked-none s to from r t u e) (sight-keep f)
 
       -- both ways have been seen, which two points or fewer cannot show
@@ -132,7 +133,7 @@ module _ (row : List ℤ) where
           let q = tally-met (w .rights) (and-right (s .left) (s .right) e) in
           rw (many p, p, q)
         where
-          many : some left (corners (left-over row)) ≡ true → leb (length (left-over row)) 2 ≡ false
+          many : some left-at (corners (left-over row)) ≡ true → leb (length (left-over row)) 2 ≡ false
           many p = go (decLe (length (left-over row)) 2)
             where
               go : Dec (length (left-over row) ≤ 2) → leb (length (left-over row)) 2 ≡ false
@@ -150,7 +151,7 @@ module _ (row : List ℤ) where
             let none = along-none row c (w .along) l in
             let m = lt-leb (length (left-over row)) 2 (omega (arith, along-count row c (w .along) l)) in
             let k = looked-corner s (w .a) (w .b) (at row first) (w .along .to-is) (next-from row c (w .along) first (closing-next row c (w .along) l first e)) in
-            ap one-sided k ∙ rw m (sym (rw (tally-all (rw none at (w .lefts)), tally-all (rw none at (w .rights)), tally-all (rw none at (w .backs)))))
+            ap one-sided k ∙ rw m (sym (rw (tally-all (rw none at (w .lefts)), tally-all (rw none at (w .rights)), tally-all (rw none at (w .reversals)))))
 
 -- the question as a whole
 module _ (row : List ℤ) where

@@ -2,11 +2,11 @@
 use mathlib.Core.List.{List}
 use lib.IntN.{ℤ, pos}
 use lib.Signed.{leZ}
-use Rattle.grid.specs.declared.Verdict.{Verdict}
+use Rattle.replies.specs.declared.Verdict.{Verdict}
 use Rattle.grid.specs.Points.{points}
 use Rattle.grid.specs.Area.{reported}
-use Rattle.grid.specs.Ladder.{first-of}
-use Rattle.grid.specs.Verdicts.{verdict}
+use Rattle.replies.specs.Ladder.{first-of}
+use Rattle.replies.specs.Verdicts.{verdict}
 use Rattle.area.specs.Answers.{refusals}
 
 -- the reported doubled area is at or below zero

@@ -5,12 +5,12 @@ use Prim.Native.Nat.{_-_, _<_}
 use lib.IntN.{ℤ, _-ℤ_, _*ℤ_}
 use lib.Signed.{ltZ}
 use Rattle.grid.specs.declared.Point.{Point}
-use Rattle.grid.specs.declared.Verdict.{Verdict}
+use Rattle.replies.specs.declared.Verdict.{Verdict}
 use Rattle.grid.specs.Points.{on, points}
 use Rattle.grid.specs.Corners.{last}
-use Rattle.grid.specs.Ladder.{Rung, first-of}
+use Rattle.replies.specs.Ladder.{Rung, first-of}
 use Rattle.grid.specs.Domain.{domain}
-use Rattle.grid.specs.Verdicts.{verdict}
+use Rattle.replies.specs.Verdicts.{verdict}
 
 -- a lies above p's horizontal
 abbrev pub above : Point → Point → Bool

@@ -5,16 +5,16 @@ use lib.Dec.{leb}
 use lib.ListN.{length}
 use lib.IntN.{ℤ}
 use Rattle.grid.specs.declared.Point.{Point}
-use Rattle.grid.specs.declared.Verdict.{Verdict}
+use Rattle.replies.specs.declared.Verdict.{Verdict}
 use Rattle.grid.specs.Points.{points}
-use Rattle.grid.specs.Corners.{distinct-neighbours, Corner, corners, some, left, right, back}
-use Rattle.grid.specs.Ladder.{first-of}
+use Rattle.grid.specs.Corners.{distinct-neighbours, Corner, corners, some, left-at, right-at, reverses-at}
+use Rattle.replies.specs.Ladder.{first-of}
 use Rattle.grid.specs.Domain.{domain}
-use Rattle.grid.specs.Verdicts.{verdict}
+use Rattle.replies.specs.Verdicts.{verdict}
 
 -- all non-zero turns have one sign, and no edge reverses
 abbrev pub one-way : List Corner → Bool
-one-way ks = not (some left ks && some right ks) && not (some back ks)
+one-way ks = not (some left-at ks && some right-at ks) && not (some reverses-at ks)
 
 -- at most two left, or those left turn one way
 unfoldable pub convex-left : List Point → Bool

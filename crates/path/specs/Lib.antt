@@ -1,4 +1,4 @@
 pub mod Convex
 pub mod Clockwise
 pub mod Contains
-pub mod Inside
+pub mod inside

@@ -2,11 +2,12 @@
 use mathlib.Core.Path.{_≡_, refl}
 use mathlib.Core.List.{[], _∷_, _++_}
 use lib.IntN.ℤ.{negsuc}
-use Rattle.ring.specs.Walk.{survivors-from, others, successor, predecessor, count, unmark, unmark-about, remove, decide, look, looks, walk}
+use Rattle.ring.specs.Walk.{survivors-from, others, successor, predecessor, occurrences, unmark, unmark-about, remove, decide, look, looks, walk}
 use Rattle.ring.specs.Rule.{goes-at}
-use Rattle.grid.specs.Ladder.{first-of}
+use Rattle.replies.specs.Ladder.{first-of}
 use Rattle.grid.specs.Limits.{limit, on-grid, all-on-grid}
-use Rattle.grid.specs.Points.{points, bend}
+use Rattle.grid.specs.Points.{points}
+use Rattle.grid.specs.Edges.{cross}
 use Rattle.grid.specs.Area.{around, exact, wrapped}
 use Rattle.integers.specs.Modulo.{mod64}
 use Rattle.buffer.specs.Sets.{joined}
@@ -34,5 +35,5 @@ none = refl
 w4 : listing (16 ∷ 1 ∷ 128 ∷ 5 ∷ 0 ∷ 0 ∷ 0 ∷ 0 ∷ 0 ∷ 0 ∷ 0 ∷ 0 ∷ 0 ∷ 0 ∷ 0 ∷ 2 ∷ 0 ∷ 0 ∷ 0 ∷ 0 ∷ 0 ∷ 0 ∷ 0 ∷ 4 ∷ 0 ∷ 0 ∷ 0 ∷ 0 ∷ 0 ∷ 0 ∷ 0 ∷ 4 ∷ 0 ∷ 0 ∷ 0 ∷ 4 ∷ 0 ∷ 0 ∷ 0 ∷ 0 ∷ 0 ∷ 0 ∷ 0 ∷ 4 ∷ [])
     ≡ heading ++ 49 ∷ 32 ∷ 53 ∷ 32 ∷ 52 ∷ 32 ∷ 54 ∷ 32 ∷ 51 ∷ 50 ∷ 10 ∷ []
 unfolding listing parsed bits field value first-of decimal places complete coordinates lines line limit on-grid all-on-grid joined
-    survivors-from others successor predecessor count unmark unmark-about remove decide look looks walk goes-at bend points around exact wrapped mod64
+    survivors-from others successor predecessor occurrences unmark unmark-about remove decide look looks walk goes-at cross points around exact wrapped mod64
 w4 = refl

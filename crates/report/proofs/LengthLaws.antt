@@ -16,14 +16,13 @@ use Rattle.grid.specs.Points.{points}
 use Rattle.grid.specs.Area.{exact, wrapped, reported}
 use Rattle.grid.specs.Domain.{count, Contour}
 use Rattle.ring.specs.declared.Rule as R
-use Rattle.ring.specs.Walk.{Stage}
-use Rattle.ring.specs.Walk.Stage.{under-way, kept, collapsed}
+use Rattle.ring.specs.Walk.{End}
+use Rattle.ring.specs.Walk.End.{kept, collapsed}
 use Rattle.ring.specs.Rule.{goes}
-use Rattle.ring.specs.Promises.{EndedWithin}
 use Rattle.ring.proofs.Listed.{rising-few}
 use Rattle.ring.proofs.Theorems.{ends-in-4n-9, kept-rising}
 use Rattle.report.specs.Text.{decimal, signed, dash}
-use Rattle.report.specs.Listing.{after, decisions, area2, cleaned, line, lines}
+use Rattle.report.specs.Listing.{after, area2, cleaned, line, lines}
 use Rattle.report.proofs.TextLaws.{decimal-length, signed-length}
 
 -- contours of the domain
@@ -36,23 +35,19 @@ module _ (c : List ℤ) (x : Contour c (count c)) where
   unfolding most
   few = omega (arith, x .few)
 
-  after-length : length (after (cleaned c)) ≤ 5
-  after-length = go (cleaned c) refl
+  after-length : length (after (cleaned c .end)) ≤ 5
+  after-length = go (cleaned c .end) refl
     where
-      go : (w : Stage) → cleaned c ≡ w → length (after w) ≤ 5
-      go (kept s k) e =
+      go : (w : End) → cleaned c .end ≡ w → length (after w) ≤ 5
+      go (kept s) e =
           let r = rising-few 0 (count c) s (kept-rising (goes R.Rule.Collinear c) (count c) e) in
           decimal-length (length s) 5 (omega arith) (omega arith) (omega (arith, few))
-      go (collapsed k) e = omega arith
-      go (under-way m p k) e = omega arith
+      go collapsed e = omega arith
 
-  decisions-length : length (decimal (decisions (cleaned c))) ≤ 6
-  decisions-length = decimal-length _ 6 (omega arith) (omega arith) (go (cleaned c) (ends-in-4n-9 (goes R.Rule.Collinear c) (count c)))
-    where
-      go : (w : Stage) → EndedWithin (4 * count c - 9) w → decisions w < 10 ^ 6
-      go (kept s k) h = omega (arith, few)
-      go (collapsed k) h = omega (arith, few)
-      go (under-way m p k) h = absurd h
+  decisions-length : length (decimal (cleaned c .tally .decisions)) ≤ 6
+  decisions-length =
+      let h : cleaned c .tally .decisions < 10 ^ 6 = omega (arith, few, ends-in-4n-9 (goes R.Rule.Collinear c) (count c)) in
+      decimal-length _ 6 (omega arith) (omega arith) h
 
   reported-fits : SFits w64 (reported (points c))
   unfolding wrapped

@@ -1,4 +1,5 @@
 pub mod TextLaws
+pub mod DigitLaws
 pub mod PutLaws
 pub mod LineLaws
 pub mod LinesLaws

@@ -11,7 +11,7 @@ use Rattle.buffer.specs.Spans.{span, spans}
 use Rattle.buffer.specs.Sets.{joined, contour, contours}
 use Rattle.buffer.proofs.PartLaws.{part-long, part-contour}
 use Rattle.report.specs.Listing.{line, lines}
-use Rattle.report.specs.Inside.{Put, Cleanable, Listable}
+use Rattle.report.specs.inside.Lines.{Put, Cleanable, Listable}
 use Rattle.report.proofs.PutLaws.{Going, going-none, going-room, going-more, going-all, going-same}
 
 -- a part that a range names can be cleaned

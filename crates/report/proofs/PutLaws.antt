@@ -4,12 +4,11 @@ use mathlib.Core.List.{List, [], _∷_, _++_, append-assoc, append-nil}
 use Prim.Native.Nat.{ℕ, _+_, _≤_}
 use native.Mathlib.Omega.{arith}
 use lib.ListN.{length, drop, length-append}
-use Rattle.grid.specs.Rows.{front}
-use Rattle.buffer.specs.Rows.{placed}
+use Rattle.rows.specs.Rows.{front, placed}
 use Rattle.buffer.specs.Sets.{joined}
-use Rattle.buffer.proofs.RowLaws.{placed-front}
-use Rattle.buffer.proofs.PlacedLaws.{placed-none, placed-long, placed-behind}
-use Rattle.report.specs.Inside.{Put}
+use Rattle.rows.proofs.RowLaws.{placed-front}
+use Rattle.rows.proofs.PlacedLaws.{placed-none, placed-long, placed-behind}
+use Rattle.report.specs.inside.Lines.{Put}
 
 -- of what is put from position at on these words are left, from position e on
 pub record Going (at : ℕ) (whole text : List ℕ) (e : ℕ) (t : List ℕ) (words : List (List ℕ)) : Type 0 where
@@ -49,6 +48,17 @@ going-same others h g = record { room = g .room; long = g .long; end = rw (sym h
 pub two-words : (a b : List ℕ) → a ++ b ≡ joined (a ∷ b ∷ [])
 unfolding joined
 two-words a b = simp append-nil
+
+-- a word that is put, and another behind it
+module _ {at : ℕ} {text a : List ℕ} {r : ℕ} {t : List ℕ} (p : Put at a text r t) (b : List ℕ) (h : at + length (a ++ b) ≤ length text) where
+  one-put : Going at (a ++ b) text r t (b ∷ [])
+  one-put = going-more (going-none at text (a ∷ b ∷ []) (two-words a b) h) p
+
+  pub room-behind : r + length b ≤ length t
+  room-behind = going-room one-put
+
+  pub both-put : {e : ℕ} {exit : List ℕ} → Put r b t e exit → Put at (a ++ b) text e exit
+  both-put q = going-all (going-more one-put q)
 
 pub three-words : (a b c : List ℕ) → a ++ b ++ c ≡ joined (a ∷ b ∷ c ∷ [])
 unfolding joined

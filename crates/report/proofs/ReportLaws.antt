@@ -10,17 +10,16 @@ use lib.Seq.{take-at, take-append-seam, drop-append-seam}
 use lib.IntN.{ℤ}
 use borrow.Author.Tests.{ltb-false, le-leb, not-false}
 use Rattle.grid.specs.Limits.{most, all-on-grid}
-use Rattle.grid.specs.Ladder.{Rung, first-of}
+use Rattle.replies.specs.Ladder.{Rung, first-of, so-far, room}
 use Rattle.grid.specs.Domain.{count}
-use Rattle.grid.proofs.LadderLaws.{first-is}
-use Rattle.grid.proofs.LadderLaws.First.{here}
+use Rattle.replies.proofs.LadderLaws.{first-is, below-clear, below-held, room-clear}
+use Rattle.replies.proofs.LadderLaws.First.{here}
 use Rattle.grid.proofs.LimitLaws.{on-taken, on-dropped}
 use Rattle.buffer.specs.declared.answer.Packed.{Packed}
 use Rattle.buffer.specs.declared.ranges.Span.{Span}
 use Rattle.buffer.specs.Spans.{spans, row, rows, sound}
 use Rattle.buffer.specs.Sets.{joined, contours, contour-spans, shape-spans, Even}
-use Rattle.buffer.specs.Refusals.{told, room}
-use Rattle.buffer.specs.Answers.{Left, left, enough, stored}
+use Rattle.buffer.specs.Answers.{Outcome, leaving, enough, stored}
 use Rattle.buffer.specs.Answers as A
 use Rattle.buffer.proofs.SpanLaws.{range-within}
 use Rattle.buffer.proofs.WrittenLaws.{spans-rows}
@@ -30,35 +29,18 @@ use Rattle.buffer.proofs.SetLaws.{laid-length}
 use Rattle.setfile.specs.Reading.{refusals, outcome}
 use Rattle.report.specs.Text.{decimal, line-end, heading, refused}
 use Rattle.report.specs.Listing.{lines, listing}
-use Rattle.report.specs.Inside.{Small}
+use Rattle.report.specs.inside.Lines.{Small}
 use Rattle.report.proofs.TextLaws.{decimal-short}
 use Rattle.setfile.proofs.SizeLaws.{Carried, carried}
 use Rattle.report.proofs.LengthLaws.{Contours, lines-length}
 
--- rungs that do not hold, or that stand below one that does, change nothing
-below-clear : (a b : List Rung) → first-of b ≡ 0 → first-of (a ++ b) ≡ first-of a
-unfolding first-of
-below-clear [] b e = e
-below-clear ((true, k) ∷ a) b e = refl
-below-clear ((false, k) ∷ a) b e = below-clear a b e
-
-below-held : (a b : List Rung) → (first-of a ≡ 0 → ⊥) → first-of (a ++ b) ≡ first-of a
-unfolding first-of
-below-held [] b n = absurd (n refl)
-below-held ((true, k) ∷ a) b n = refl
-below-held ((false, k) ∷ a) b n = below-held a b n
-
-room-clear : (b : Bool) → b ≡ true → first-of (room b) ≡ 0
-unfolding first-of
-room-clear b e = rw e
-
 -- a file that is not refused
-clear-parts : (a c : Bool) (d : ℕ) → first-of (((a, 2) ∷ []) ++ told d ++ ((c, 3) ∷ [])) ≡ 0 → (a ≡ false) × (c ≡ false)
+clear-parts : (a c : Bool) (d : ℕ) → first-of (((a, 2) ∷ []) ++ so-far d ++ ((c, 3) ∷ [])) ≡ 0 → (a ≡ false) × (c ≡ false)
 unfolding first-of
 clear-parts true c d e = absurd (omega arith)
 clear-parts false true zero e = absurd (omega arith)
 clear-parts false false zero e = (refl, refl)
-clear-parts false c (suc k) e = absurd (omega (arith, first-is (told (suc k) ++ (c, 3) ∷ []) (suc k) (here (ap not (eqb·suc-zero k)))))
+clear-parts false c (suc k) e = absurd (omega (arith, first-is (so-far (suc k) ++ (c, 3) ∷ []) (suc k) (here (ap not (eqb·suc-zero k)))))
 
 pub record Accepted (f : List ℕ) : Type 0 where
   pub few : length f ≤ 65536
@@ -111,7 +93,7 @@ pub record Read (f : List ℕ) (out : List ℤ) (rc rs : List (List ℕ)) (r : P
   pub out-long : length out ≡ 16382
   pub rc-long : length rc ≡ 4095
   pub rs-long : length rs ≡ 4095
-  pub is : left r p′ c′ s′ ≡ outcome f out rc rs
+  pub is : leaving r p′ c′ s′ ≡ outcome f out rc rs
 
 module _ {f : List ℕ} {out : List ℤ} {rc rs : List (List ℕ)} {r : Packed} {p′ : List ℤ} {c′ s′ : List (List ℕ)} (x : Read f out rc rs r p′ c′ s′) where
   abbrev entries : List Entry
@@ -148,7 +130,7 @@ module _ {f : List ℕ} {out : List ℤ} {rc rs : List (List ℕ)} {r : Packed} 
       go zero e = below-clear (refusals f) _ (room-clear _ (roomy (carried f (accepted f e .few))))
       go (suc k) e = below-held (refusals f) _ (λ z. omega arith)
 
-  read-as : (k : ℕ) → first-of (refusals f) ≡ k → left r p′ c′ s′ ≡ A.outcome k all-points all-ranges all-shapes out rc rs
+  read-as : (k : ℕ) → first-of (refusals f) ≡ k → leaving r p′ c′ s′ ≡ A.outcome k all-points all-ranges all-shapes out rc rs
   unfolding stored
   read-as k h = x .is ∙ ap (λ (n : ℕ). A.outcome n all-points all-ranges all-shapes out rc rs) (first-read ∙ h)
 
@@ -156,8 +138,8 @@ module _ {f : List ℕ} {out : List ℤ} {rc rs : List (List ℕ)} {r : Packed} 
   reply-is = go (first-of (refusals f)) refl
     where
       go : (k : ℕ) → first-of (refusals f) ≡ k → r .reply ≡ first-of (refusals f)
-      go zero h = ap (λ (w : Left). w .answer .reply) (read-as 0 h) ∙ sym h
-      go (suc k) h = ap (λ (w : Left). w .answer .reply) (read-as (suc k) h) ∙ sym h
+      go zero h = ap (λ (w : Outcome). w .answer .reply) (read-as 0 h) ∙ sym h
+      go (suc k) h = ap (λ (w : Outcome). w .answer .reply) (read-as (suc k) h) ∙ sym h
 
   pub report-refused : (r .reply ≡ 0 → ⊥) → listing f ≡ refused ++ decimal (r .reply) ++ line-end
   report-refused n = listing-refused f (r .reply) reply-is n
@@ -173,17 +155,17 @@ module _ {f : List ℕ} {out : List ℤ} {rc rs : List (List ℕ)} {r : Packed} 
     even = omega (arith, points-total (contours-of entries) (held .even))
 
     points-counted : r .points ≡ count all-points
-    points-counted = ap (λ (w : Left). w .answer .points) (read-as 0 clear)
+    points-counted = ap (λ (w : Outcome). w .answer .points) (read-as 0 clear)
 
     contours-counted : r .contours ≡ length all-ranges
-    contours-counted = ap (λ (w : Left). w .answer .contours) (read-as 0 clear)
+    contours-counted = ap (λ (w : Outcome). w .answer .contours) (read-as 0 clear)
 
     pub numbers-few : 2 * r .points ≤ 16382
     numbers-few = omega (arith, points-counted, even, held .numbers-few)
 
     pub numbers-in : 2 * r .points ≤ length p′
     numbers-in =
-        omega (arith, points-counted, even, ap length (ap (λ (w : Left). w .points) (read-as 0 clear)) ∙ length-append all-points (drop (length all-points) out))
+        omega (arith, points-counted, even, ap length (ap (λ (w : Outcome). w .points) (read-as 0 clear)) ∙ length-append all-points (drop (length all-points) out))
 
     pub contours-in : r .contours ≤ length c′
     contours-in =
@@ -191,17 +173,17 @@ module _ {f : List ℕ} {out : List ℤ} {rc rs : List (List ℕ)} {r : Packed} 
           arith,
           contours-counted,
           length-map all-ranges row,
-          ap length (ap (λ (w : Left). w .contours) (read-as 0 clear)) ∙ length-append (rows all-ranges) (drop (length (rows all-ranges)) rc),
+          ap length (ap (λ (w : Outcome). w .contours) (read-as 0 clear)) ∙ length-append (rows all-ranges) (drop (length (rows all-ranges)) rc),
         )
 
     points-are : take (2 * r .points) p′ ≡ all-points
     points-are =
         let n : length all-points ≡ 2 * r .points = omega (arith, points-counted, even) in
-        ap (take (2 * r .points)) (ap (λ (w : Left). w .points) (read-as 0 clear)) ∙ take-at all-points _ (2 * r .points) n
+        ap (take (2 * r .points)) (ap (λ (w : Outcome). w .points) (read-as 0 clear)) ∙ take-at all-points _ (2 * r .points) n
 
     ranges-are : take (r .contours) c′ ≡ rows all-ranges
     ranges-are =
-        ap (take (r .contours)) (ap (λ (w : Left). w .contours) (read-as 0 clear)) ∙ take-at (rows all-ranges) _ (r .contours) (length-map all-ranges row ∙ sym contours-counted)
+        ap (take (r .contours)) (ap (λ (w : Outcome). w .contours) (read-as 0 clear)) ∙ take-at (rows all-ranges) _ (r .contours) (length-map all-ranges row ∙ sym contours-counted)
 
     pub report-table : listing f ≡ heading ++ lines 1 (contours (take (2 * r .points) p′) (spans (take (r .contours) c′)))
     report-table =

@@ -19,7 +19,7 @@ use Rattle.io.specs.Digits.{digits, glyph, Fewest}
 use Rattle.report.specs.Text.{places, decimal, dash, signed}
 
 -- so many digits hold a number, and no fewer
-places-fewest : (k n : ℕ) → n < 10 ^ suc k → Fewest 10 1 n (places k n)
+pub places-fewest : (k n : ℕ) → n < 10 ^ suc k → Fewest 10 1 n (places k n)
 unfolding places
 places-fewest zero n h = (omega arith, h, λ q. absurd (omega arith))
 places-fewest (suc k) n h = go (ltb n (10 ^ suc k)) refl (places-fewest k n)
@@ -47,7 +47,7 @@ decimal-is n r h f =
     let e : r ≡ places 19 n = le-antisymm (fewest-least n r _ f (g .0) (g .1)) (fewest-least n _ r g (f .0) (f .1)) in
     ap (λ (k : ℕ). digits 10 k n) e
 
-digits-length : (k n : ℕ) → length (digits 10 k n) ≡ k
+pub digits-length : (k n : ℕ) → length (digits 10 k n) ≡ k
 digits-length zero n = refl
 digits-length (suc k) n = length-append (digits 10 k (n / 10)) (glyph (n % 10) ∷ []) ∙ add-one _ ∙ ap suc (digits-length k (n / 10))
 

@@ -4,11 +4,11 @@ use mathlib.Core.List.{List}
 use Prim.Native.Nat.{ℕ, _≤_}
 use lib.ListN.{length}
 use denote.Ref.{now}
-use Rattle.grid.specs.Rows.{front}
-use Rattle.grid.proofs.OneOutcome.{Determined, by-its-definition, two}
+use Rattle.rows.specs.Rows.{front}
+use Rattle.replies.proofs.OneOutcome.{Determined, by-its-definition, two}
 use Rattle.report.specs.Listing.{listing}
 use Rattle.report.proofs.ReportLaws.{listing-length}
-use Rattle.report.proofs.list.Reads as list·contract
+use Rattle.report.proofs.inner.listing.list.Reads as list·contract
 
 -- any two outcomes that the contract of `list` allows are identical: the length that is answered, and the row of text
 pub a-file-has-one-listing : Determined {O = ℕ × List ℕ} list·contract.Learnt (λ κs r e. two e (λ bytes text. (r, now text)))

@@ -8,8 +8,8 @@ use mathlib.Core.Bool.{Bool, true, false}
 use lib.ListN.{length, set, length-append}
 use lib.Seq.{getD-set-same, getD-set-other}
 use Rattle.ring.specs.Walk.{unmarked, marked, removed, mark-at, Survivor, survivors, others, successor, predecessor, remove, fresh, to-go}
-use Rattle.ring.specs.Promises.{Settled}
-use Rattle.ring.proofs.Cases.{same?, true-false}
+use Rattle.ring.specs.Promises.{NoneToGo}
+use Rattle.ring.proofs.Branches.{same?, true-false}
 use Rattle.ring.proofs.Lists.{cut-cases}
 use Rattle.ring.proofs.Marks.{inside, count-some, fresh-survives, fresh-at}
 use Rattle.ring.proofs.Survivors.{Same, same-refl, same-sym, same-survivor, same-survivors, fresh-count}
@@ -49,12 +49,12 @@ module _ (goes : ℕ → ℕ → ℕ → Bool) where
       pub would-stay : Each (λ x. to-go goes m x ≡ false) rest
       pub room : v + (length run + 2 * length (survivors m)) ≤ 3 * n
 
-    -- No vertex would go, and behind the way that is left all are marked.
+    -- No vertex would go, and behind the way that remains all are marked.
     record Settling (m : List ℕ) (p : ℕ) : Type 0 where
       pub way : List ℕ
       pub past : List ℕ
       pub ring : p ∷ others m p ≡ way ++ past
-      pub settled : Settled goes m
+      pub none-to-go : NoneToGo goes m
       pub all-marked : Each (λ x. mark-at m x ≡ marked) past
       pub room : v + (length way + length (survivors m)) ≤ 3 * n
 
@@ -64,7 +64,7 @@ module _ (goes : ℕ → ℕ → ℕ → Bool) where
     way = p ∷ others m p;
     past = [];
     ring = sym (append-nil _);
-    settled = λ q t. a .would-stay q (rw (a .ring ∙ ap (λ l. l ++ a .rest) e) at (ring-has m p q t));
+    none-to-go = λ q t. a .would-stay q (rw (a .ring ∙ ap (λ l. l ++ a .rest) e) at (ring-has m p q t));
     all-marked = λ x h. absurd (List·Memᴰ·not-nil h);
     room = omega (arith, a .room, ring-length m p s, ap length e);
   }
@@ -84,7 +84,7 @@ module _ (goes : ℕ → ℕ → ℕ → Bool) where
             way = w;
             past = a .past ++ p ∷ [];
             ring = ap (λ l. successor m p ∷ l) (sym (same-others x (successor m p))) ∙ forward m p s ∙ ap (λ l. l ++ p ∷ []) (tail-eq-of-cons-eq f) ∙ append-assoc w (a .past) (p ∷ []);
-            settled = λ r t. same-to-go x r ∙ a .settled r (same-survivor (same-sym x) r t);
+            none-to-go = λ r t. same-to-go x r ∙ a .none-to-go r (same-survivor (same-sym x) r t);
             all-marked = λ r h. ⊎-elim (λ i. keep r (a .all-marked r i)) (λ i. let z : r ≡ p = List·Memᴰ·eq-of-singleton i in rw z now) (List·Memᴰ·append-cases (a .past) h);
             room = omega (arith, a .room, ap length e, ap length (same-survivors 0 x));
           }
@@ -227,20 +227,20 @@ module _ (goes : ℕ → ℕ → ℕ → Bool) where
         let s = moment goes n big r .on in
         ⊎-elim
         (λ a. ⊎-elim
-        (λ i. true-false t (used-up n v m p s a i .settled p s))
+        (λ i. true-false t (used-up n v m p s a i .none-to-go p s))
         (λ i. inl (ahead-go n v m p s e h (i .0) a (i .1)))
         (head-cases a))
-        (λ x. true-false t (x .settled p s))
+        (λ x. true-false t (x .none-to-go p s))
         (swept r)
 
     -- At a marked position nothing goes any more.
-    pub idle : {v : ℕ} {m : List ℕ} {p k : ℕ} → Reached goes n v m p k → mark-at m p ≡ marked → Settled goes m
+    pub idle : {v : ℕ} {m : List ℕ} {p k : ℕ} → Reached goes n v m p k → mark-at m p ≡ marked → NoneToGo goes m
     idle {v} {m} {p} r e = ⊎-elim
         (λ a. ⊎-elim
-        (λ i. used-up n v m p (moment goes n big r .on) a i .settled)
+        (λ i. used-up n v m p (moment goes n big r .on) a i .none-to-go)
         (λ i. absurd (omega (arith, e, a .pending p (rw (i .1) (List·Memᴰ·head refl)))))
         (head-cases a))
-        (λ x. x .settled)
+        (λ x. x .none-to-go)
         (swept r)
 
     -- The visits so far and the survivors are at most 3 n together, and less where a vertex goes.
@@ -252,8 +252,8 @@ module _ (goes : ℕ → ℕ → ℕ → Bool) where
         let s = moment goes n big r .on in
         ⊎-elim
         (λ a. ⊎-elim
-        (λ i. true-false t (used-up n v m p s a i .settled p s))
+        (λ i. true-false t (used-up n v m p s a i .none-to-go p s))
         (λ i. omega (arith, a .room, ap length (i .1)))
         (head-cases a))
-        (λ x. true-false t (x .settled p s))
+        (λ x. true-false t (x .none-to-go p s))
         (swept r)

@@ -8,14 +8,17 @@ use native.Mathlib.Omega.{arith}
 use native.Mathlib.Numerals.{add-one}
 use lib.IntN.{ℤ}
 use Rattle.grid.specs.declared.Edge.{Edge}
-use Rattle.grid.specs.Points.{at, between, Short}
+use Rattle.grid.specs.Points.{at}
+use Rattle.grid.specs.Edges.{between}
 use Rattle.grid.specs.Domain.{Contour}
-use Rattle.grid.proofs.PointLaws.{at-on, corner-steps}
+use Rattle.grid.specs.inside.Edges.{Short}
+use Rattle.grid.proofs.PointLaws.{at-on}
+use Rattle.grid.proofs.EdgeLaws.{corner-short}
 use Rattle.ring.specs.declared.Rule.{Rule}
 use Rattle.ring.specs.Walk.{fresh, successor, predecessor, to-go}
 use Rattle.ring.specs.Rule.{goes-along, goes}
-use Rattle.ring.specs.Rows.{FirstStand, Standing}
-use Rattle.ring.proofs.Cases.{same?}
+use Rattle.ring.specs.inside.Rows.{FirstStand, Standing}
+use Rattle.ring.proofs.Branches.{same?}
 use Rattle.ring.proofs.Filling.{fresh-next, fresh-round, fresh-before, fresh-last}
 use Rattle.ring.proofs.RuleLaws.{goes-edges}
 
@@ -32,8 +35,8 @@ module _ (rule : Rule) (row : List ℤ) where
     passed-none closing h e = record { within = h; closing-is = e; to-is = rw (fresh-last n h) e; stand = λ j l. absurd (omega arith) }
 
     module _ {closing to : Edge} {i : ℕ} (w : Passed n closing to i) where
-      pub short-on : {from : Edge} (j : ℕ) → from ≡ between (at row i) (at row j) → Short (to .dx) (to .dy) (from .dx) (from .dy)
-      short-on j e = rw (w .to-is, e) (corner-steps (record { a-on = at-on row _ (c .on); b-on = at-on row i (c .on); c-on = at-on row j (c .on) }))
+      pub short-on : {from : Edge} (j : ℕ) → from ≡ between (at row i) (at row j) → Short to from
+      short-on j e = rw (w .to-is, e) (corner-short _ _ _ (at-on row _ (c .on)) (at-on row i (c .on)) (at-on row j (c .on)))
 
       told : {from : Edge} (j : ℕ) → from ≡ between (at row i) (at row j) → successor (fresh n) i ≡ j → goes-along rule to from ≡ to-go (goes rule row) (fresh n) i
       told j e s = ap₂ (goes-along rule) (w .to-is) e ∙ sym (goes-edges rule (at row (predecessor (fresh n) i)) (at row i) (at row j)) ∙ rw s

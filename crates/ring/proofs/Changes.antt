@@ -7,9 +7,9 @@ use mathlib.Core.List.{List}
 use lib.ListN.{length, set, length-set}
 use lib.Seq.{getD-set-same, getD-set-other}
 use borrow.Author.Tests.{lt-ltb}
-use Rattle.ring.specs.Walk.{unmarked, marked, removed, mark-at, Survivor, survivors, successor, predecessor, count, unmark, unmark-about, remove, fresh}
-use Rattle.ring.specs.Rows.{first-marked}
-use Rattle.ring.proofs.Cases.{same?}
+use Rattle.ring.specs.Walk.{unmarked, marked, removed, mark-at, Survivor, survivors, successor, predecessor, occurrences, unmark, unmark-about, remove, fresh}
+use Rattle.ring.specs.inside.Rows.{first-marked}
+use Rattle.ring.proofs.Branches.{same?}
 use Rattle.ring.proofs.Marks.{inside, recount, unmark-yes, unmark-no, first-none, first-more, first-due}
 use Rattle.ring.proofs.Survivors.{Same, same-refl, same-trans, same-survivor, same-survivors, survivor-count}
 use Rattle.ring.proofs.Neighbours.{Alone, successor-survives, predecessor-survives, predecessor-other, gap-successor}
@@ -84,7 +84,7 @@ module _ (m : List ℕ) (c : ℕ) (s : Survivor m c) (more : Alone m c → ⊥) 
 
 -- How many survive, and how many are unmarked and marked, after a mark and after a removal.
 pub mark-counts : (m : List ℕ) (c : ℕ) → mark-at m c ≡ unmarked
-    → (length (survivors (set m c marked)) ≡ length (survivors m)) × (count unmarked (set m c marked) + 1 ≡ count unmarked m) × (count marked (set m c marked) ≡ count marked m + 1)
+    → (length (survivors (set m c marked)) ≡ length (survivors m)) × (occurrences unmarked (set m c marked) + 1 ≡ occurrences unmarked m) × (occurrences marked (set m c marked) ≡ occurrences marked m + 1)
 mark-counts m c e = (
   ap length (sym (same-survivors 0 (same-set m c marked (omega arith) (omega arith)))),
   omega (arith, recount m c unmarked marked e (omega arith) unmarked),
@@ -92,14 +92,14 @@ mark-counts m c e = (
 )
 
 unmark-counts : (m : List ℕ) (p : ℕ)
-    → (count unmarked (unmark m p) + count marked (unmark m p) ≡ count unmarked m + count marked m) × (count unmarked (unmark m p) ≤ count unmarked m + 1)
+    → (occurrences unmarked (unmark m p) + occurrences marked (unmark m p) ≡ occurrences unmarked m + occurrences marked m) × (occurrences unmarked (unmark m p) ≤ occurrences unmarked m + 1)
 unmark-counts m p = ⊎-elim
     (λ e. rw (unmark-yes m p e) (omega (arith, recount m p marked unmarked e (omega arith) unmarked, recount m p marked unmarked e (omega arith) marked)))
     (λ n. rw (unmark-no m p n) (omega arith))
     (same? (mark-at m p) marked)
 
 pub remove-counts : (m : List ℕ) (c : ℕ) → mark-at m c ≡ unmarked
-    → (length (survivors (remove m c)) + 1 ≡ length (survivors m)) × (count unmarked (remove m c) ≤ count unmarked m + 2)
+    → (length (survivors (remove m c)) + 1 ≡ length (survivors m)) × (occurrences unmarked (remove m c) ≤ occurrences unmarked m + 2)
 unfolding remove unmark-about
 remove-counts m c e =
     let r : List ℕ = set m c removed in

@@ -9,21 +9,21 @@ use lib.ListN.{length, getD, drop}
 use lib.Seq.{drop-cons, drop-length}
 use lib.Dec.{eqb}
 use borrow.Author.Tests.{eq-eqb, ne-eqb}
-use Rattle.ring.specs.Walk.{count}
+use Rattle.ring.specs.Walk.{occurrences}
 use Rattle.ring.proofs.Marks.{one, count-cons}
 
 -- so many were found below position i
 pub record Found (x : ℕ) (m : List ℕ) (found i : ℕ) : Type 0 where
   pub few : found ≤ i
   pub within : i ≤ length m
-  pub is : found + count x (drop i m) ≡ count x m
+  pub is : found + occurrences x (drop i m) ≡ occurrences x m
 
 module _ (x : ℕ) (m : List ℕ) where
   pub found-none : Found x m 0 0
   found-none = record { few = omega arith; within = omega arith; is = omega arith }
 
   module _ {found i : ℕ} (f : Found x m found i) where
-    step : (h : i < length m) (b : Bool) → eqb (getD m i 0) x ≡ b → count x (drop i m) ≡ one b + count x (drop (i + 1) m)
+    step : (h : i < length m) (b : Bool) → eqb (getD m i 0) x ≡ b → occurrences x (drop i m) ≡ one b + occurrences x (drop (i + 1) m)
     step h b e = rw (drop-cons m i 0 h, add-one i) (count-cons x (getD m i 0) _ ∙ rw e)
 
     pub found-one : i < length m → getD m i 0 ≡ x → Found x m (found + 1) (i + 1)
@@ -32,9 +32,9 @@ module _ (x : ℕ) (m : List ℕ) where
     pub found-other : i < length m → (getD m i 0 ≡ x → ⊥) → Found x m found (i + 1)
     found-other h e = record { few = omega (arith, f .few); within = omega arith; is = omega (arith, f .is, step h _ (ne-eqb _ _ e)) }
 
-    pub found-all : length m ≤ i → found ≡ count x m
-    unfolding count
+    pub found-all : length m ≤ i → found ≡ occurrences x m
+    unfolding occurrences
     found-all h =
         let e : i ≡ length m = omega (arith, f .within) in
-        let z : count x (drop i m) ≡ 0 = ap (λ k. count x (drop k m)) e ∙ ap (count x) (drop-length m) in
+        let z : occurrences x (drop i m) ≡ 0 = ap (λ k. occurrences x (drop k m)) e ∙ ap (occurrences x) (drop-length m) in
         omega (arith, f .is)

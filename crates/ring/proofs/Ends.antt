@@ -7,10 +7,11 @@ use mathlib.Core.List.{List}
 use mathlib.Core.Bool.{Bool, true, false}
 use lib.ListN.{length}
 use borrow.Author.Tests.{lt-ltb, le-ltb}
-use Rattle.ring.specs.Walk.{unmarked, marked, mark-at, Survivor, survivors, successor, count, Stage, start, to-go, look, looks, walk}
-use Rattle.ring.specs.Walk.Stage.{under-way, kept, collapsed}
-use Rattle.ring.specs.Promises.{Settled}
-use Rattle.ring.proofs.Cases.{same?}
+use Rattle.ring.specs.Walk.{unmarked, marked, mark-at, Survivor, survivors, successor, occurrences, Tally, Walked, Stage, tally, ending, start, come-to, to-go, look, looks, walk}
+use Rattle.ring.specs.Walk.End.{kept, collapsed}
+use Rattle.ring.specs.Walk.Stage.{under-way, ended}
+use Rattle.ring.specs.Promises.{NoneToGo}
+use Rattle.ring.proofs.Branches.{same?}
 use Rattle.ring.proofs.Survivors.{Same, same-refl, same-trans, same-sym, same-survivor, same-survivors}
 use Rattle.ring.proofs.Neighbours.{successor-survives}
 use Rattle.ring.proofs.Changes.{same-set, mark-counts}
@@ -20,27 +21,28 @@ use Rattle.ring.proofs.Ahead.{visits-room, same-to-go}
 
 module _ (goes : ℕ → ℕ → ℕ → Bool) where
   -- Where no vertex would go, each unmarked one is decided once more, and all survivors are kept.
-  module _ (m₀ : List ℕ) (k₀ : ℕ) (still : Settled goes m₀) where
+  module _ (m₀ : List ℕ) (k₀ : ℕ) (still : NoneToGo goes m₀) where
     record Meanwhile (m : List ℕ) (p k : ℕ) : Type 0 where
       pub same : Same m₀ m
       pub on : Survivor m p
-      pub sum : k + count unmarked m ≡ k₀ + count unmarked m₀
+      pub sum : k + occurrences unmarked m ≡ k₀ + occurrences unmarked m₀
 
     abbrev After : Stage → Type 0
-    After (under-way m p k) = Meanwhile m p k
-    After (kept s k) = kept s k ≡ kept (survivors m₀) (k₀ + count unmarked m₀)
-    After (collapsed k) = ⊥
+    After (under-way m p t) = Meanwhile m p (t .decisions)
+    After (ended w) = w ≡ ending (kept (survivors m₀)) (tally (k₀ + occurrences unmarked m₀))
 
-    after-look : (m : List ℕ) (p k : ℕ) → Meanwhile m p k → After (look goes (under-way m p k))
+    after-look : (m : List ℕ) (p k : ℕ) → Meanwhile m p k → After (look goes (under-way m p (tally k)))
     after-look m p k x = ⊎-elim
-        (λ z. rw (look-done goes m p k z) (ap₂ kept (sym (same-survivors 0 (x .same))) (omega (arith, x .sum))))
+        (λ z.
+        let sum : k ≡ k₀ + occurrences unmarked m₀ = omega (arith, x .sum) in
+        rw (look-done goes m p k z) (ap₂ (λ (s : List ℕ) (i : ℕ). ending (kept s) (tally i)) (sym (same-survivors 0 (x .same))) sum))
         (λ z. ⊎-elim
         (λ e. rw (look-over goes m p k z e) (record { same = x .same; on = successor-survives m p (x .on); sum = x .sum }))
         (λ d. decided (omega (arith, x .on)))
         (same? (mark-at m p) marked))
-        (same? (count unmarked m) 0)
+        (same? (occurrences unmarked m) 0)
       where
-        decided : mark-at m p ≡ unmarked → After (look goes (under-way m p k))
+        decided : mark-at m p ≡ unmarked → After (look goes (under-way m p (tally k)))
         decided e =
             let t : to-go goes m p ≡ false = same-to-go goes (x .same) p ∙ still p (same-survivor (same-sym (x .same)) p (x .on)) in
             let y = same-set m p marked (x .on) (omega arith) in
@@ -50,15 +52,14 @@ module _ (goes : ℕ → ℕ → ℕ → Bool) where
               sum = omega (arith, x .sum, mark-counts m p e);
             })
 
-    after : (p : ℕ) → Survivor m₀ p → (i : ℕ) → After (looks goes i (under-way m₀ p k₀))
+    after : (p : ℕ) → Survivor m₀ p → (i : ℕ) → After (looks goes i (under-way m₀ p (tally k₀)))
     unfolding looks look
     after p s zero = record { same = same-refl m₀; on = s; sum = refl }
-    after p s (suc i) = next (looks goes i (under-way m₀ p k₀)) (after p s i)
+    after p s (suc i) = next (looks goes i (under-way m₀ p (tally k₀))) (after p s i)
       where
         next : (w : Stage) → After w → After (look goes w)
-        next (under-way m q k) x = after-look m q k x
-        next (kept l k) x = x
-        next (collapsed k) x = x
+        next (under-way m q t) x = after-look m q (t .decisions) x
+        next (ended w) x = x
 
   looks-add : (i v t : ℕ) → i + v ≡ t → (w : Stage) → looks goes t w ≡ looks goes i (looks goes v w)
   unfolding looks
@@ -76,35 +77,47 @@ module _ (goes : ℕ → ℕ → ℕ → Bool) where
     ended-since : (v t : ℕ) → v ≤ t → (w : Stage) → looks goes v (start n) ≡ w → look goes w ≡ w → looks goes t (start n) ≡ w
     ended-since v t h w e f = looks-add (t - v) v t (omega arith) (start n) ∙ ap (looks goes (t - v)) e ∙ looks-rest (t - v) w f
 
-    pub walk-few : n < 3 → walk goes n ≡ collapsed 0
+    pub walk-few : n < 3 → walk goes n ≡ ending collapsed (tally 0)
     unfolding walk
     walk-few h = rw (lt-ltb n 3 h, walk)
 
-    pub walk-many : 3 ≤ n → walk goes n ≡ looks goes (suc (3 * n)) (start n)
+    pub walk-many : 3 ≤ n → walk goes n ≡ come-to (looks goes (suc (3 * n)) (start n))
     unfolding walk
     walk-many h = rw (le-ltb n 3 h, walk)
 
     module _ (big : 3 ≤ n) where
-      -- The walk isn't under way any more.
-      pub ended-walk : (m : List ℕ) (p k : ℕ) → walk goes n ≡ under-way m p k → ⊥
-      ended-walk m p k e = omega (arith, visits-room goes n big (rw (sym (walk-many big) ∙ e) at (history goes n big (suc (3 * n)))))
+      -- After its looks the walk isn't under way any more.
+      not-under-way : (m : List ℕ) (p : ℕ) (t : Tally) → looks goes (suc (3 * n)) (start n) ≡ under-way m p t → ⊥
+      not-under-way m p t e = omega (arith, visits-room goes n big (rw e at (history goes n big (suc (3 * n)))))
 
-      pub settled-answer : {v : ℕ} {m : List ℕ} {p k : ℕ} → Reached goes n v m p k → Settled goes m → walk goes n ≡ kept (survivors m) (k + count unmarked m)
-      settled-answer {v} {m} {p} {k} r still = answer (walk goes n) refl (rw (← on) at (after m k still p (moment goes n big r .on) (suc (3 * n) - v)))
+      pub ended-looks : looks goes (suc (3 * n)) (start n) ≡ ended (walk goes n)
+      ended-looks = go (looks goes (suc (3 * n)) (start n)) refl ∙ ap ended (sym (walk-many big))
         where
-          on : walk goes n ≡ looks goes (suc (3 * n) - v) (under-way m p k)
-          on = walk-many big ∙ looks-add (suc (3 * n) - v) v (suc (3 * n)) (omega (arith, visits-room goes n big r)) (start n) ∙ ap (looks goes (suc (3 * n) - v)) (reached-is goes n r)
+          go : (w : Stage) → looks goes (suc (3 * n)) (start n) ≡ w → w ≡ ended (come-to w)
+          go (under-way m p t) e = absurd (not-under-way m p t e)
+          go (ended w) e = refl
 
-          answer : (w : Stage) → walk goes n ≡ w → After m k still w → w ≡ kept (survivors m) (k + count unmarked m)
-          answer (under-way l q j) e x = absurd (ended-walk l q j e)
-          answer (kept s j) e x = x
-          answer (collapsed j) e x = absurd x
+      pub walk-is : {w : Walked} → looks goes (suc (3 * n)) (start n) ≡ ended w → walk goes n ≡ w
+      walk-is e = walk-many big ∙ ap come-to e
+
+      pub none-to-go-answer : {v : ℕ} {m : List ℕ} {p k : ℕ} → Reached goes n v m p k → NoneToGo goes m → walk goes n ≡ ending (kept (survivors m)) (tally (k + occurrences unmarked m))
+      none-to-go-answer {v} {m} {p} {k} r still = walk-many big ∙ answer (looks goes (suc (3 * n)) (start n)) refl (rw (← on) at (after m k still p (moment goes n big r .on) (suc (3 * n) - v)))
+        where
+          on : looks goes (suc (3 * n)) (start n) ≡ looks goes (suc (3 * n) - v) (under-way m p (tally k))
+          on = looks-add (suc (3 * n) - v) v (suc (3 * n)) (omega (arith, visits-room goes n big r)) (start n) ∙ ap (looks goes (suc (3 * n) - v)) (reached-is goes n r)
+
+          answer : (w : Stage) → looks goes (suc (3 * n)) (start n) ≡ w → After m k still w → come-to w ≡ ending (kept (survivors m)) (tally (k + occurrences unmarked m))
+          answer (under-way l q t) e x = absurd (not-under-way l q t e)
+          answer (ended w) e x = x
 
       pub fallen-after : {v : ℕ} {m : List ℕ} {p k : ℕ} → Reached goes n v m p k → mark-at m p ≡ unmarked → to-go goes m p ≡ true → length (survivors m) ≤ 3
-          → (t : ℕ) → v < t → looks goes t (start n) ≡ collapsed (suc k)
+          → (t : ℕ) → v < t → looks goes t (start n) ≡ ended (ending collapsed (tally (suc k)))
       unfolding looks look
-      fallen-after {v} {m} {p} {k} r e t h i l = ended-since (suc v) i l (collapsed (suc k)) (ap (look goes) (reached-is goes n r) ∙ look-fall goes m p k e t h) refl
+      fallen-after {v} {m} {p} {k} r e t h i l =
+          ended-since (suc v) i l (ended (ending collapsed (tally (suc k)))) (ap (look goes) (reached-is goes n r) ∙ look-fall goes m p k e t h) refl
 
-      pub kept-after : {v : ℕ} {m : List ℕ} {p k : ℕ} → Reached goes n v m p k → count unmarked m ≡ 0 → (t : ℕ) → v < t → looks goes t (start n) ≡ kept (survivors m) k
+      pub kept-after : {v : ℕ} {m : List ℕ} {p k : ℕ} → Reached goes n v m p k → occurrences unmarked m ≡ 0
+          → (t : ℕ) → v < t → looks goes t (start n) ≡ ended (ending (kept (survivors m)) (tally k))
       unfolding looks look
-      kept-after {v} {m} {p} {k} r z i l = ended-since (suc v) i l (kept (survivors m) k) (ap (look goes) (reached-is goes n r) ∙ look-done goes m p k z) refl
+      kept-after {v} {m} {p} {k} r z i l =
+          ended-since (suc v) i l (ended (ending (kept (survivors m)) (tally k))) (ap (look goes) (reached-is goes n r) ∙ look-done goes m p k z) refl

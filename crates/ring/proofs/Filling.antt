@@ -7,9 +7,9 @@ use mathlib.Core.List.{List}
 use lib.ListN.{length, getD, set, length-set, length-replicate, getD-replicate, List·getD-eq-default}
 use lib.Seq.{getD-set-same, getD-set-other, ext-getD}
 use Rattle.ring.specs.Walk.{unmarked, survivors-from, survivors, successor, predecessor, fresh}
-use Rattle.ring.specs.Rows.{Linked, Level, AllLinked}
-use Rattle.ring.proofs.Cases.{same?, less?}
-use Rattle.grid.proofs.RowLaws.{any-default}
+use Rattle.ring.specs.inside.Rows.{Linked, Level, AllLinked}
+use Rattle.ring.proofs.Branches.{same?, less?}
+use Rattle.rows.proofs.RowLaws.{any-default}
 use Rattle.ring.proofs.Marks.{inside}
 use Rattle.ring.proofs.Survivors.{fresh-count}
 use Rattle.ring.proofs.Listed.{At, at}

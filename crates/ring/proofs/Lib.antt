@@ -1,4 +1,4 @@
-pub mod Cases
+pub mod Branches
 pub mod Lists
 pub mod Marks
 pub mod Survivors

@@ -6,10 +6,10 @@ use mathlib.Core.Logic.{⊎-elim}
 use mathlib.Core.List.{List}
 use lib.ListN.{length, getD, set, length-set}
 use lib.Seq.{getD-set-same, getD-set-other, set-getD}
-use Rattle.ring.specs.Walk.{unmarked, marked, removed, mark-at, Survivor, successor, predecessor, count, unmark-about, remove}
-use Rattle.ring.specs.Rows.{Linked, Removable, Unlinked, Unmarked, UnmarkedAbout, Removed}
-use Rattle.ring.proofs.Cases.{same?}
-use Rattle.grid.proofs.RowLaws.{any-default}
+use Rattle.ring.specs.Walk.{unmarked, marked, removed, mark-at, Survivor, successor, predecessor, occurrences, unmark-about, remove}
+use Rattle.ring.specs.inside.Rows.{Linked, Removable, Unlinked, Unmarked, UnmarkedAbout, Removed}
+use Rattle.ring.proofs.Branches.{same?}
+use Rattle.rows.proofs.RowLaws.{any-default}
 use Rattle.ring.proofs.Marks.{inside, recount, unmark-yes, unmark-no}
 use Rattle.ring.proofs.Survivors.{Same, same-sym, same-survivor}
 use Rattle.ring.proofs.Neighbours.{successor-survives, predecessor-survives, not-alone, gap-successor, gap-predecessor, far-successor, far-predecessor, same-successor, same-predecessor}
@@ -135,6 +135,6 @@ module _ {m next prev m′ next′ prev′ : List ℕ} {c p : ℕ} (x : Removabl
       record {
         marks = e;
         linked = rw e (linked-same (same-remove m c) (rw (y .marks) at (y .linked)));
-        fewer = omega (arith, z .fewer, ap (count marked) (y .marks), recount m c unmarked removed (x .due) (omega arith) marked);
+        fewer = omega (arith, z .fewer, ap (occurrences marked) (y .marks), recount m c unmarked removed (x .due) (omega arith) marked);
         small = z .small;
       }

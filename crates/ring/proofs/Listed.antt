@@ -10,9 +10,9 @@ use lib.Seq.{split-at, set-at, take-suc, drop-cons, getD-take, getD-at}
 use Rattle.ring.specs.Walk.{removed, mark-at, Survivor, survivors-from, survivors, others, last, successor, predecessor, to-go}
 use Rattle.ring.specs.Promises.{Rising, would-go}
 use Rattle.grid.specs.Neighbours.{preceding, following, leaving-out}
-use Rattle.ring.proofs.Cases.{less?}
+use Rattle.ring.proofs.Branches.{less?}
 use Rattle.ring.proofs.Lists.{last-append}
-use Rattle.grid.proofs.RowLaws.{any-default}
+use Rattle.rows.proofs.RowLaws.{any-default}
 use Rattle.ring.proofs.Survivors.{survivors-yes, survivors-no, survivors-gap, Parted, parted, listed}
 use Rattle.ring.proofs.Neighbours.{others-at}
 
@@ -75,7 +75,7 @@ at m j h = cut (parted 0 m (take j (survivors m)) (getD (survivors m) j 0) (drop
     cut r =
         let s : List ℕ = survivors m in
         let x : ℕ = getD (survivors m) j 0 in
-        let n : length (r .low) ≡ x = omega (arith, r .place) in
+        let n : length (r .low) ≡ x = omega (arith, r .position) in
         let o : others m x ≡ drop (suc j) s ++ take j s = ap (λ l. others l x) (r .is) ∙ others-at (r .low) (r .mark) (r .high) x n ∙ rw (← r .lower, ← r .higher) in
         record {
           inside = h;
@@ -83,12 +83,12 @@ at m j h = cut (parted 0 m (take j (survivors m)) (getD (survivors m) j 0) (drop
           survives = rw (ap (λ l. mark-at l x) (r .is) ∙ getD-at (r .low) (r .mark) (r .high) removed x n) (r .survives);
           before = ap (λ l. last l x) o ∙ last-round s j h;
           after = ap (λ l. getD l 0 x) o ∙ first-round s j h;
-          gone = ap (λ l. survivors (set l x removed)) (r .is) ∙ ap survivors (set-at (r .low) (r .mark) (r .high) removed x n) ∙ survivors-gap 0 (r .low) (r .high) x (r .place) ∙ rw (← r .lower, ← r .higher);
+          gone = ap (λ l. survivors (set l x removed)) (r .is) ∙ ap survivors (set-at (r .low) (r .mark) (r .high) removed x n) ∙ survivors-gap 0 (r .low) (r .high) x (r .position) ∙ rw (← r .lower, ← r .higher);
         }
 
 -- Each survivor stands at some j.
-pub place : (m : List ℕ) (x : ℕ) → Survivor m x → (j : ℕ) × At m j x
-place m x s = found (listed 0 m x x s (omega arith))
+pub position : (m : List ℕ) (x : ℕ) → Survivor m x → (j : ℕ) × At m j x
+position m x s = found (listed 0 m x x s (omega arith))
   where
     index : {l : List ℕ} → List·Memᴰ x l → (j : ℕ) × (j < length l) × (getD l j 0 ≡ x)
     index (List·Memᴰ·head e) = (0, omega arith, sym e)

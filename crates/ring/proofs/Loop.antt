@@ -5,27 +5,27 @@ use mathlib.Core.Path.{_≡_, sym, ap, _∙_}
 use mathlib.Core.List.{List}
 use mathlib.Core.Bool.{Bool, true, false}
 use lib.ListN.{length, getD, set}
-use Rattle.ring.specs.Walk.{unmarked, marked, removed, mark-at, Survivor, survivors, successor, predecessor, count, to-go, walk}
-use Rattle.ring.specs.Walk.Stage.{kept, collapsed}
-use Rattle.ring.specs.Rows.{Linked, AllLinked, first-marked, FirstStand, Begun, Removable, Removed}
-use Rattle.grid.proofs.RowLaws.{any-default}
+use Rattle.ring.specs.Walk.{unmarked, marked, removed, mark-at, Survivor, survivors, successor, predecessor, occurrences, tally, ending, to-go, walk}
+use Rattle.ring.specs.Walk.End.{kept, collapsed}
+use Rattle.ring.specs.inside.Rows.{Linked, AllLinked, first-marked, FirstStand, Begun, Removable, Removed}
+use Rattle.rows.proofs.RowLaws.{any-default}
 use Rattle.ring.proofs.Marks.{first-unmarked}
 use Rattle.ring.proofs.Survivors.{same-survivors, survivor-count, fresh-count}
 use Rattle.ring.proofs.Changes.{same-set, first-same, mark-counts, remove-counts}
 use Rattle.ring.proofs.Moments.{Reached, reached-first, stayed, went, moment}
 use Rattle.ring.proofs.Ahead.{idle, visits-room}
-use Rattle.ring.proofs.Ends.{walk-many, settled-answer, fallen-after}
+use Rattle.ring.proofs.Ends.{walk-is, none-to-go-answer, fallen-after}
 use Rattle.ring.proofs.Links.{Here, here, linked-same}
 
 module _ (goes : ℕ → ℕ → ℕ → Bool) (n : ℕ) where
-  -- At a moment of the walk the rows are linked, left positions survive, and the total is what was decided and what is not marked.
-  pub record Turn (next prev mark : List ℕ) (left total p : ℕ) : Type 0 where
+  -- At a moment of the walk the rows are linked, so many positions are remaining, and the total is what was decided and what is not marked.
+  pub record Turn (next prev mark : List ℕ) (remaining total p : ℕ) : Type 0 where
     pub made : ℕ
     pub visits : ℕ
     pub reached : Reached goes n visits mark p made
     pub linked : Linked mark next prev
-    pub left-is : left ≡ length (survivors mark)
-    pub total-is : total ≡ made + count unmarked mark
+    pub remaining-is : remaining ≡ length (survivors mark)
+    pub total-is : total ≡ made + occurrences unmarked mark
 
   -- The code begins where the first k positions stand and are marked.
   pub turn-start : {k : ℕ} {next prev mark : List ℕ} → Begun goes n k mark next prev → Turn next prev mark n n k
@@ -36,12 +36,12 @@ module _ (goes : ℕ → ℕ → ℕ → Bool) (n : ℕ) where
         visits = k;
         reached = rw (x .marks) (reached-first goes n k h (x .stand));
         linked = x .linked;
-        left-is = rw (x .marks) (sym (ap length (sym (same-survivors 0 (first-same n k (omega arith)))) ∙ fresh-count n));
+        remaining-is = rw (x .marks) (sym (ap length (sym (same-survivors 0 (first-same n k (omega arith)))) ∙ fresh-count n));
         total-is = rw (x .marks) (omega (arith, first-unmarked n k (omega arith)));
       }
 
   module _ (big : 3 ≤ n) where
-    module _ {next prev mark : List ℕ} {left total p : ℕ} (x : Turn next prev mark left total p) where
+    module _ {next prev mark : List ℕ} {remaining total p : ℕ} (x : Turn next prev mark remaining total p) where
       -- What a turn can rely on: its places lie inside the rows, its numbers stay small, and it reads the mark that the walk has.
       pub record Known : Type 0 where
         pub at : Here mark next prev p
@@ -50,9 +50,9 @@ module _ (goes : ℕ → ℕ → ℕ → Bool) (n : ℕ) where
         pub next-long : length next ≡ n
         pub prev-long : length prev ≡ n
         pub read : getD mark p 0 ≡ mark-at mark p
-        pub three : 3 ≤ left
-        pub few : count unmarked mark ≤ total
-        pub paid : total + 3 * left ≤ 4 * n
+        pub three : 3 ≤ remaining
+        pub few : occurrences unmarked mark ≤ total
+        pub paid : total + 3 * remaining ≤ 4 * n
 
       pub known : Known
       known =
@@ -65,17 +65,17 @@ module _ (goes : ℕ → ℕ → ℕ → Bool) (n : ℕ) where
             next-long = x .linked .next-long ∙ y .long;
             prev-long = x .linked .prev-long ∙ y .long;
             read = any-default mark p 0 removed (h .inside-marks);
-            three = omega (arith, y .many, x .left-is);
+            three = omega (arith, y .many, x .remaining-is);
             few = omega (arith, x .total-is);
-            paid = omega (arith, y .paid, x .left-is, x .total-is);
+            paid = omega (arith, y .paid, x .remaining-is, x .total-is);
           }
 
-      -- At a marked position all that is left is kept, and what isn't marked is decided once.
-      pub turn-idle : mark-at mark p ≡ marked → walk goes n ≡ kept (survivors mark) total
-      turn-idle e = settled-answer goes n big (x .reached) (idle goes n big (x .reached) e) ∙ ap (kept (survivors mark)) (sym (x .total-is))
+      -- At a marked position all that survives is kept, and what isn't marked is decided once.
+      pub turn-idle : mark-at mark p ≡ marked → walk goes n ≡ ending (kept (survivors mark)) (tally total)
+      turn-idle e = none-to-go-answer goes n big (x .reached) (idle goes n big (x .reached) e) ∙ ap (λ (k : ℕ). ending (kept (survivors mark)) (tally k)) (sym (x .total-is))
 
       module _ (due : mark-at mark p ≡ unmarked) where
-        pub turn-stay : to-go goes mark p ≡ false → (q : ℕ) → q ≡ successor mark p → Turn next prev (set mark p marked) left total q
+        pub turn-stay : to-go goes mark p ≡ false → (q : ℕ) → q ≡ successor mark p → Turn next prev (set mark p marked) remaining total q
         turn-stay t q e =
             let c = mark-counts mark p due in
             record {
@@ -83,38 +83,39 @@ module _ (goes : ℕ → ℕ → ℕ → Bool) (n : ℕ) where
               visits = suc (x .visits);
               reached = rw e (stayed (x .reached) due t);
               linked = linked-same (same-set mark p marked (omega arith) (omega arith)) (x .linked);
-              left-is = x .left-is ∙ sym (c .0);
+              remaining-is = x .remaining-is ∙ sym (c .0);
               total-is = omega (arith, x .total-is);
             }
 
         -- Each turn leaves less to do.
-        pub stay-less : 3 * left + count unmarked (set mark p marked) < 3 * left + count unmarked mark
+        pub stay-less : 3 * remaining + occurrences unmarked (set mark p marked) < 3 * remaining + occurrences unmarked mark
         stay-less = omega (arith, mark-counts mark p due)
 
-        pub turn-removable : 3 < left → Removable mark next prev p
-        turn-removable h = record { due = due; others = omega (arith, x .left-is); linked = x .linked }
+        pub turn-removable : 3 < remaining → Removable mark next prev p
+        turn-removable h = record { due = due; others = omega (arith, x .remaining-is); linked = x .linked }
 
         module _ {next′ prev′ mark′ : List ℕ} {taken : ℕ} (y : Removed mark p mark′ next′ prev′ taken) where
           one-less : length (survivors mark′) + 1 ≡ length (survivors mark)
           one-less = omega (arith, remove-counts mark p due, ap (λ l. length (survivors l)) (y .marks))
 
-          pub turn-go : to-go goes mark p ≡ true → 3 < left → (q : ℕ) → q ≡ predecessor mark p → Turn next′ prev′ mark′ (left - 1) (total + taken) q
+          pub turn-go : to-go goes mark p ≡ true → 3 < remaining → (q : ℕ) → q ≡ predecessor mark p → Turn next′ prev′ mark′ (remaining - 1) (total + taken) q
           turn-go t h q e = record {
             made = suc (x .made);
             visits = suc (x .visits);
-            reached = rw (y .marks, e) (went (x .reached) due t (omega (arith, x .left-is)));
+            reached = rw (y .marks, e) (went (x .reached) due t (omega (arith, x .remaining-is)));
             linked = y .linked;
-            left-is = omega (arith, x .left-is, one-less);
+            remaining-is = omega (arith, x .remaining-is, one-less);
             total-is = omega (arith, x .total-is, y .fewer, one-less, survivor-count 0 mark, survivor-count 0 mark′);
           }
 
-          pub go-less : 3 < left → 3 * (left - 1) + count unmarked mark′ < 3 * left + count unmarked mark
-          go-less h = omega (arith, remove-counts mark p due, ap (count unmarked) (y .marks))
+          pub go-less : 3 < remaining → 3 * (remaining - 1) + occurrences unmarked mark′ < 3 * remaining + occurrences unmarked mark
+          go-less h = omega (arith, remove-counts mark p due, ap (occurrences unmarked) (y .marks))
 
-        pub turn-fall : to-go goes mark p ≡ true → left ≤ 3 → (u : ℕ) → u ≡ count unmarked mark → walk goes n ≡ collapsed (total + 1 - u)
+        pub turn-fall : to-go goes mark p ≡ true → remaining ≤ 3 → (u : ℕ) → u ≡ occurrences unmarked mark → walk goes n ≡ ending collapsed (tally (total + 1 - u))
         turn-fall t h u e =
             let v = visits-room goes n big (x .reached) in
-            walk-many goes n big ∙ fallen-after goes n big (x .reached) due t (omega (arith, x .left-is)) (suc (3 * n)) (omega arith) ∙ ap collapsed (omega (arith, x .total-is))
+            let last : suc (x .made) ≡ total + 1 - u = omega (arith, x .total-is) in
+            walk-is goes n big (fallen-after goes n big (x .reached) due t (omega (arith, x .remaining-is)) (suc (3 * n)) (omega arith)) ∙ ap (λ (k : ℕ). ending collapsed (tally k)) last
 
 -- A ring that is linked, and then marked from the front.
 pub begun-first : {goes : ℕ → ℕ → ℕ → Bool} {n k : ℕ} {mark next prev mark′ : List ℕ} → AllLinked n mark next prev → k < n → FirstStand goes n k

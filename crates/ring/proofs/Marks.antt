@@ -10,9 +10,9 @@ use lib.ListN.{length, set, replicate, length-replicate, getD-replicate, replica
 use lib.Seq.{set-at, getD-at}
 use lib.Dec.{eqb}
 use borrow.Author.Tests.{eqb-true, eq-eqb, ne-eqb}
-use Rattle.ring.specs.Walk.{unmarked, marked, removed, mark-at, Survivor, count, unmark, fresh}
-use Rattle.ring.specs.Rows.{first-marked}
-use Rattle.ring.proofs.Cases.{which}
+use Rattle.ring.specs.Walk.{unmarked, marked, removed, mark-at, Survivor, occurrences, unmark, fresh}
+use Rattle.ring.specs.inside.Rows.{first-marked}
+use Rattle.ring.proofs.Branches.{which}
 
 -- What survives lies inside the row.
 pub inside : (m : List ℕ) (p : ℕ) → Survivor m p → p < length m
@@ -24,26 +24,26 @@ abbrev pub one : Bool → ℕ
 one true = 1
 one false = 0
 
-pub count-cons : (x y : ℕ) (m : List ℕ) → count x (y ∷ m) ≡ one (eqb y x) + count x m
-unfolding count
+pub count-cons : (x y : ℕ) (m : List ℕ) → occurrences x (y ∷ m) ≡ one (eqb y x) + occurrences x m
+unfolding occurrences
 count-cons x y m = go (eqb y x)
   where
-    go : (b : Bool) → elim b as (λ _. ℕ) [ true ↦ suc (count x m) | false ↦ count x m ] ≡ one b + count x m
+    go : (b : Bool) → elim b as (λ _. ℕ) [ true ↦ suc (occurrences x m) | false ↦ occurrences x m ] ≡ one b + occurrences x m
     go true = omega arith
     go false = omega arith
 
-count-set : (x : ℕ) (m : List ℕ) (p w : ℕ) → p < length m → count x (set m p w) + one (eqb (mark-at m p) x) ≡ count x m + one (eqb w x)
+count-set : (x : ℕ) (m : List ℕ) (p w : ℕ) → p < length m → occurrences x (set m p w) + one (eqb (mark-at m p) x) ≡ occurrences x m + one (eqb w x)
 count-set x [] p w h = omega arith
 count-set x (y ∷ m) zero w h = omega (arith, count-cons x y m, count-cons x w m)
 count-set x (y ∷ m) (suc p) w h = omega (arith, count-cons x y m, count-cons x y (set m p w), count-set x m p w (omega arith))
 
 -- What a store over the mark v of a survivor does to the number of positions with the mark x.
-pub recount : (m : List ℕ) (p v w : ℕ) → mark-at m p ≡ v → v < removed → (x : ℕ) → count x (set m p w) + one (eqb v x) ≡ count x m + one (eqb w x)
+pub recount : (m : List ℕ) (p v w : ℕ) → mark-at m p ≡ v → v < removed → (x : ℕ) → occurrences x (set m p w) + one (eqb v x) ≡ occurrences x m + one (eqb w x)
 recount m p v w e h x = rw e at (count-set x m p w (inside m p (omega arith)))
 
 -- If some position has a mark, one can be named.
-pub count-some : (x : ℕ) (m : List ℕ) → (count x m ≡ 0 → ⊥) → (q : ℕ) × (mark-at m q ≡ x)
-unfolding count
+pub count-some : (x : ℕ) (m : List ℕ) → (occurrences x m ≡ 0 → ⊥) → (q : ℕ) × (mark-at m q ≡ x)
+unfolding occurrences
 count-some x [] h = absurd (h refl)
 count-some x (y ∷ m) h = ⊎-elim
     (λ e. (0, eqb-true _ _ e))
@@ -66,13 +66,13 @@ fresh-survives n p h = rw (getD-replicate {A = ℕ} n p unmarked removed h) (ome
 pub fresh-at : (n p : ℕ) → Survivor (fresh n) p → mark-at (fresh n) p ≡ unmarked
 fresh-at n p s = getD-replicate {A = ℕ} n p unmarked removed (rw length-replicate at (inside (fresh n) p s))
 
-pub fresh-unmarked : (n : ℕ) → count unmarked (fresh n) ≡ n
-unfolding count
+pub fresh-unmarked : (n : ℕ) → occurrences unmarked (fresh n) ≡ n
+unfolding occurrences
 fresh-unmarked zero = refl
 fresh-unmarked (suc n) = ap suc (fresh-unmarked n)
 
-pub fresh-marked : (n : ℕ) → count marked (fresh n) ≡ 0
-unfolding count
+pub fresh-marked : (n : ℕ) → occurrences marked (fresh n) ≡ 0
+unfolding occurrences
 fresh-marked zero = refl
 fresh-marked (suc n) = fresh-marked n
 
@@ -95,7 +95,7 @@ first-due n k h =
     ap (λ (w : ℕ). mark-at (replicate k marked ++ fresh w) k) e
     ∙ getD-at (replicate k marked) unmarked (fresh (n - suc k)) removed k (length-replicate k marked)
 
-pub first-unmarked : (n k : ℕ) → k ≤ n → k + count unmarked (first-marked n k) ≡ n
+pub first-unmarked : (n k : ℕ) → k ≤ n → k + occurrences unmarked (first-marked n k) ≡ n
 first-unmarked n zero h = rw (first-none n) (omega (arith, fresh-unmarked n))
 first-unmarked n (suc k) h = rw (← first-more n k (omega arith)) (omega (
   arith,

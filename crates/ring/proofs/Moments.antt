@@ -6,10 +6,11 @@ use mathlib.Core.Logic.{⊎-elim}
 use mathlib.Core.List.{List}
 use mathlib.Core.Bool.{Bool, true, false}
 use lib.ListN.{length, set, length-set, length-replicate}
-use Rattle.ring.specs.Walk.{unmarked, marked, mark-at, Survivor, survivors, successor, predecessor, count, remove, Stage, fresh, start, to-go, look, looks}
-use Rattle.ring.specs.Walk.Stage.{under-way, kept, collapsed}
-use Rattle.ring.specs.Rows.{first-marked, FirstStand}
-use Rattle.ring.proofs.Cases.{which, same?, less?}
+use Rattle.ring.specs.Walk.{unmarked, marked, mark-at, Survivor, survivors, successor, predecessor, occurrences, remove, End, Stage, tally, fresh, start, to-go, look, looks}
+use Rattle.ring.specs.Walk.End.{kept, collapsed}
+use Rattle.ring.specs.Walk.Stage.{under-way, ended}
+use Rattle.ring.specs.inside.Rows.{first-marked, FirstStand}
+use Rattle.ring.proofs.Branches.{which, same?, less?}
 use Rattle.ring.proofs.Marks.{fresh-unmarked, fresh-survives, first-none, first-more, first-due}
 use Rattle.ring.proofs.Survivors.{same-survivor, fresh-count}
 use Rattle.ring.proofs.Neighbours.{successor-survives, not-alone, same-successor, same-predecessor}
@@ -21,12 +22,12 @@ module _ (goes : ℕ → ℕ → ℕ → Bool) (n : ℕ) where
   -- The moments of a walk: after v visits it is at position p with marks m, and has made k decisions.
   pub data Reached : ℕ → List ℕ → ℕ → ℕ → Type 0 where
     begun : Reached 0 (fresh n) 0 0
-    stepped : {v : ℕ} {m : List ℕ} {p k : ℕ} → Reached v m p k → (count unmarked m ≡ 0 → ⊥) → mark-at m p ≡ marked → Reached (suc v) m (successor m p) k
+    stepped : {v : ℕ} {m : List ℕ} {p k : ℕ} → Reached v m p k → (occurrences unmarked m ≡ 0 → ⊥) → mark-at m p ≡ marked → Reached (suc v) m (successor m p) k
     stayed : {v : ℕ} {m : List ℕ} {p k : ℕ} → Reached v m p k → mark-at m p ≡ unmarked → to-go goes m p ≡ false → Reached (suc v) (set m p marked) (successor m p) (suc k)
     went : {v : ℕ} {m : List ℕ} {p k : ℕ} → Reached v m p k → mark-at m p ≡ unmarked → to-go goes m p ≡ true → 3 < length (survivors m)
         → Reached (suc v) (remove m p) (predecessor m p) (suc k)
 
-  pub reached-is : {v : ℕ} {m : List ℕ} {p k : ℕ} → Reached v m p k → looks goes v (start n) ≡ under-way m p k
+  pub reached-is : {v : ℕ} {m : List ℕ} {p k : ℕ} → Reached v m p k → looks goes v (start n) ≡ under-way m p (tally k)
   unfolding looks
   reached-is begun = refl
   reached-is (stepped {m = m} {p = p} {k = k} r z e) = ap (look goes) (reached-is r) ∙ look-over goes m p k z e
@@ -48,7 +49,7 @@ module _ (goes : ℕ → ℕ → ℕ → Bool) (n : ℕ) where
       pub long : length m ≡ n
       pub on : Survivor m p
       pub many : 3 ≤ length (survivors m)
-      pub paid : k + (3 * length (survivors m) + count unmarked m) ≤ 4 * n
+      pub paid : k + (3 * length (survivors m) + occurrences unmarked m) ≤ 4 * n
 
     pub moment : {v : ℕ} {m : List ℕ} {p k : ℕ} → Reached v m p k → Moment m p k
     moment begun = record {
@@ -85,7 +86,7 @@ module _ (goes : ℕ → ℕ → ℕ → Bool) (n : ℕ) where
       pub m : List ℕ
       pub p : ℕ
       pub reached : Reached visits m p k
-      pub all-marked : count unmarked m ≡ 0
+      pub all-marked : occurrences unmarked m ≡ 0
       pub is : s ≡ survivors m
 
     pub record Collapsed (k : ℕ) : Type 0 where
@@ -99,21 +100,24 @@ module _ (goes : ℕ → ℕ → ℕ → Bool) (n : ℕ) where
       pub few : length (survivors m) ≤ 3
       pub is : k ≡ suc made
 
-    abbrev pub History : ℕ → Stage → Type 0
-    History v (under-way m p k) = Reached v m p k
-    History v (kept s k) = Kept s k
-    History v (collapsed k) = Collapsed k
+    abbrev pub Finish : End → ℕ → Type 0
+    Finish (kept s) k = Kept s k
+    Finish collapsed k = Collapsed k
 
-    looked : (v : ℕ) (m : List ℕ) (p k : ℕ) → Reached v m p k → History (suc v) (look goes (under-way m p k))
+    abbrev pub History : ℕ → Stage → Type 0
+    History v (under-way m p t) = Reached v m p (t .decisions)
+    History v (ended w) = Finish (w .end) (w .tally .decisions)
+
+    looked : (v : ℕ) (m : List ℕ) (p k : ℕ) → Reached v m p k → History (suc v) (look goes (under-way m p (tally k)))
     looked v m p k r = ⊎-elim
         (λ z. rw (look-done goes m p k z) (record { visits = v; m = m; p = p; reached = r; all-marked = z; is = refl }))
         (λ z. ⊎-elim
         (λ e. rw (look-over goes m p k z e) (stepped r z e))
         (λ n. decided (omega (arith, moment r .on)))
         (same? (mark-at m p) marked))
-        (same? (count unmarked m) 0)
+        (same? (occurrences unmarked m) 0)
       where
-        decided : mark-at m p ≡ unmarked → History (suc v) (look goes (under-way m p k))
+        decided : mark-at m p ≡ unmarked → History (suc v) (look goes (under-way m p (tally k)))
         decided e = ⊎-elim
             (λ t. ⊎-elim
             (λ h. rw (look-go goes m p k e t h) (went r e t h))
@@ -128,6 +132,5 @@ module _ (goes : ℕ → ℕ → ℕ → Bool) (n : ℕ) where
     history (suc v) = next (looks goes v (start n)) (history v)
       where
         next : (w : Stage) → History v w → History (suc v) (look goes w)
-        next (under-way m p k) r = looked v m p k r
-        next (kept s k) x = x
-        next (collapsed k) x = x
+        next (under-way m p t) r = looked v m p (t .decisions) r
+        next (ended w) x = x

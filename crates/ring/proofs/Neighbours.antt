@@ -8,7 +8,7 @@ use mathlib.Core.List.{List, [], _∷_, _++_, append-assoc, append-nil, List·Me
 use lib.ListN.{length, getD, set, take, drop, length-append, length-take, length-drop, List·getD-eq-default}
 use lib.Seq.{split-at, take-at, drop-append-add, set-at, length-take-le, getD-take, getD-drop, getD-at}
 use Rattle.ring.specs.Walk.{removed, mark-at, Survivor, survivors-from, survivors, others, last, successor, predecessor}
-use Rattle.ring.proofs.Cases.{less?}
+use Rattle.ring.proofs.Branches.{less?}
 use Rattle.ring.proofs.Lists.{last-append, before-last, cut-cases, mem-cut}
 use Rattle.ring.proofs.Marks.{inside}
 use Rattle.ring.proofs.Survivors.{Parted, parted, survivors-at, survivors-gap, listed, Same, same-survivors}
@@ -34,10 +34,10 @@ turned m c x q y s e = ⊎-elim
     let r = parted (suc c) hi x q (i .0) (i .1) in
     let f : m ≡ (lo ++ v ∷ r .low) ++ r .mark ∷ r .high = at ∙ up v r in
     let g : set m c removed ≡ (lo ++ removed ∷ r .low) ++ r .mark ∷ r .high = ap (λ l. set l c removed) at ∙ set-at lo v hi removed c len ∙ up removed r in
-    let n : (z : ℕ) → length (lo ++ z ∷ r .low) ≡ q = λ z. length-append lo (z ∷ r .low) ∙ omega (arith, r .place, len) in
+    let n : (z : ℕ) → length (lo ++ z ∷ r .low) ≡ q = λ z. length-append lo (z ∷ r .low) ∙ omega (arith, r .position, len) in
     record {
       survives = rw (f, getD-at (lo ++ v ∷ r .low) (r .mark) (r .high) removed q (n v)) (r .survives);
-      other = λ z. omega (arith, r .place);
+      other = λ z. omega (arith, r .position);
       from = ap (λ l. others l q) f ∙ others-at (lo ++ v ∷ r .low) (r .mark) (r .high) q (n v)
           ∙ rw (survivors-at 0 lo v (r .low) c (omega (arith, len)) s, ← r .higher, ← r .lower, i .2, append-assoc);
       gone = ap (λ l. others l q) g ∙ others-at (lo ++ removed ∷ r .low) (r .mark) (r .high) q (n removed)
@@ -45,10 +45,10 @@ turned m c x q y s e = ⊎-elim
     })
     (λ i.
     let r = parted 0 lo (i .0) q y (i .2) in
-    let k : suc q + length (r .high) ≡ c = omega (arith, r .place, length-append (r .low) (r .mark ∷ r .high), ap length (r .is), len) in
+    let k : suc q + length (r .high) ≡ c = omega (arith, r .position, length-append (r .low) (r .mark ∷ r .high), ap length (r .is), len) in
     let f : m ≡ r .low ++ r .mark ∷ (r .high ++ v ∷ hi) = at ∙ down v r in
     let g : set m c removed ≡ r .low ++ r .mark ∷ (r .high ++ removed ∷ hi) = ap (λ l. set l c removed) at ∙ set-at lo v hi removed c len ∙ down removed r in
-    let n : length (r .low) ≡ q = omega (arith, r .place) in
+    let n : length (r .low) ≡ q = omega (arith, r .position) in
     record {
       survives = rw (f, getD-at (r .low) (r .mark) (r .high ++ v ∷ hi) removed q n) (r .survives);
       other = λ z. omega arith;

@@ -8,8 +8,8 @@ use mathlib.Core.Bool.{Bool, true, false}
 use lib.ListN.{length}
 use lib.Dec.{ltb}
 use borrow.Author.Tests.{lt-ltb, le-ltb, ltb-true, ne-eqb}
-use Rattle.ring.specs.Walk.{unmarked, marked, removed, mark-at, Survivor, survivors-from, survivors, count, fresh}
-use Rattle.ring.proofs.Cases.{less?}
+use Rattle.ring.specs.Walk.{unmarked, marked, removed, mark-at, Survivor, survivors-from, survivors, occurrences, fresh}
+use Rattle.ring.proofs.Branches.{less?}
 use Rattle.ring.proofs.Marks.{count-cons, fresh-unmarked, fresh-marked}
 
 pub survivors-yes : (i x : ℕ) (m : List ℕ) → x < removed → survivors-from i (x ∷ m) ≡ i ∷ survivors-from (suc i) m
@@ -45,7 +45,7 @@ pub record Parted (i : ℕ) (m x : List ℕ) (q : ℕ) (y : List ℕ) : Type 0 w
   pub mark : ℕ
   pub high : List ℕ
   pub is : m ≡ low ++ mark ∷ high
-  pub place : i + length low ≡ q
+  pub position : i + length low ≡ q
   pub survives : mark < removed
   pub lower : x ≡ survivors-from i low
   pub higher : y ≡ survivors-from (suc q) high
@@ -56,7 +56,7 @@ longer i z r e = record {
   mark = r .mark;
   high = r .high;
   is = ap (λ t. z ∷ t) (r .is);
-  place = omega (arith, r .place);
+  position = omega (arith, r .position);
   survives = r .survives;
   lower = e;
   higher = r .higher;
@@ -76,7 +76,7 @@ parted i (z ∷ m) [] q y e = ⊎-elim
     (λ l.
     let f : i ∷ survivors-from (suc i) m ≡ q ∷ y = sym (survivors-yes i z m l) ∙ e in
     let g : i ≡ q = head-eq-of-cons-eq f in
-    record { low = []; mark = z; high = m; is = refl; place = omega arith; survives = l; lower = refl; higher = sym (tail-eq-of-cons-eq f) ∙ rw g })
+    record { low = []; mark = z; high = m; is = refl; position = omega arith; survives = l; lower = refl; higher = sym (tail-eq-of-cons-eq f) ∙ rw g })
     (λ l. skip i z l (parted (suc i) m [] q y (sym (survivors-no i z m l) ∙ e)))
     (less? z removed)
 parted i (z ∷ m) (w ∷ x) q y e = ⊎-elim
@@ -125,8 +125,8 @@ same-survivors i {m} {m′} x = go i m m′ (x .long) (x .alike)
     go i (x ∷ m) (y ∷ m′) l h = ap₂ (λ (b : Bool) (t : List ℕ). elim b as (λ _. List ℕ) [ true ↦ i ∷ t | false ↦ t ]) (h 0) (go (suc i) m m′ (omega arith) (λ q. h (suc q)))
 
 -- As many survive as are unmarked and marked together.
-pub survivor-count : (i : ℕ) (m : List ℕ) → length (survivors-from i m) ≡ count unmarked m + count marked m
-unfolding survivors-from count
+pub survivor-count : (i : ℕ) (m : List ℕ) → length (survivors-from i m) ≡ occurrences unmarked m + occurrences marked m
+unfolding survivors-from occurrences
 survivor-count i [] = omega arith
 survivor-count i (zero ∷ m) = omega (arith, survivor-count (suc i) m)
 survivor-count i (suc zero ∷ m) = omega (arith, survivor-count (suc i) m)

@@ -6,37 +6,41 @@ use mathlib.Core.Logic.{⊎-elim}
 use mathlib.Core.List.{List}
 use mathlib.Core.Bool.{Bool}
 use lib.ListN.{length, getD}
-use Rattle.ring.specs.Walk.{unmarked, marked, mark-at, survivors, count, Stage, fresh, start, looks, walk}
-use Rattle.ring.specs.Walk.Stage.{under-way, kept, collapsed}
-use Rattle.ring.specs.Promises.{EndedWithin, Rising, Clean, Settled, Preserved, LastThree}
-use Rattle.ring.specs.Rows.{first-marked, FirstStand}
-use Rattle.ring.proofs.Cases.{same?, less?}
+use Rattle.ring.specs.Walk.{unmarked, marked, mark-at, survivors, occurrences, Tally, End, Walked, tally, ending, fresh, start, looks, walk}
+use Rattle.ring.specs.Walk.End.{kept, collapsed}
+use Rattle.ring.specs.Walk.Stage.{under-way, ended}
+use Rattle.ring.specs.Promises.{Rising, Clean, NoneToGo, Preserved, LastThree}
+use Rattle.ring.specs.inside.Rows.{first-marked, FirstStand}
+use Rattle.ring.proofs.Branches.{same?, less?}
 use Rattle.ring.proofs.Marks.{fresh-unmarked}
 use Rattle.ring.proofs.Survivors.{same-survivors}
 use Rattle.ring.proofs.Changes.{same-set, same-remove}
 use Rattle.ring.proofs.Looks.{some-unmarked}
-use Rattle.ring.proofs.Moments.{Reached, begun, stepped, stayed, went, reached-is, reached-first, moment, Kept, Collapsed, History, history}
+use Rattle.ring.proofs.Moments.{Reached, begun, stepped, stayed, went, reached-is, reached-first, moment, Kept, Collapsed, Finish, history}
 use Rattle.ring.proofs.Ahead.{idle, visits-room, going-room}
-use Rattle.ring.proofs.Ends.{walk-few, walk-many, ended-walk, settled-answer, kept-after, fallen-after}
-use Rattle.ring.proofs.Listed.{survivors-rise, at, place, to-go-listed}
+use Rattle.ring.proofs.Ends.{walk-few, ended-looks, none-to-go-answer, kept-after, fallen-after}
+use Rattle.ring.proofs.Listed.{survivors-rise, at, position, to-go-listed}
 
 module _ (goes : ℕ → ℕ → ℕ → Bool) (n : ℕ) where
-  past : (big : 3 ≤ n) → History goes n big (suc (3 * n)) (walk goes n)
-  past big = rw (walk-many goes n big) (history goes n big (suc (3 * n)))
+  -- The walk of three positions or more has ended after 3 n visits and one more look.
+  pub ends : 3 ≤ n → looks goes (suc (3 * n)) (start n) ≡ ended (walk goes n)
+  ends big = ended-looks goes n big
 
-  -- The walk ends, after at most 4 n - 9 decisions, kept or collapsed; under three positions after none.
-  pub ends-in-4n-9 : EndedWithin (4 * n - 9) (walk goes n)
+  past : (big : 3 ≤ n) → Finish goes n big (walk goes n .end) (walk goes n .tally .decisions)
+  past big = rw (ends big) at (history goes n big (suc (3 * n)))
+
+  -- It takes at most 4 n - 9 decisions, kept or collapsed; under three positions none.
+  pub ends-in-4n-9 : walk goes n .tally .decisions ≤ 4 * n - 9
   ends-in-4n-9 = ⊎-elim
       (λ few. rw (walk-few goes n few) (omega arith))
-      (λ big. ended big (walk goes n) refl (past big))
+      (λ big. within big (walk goes n .end) (walk goes n .tally .decisions) (past big))
       (less? n 3)
     where
-      ended : (big : 3 ≤ n) (w : Stage) → walk goes n ≡ w → History goes n big (suc (3 * n)) w → EndedWithin (4 * n - 9) w
-      ended big (under-way m p k) e r = ended-walk goes n big m p k e
-      ended big (kept s k) e x = let y = moment goes n big (x .reached) in omega (arith, y .many, y .paid)
-      ended big (collapsed k) e x =
+      within : (big : 3 ≤ n) (e : End) (k : ℕ) → Finish goes n big e k → k ≤ 4 * n - 9
+      within big (kept s) k x = let y = moment goes n big (x .reached) in omega (arith, y .many, y .paid)
+      within big collapsed k x =
           let y = moment goes n big (x .reached) in
-          let z : count unmarked (x .m) ≡ 0 → ⊥ = some-unmarked (x .m) (x .p) (x .due) in
+          let z : occurrences unmarked (x .m) ≡ 0 → ⊥ = some-unmarked (x .m) (x .p) (x .due) in
           omega (arith, y .many, y .paid, x .is)
 
   -- What each removal preserves is preserved at every moment.
@@ -48,19 +52,19 @@ module _ (goes : ℕ → ℕ → ℕ → Bool) (n : ℕ) where
       ap quantity (sym (same-survivors 0 (same-set m p marked (omega arith) (omega arith)))) ∙ preserved big quantity keeps r
   preserved big quantity keeps (went {m = m} {p = p} r e t h) =
       let y = moment goes n big r in
-      let a = place m p (y .on) in
+      let a = position m p (y .on) in
       ap quantity (sym (same-survivors 0 (same-remove m p)) ∙ a .1 .gone)
       ∙ keeps (survivors m) (a .0) (survivors-rise 0 n m (omega (arith, y .long))) h (a .1 .inside) (sym (to-go-listed goes (a .1)) ∙ t)
       ∙ preserved big quantity keeps r
 
-  module _ {s : List ℕ} {k : ℕ} (is : walk goes n ≡ kept s k) where
+  module _ {s : List ℕ} (is : walk goes n .end ≡ kept s) where
     big : 3 ≤ n
-    big = ⊎-elim (λ few. absurd (never (sym (walk-few goes n few) ∙ is))) (λ h. h) (less? n 3)
+    big = ⊎-elim (λ few. absurd (never (ap (λ (w : Walked). w .end) (sym (walk-few goes n few)) ∙ is))) (λ h. h) (less? n 3)
       where
-        never : collapsed 0 ≡ kept s k → ⊥
+        never : collapsed ≡ kept s → ⊥
         never e = let z : _≡_ {A = ℕ} 0 1 = cc in omega arith
 
-    end : Kept goes n big s k
+    end : Kept goes n big s (walk goes n .tally .decisions)
     end = rw is at (past big)
 
     -- The survivors of a ring that is kept are positions below n, in rising order.
@@ -86,29 +90,33 @@ module _ (goes : ℕ → ℕ → ℕ → Bool) (n : ℕ) where
     kept-preserves quantity keeps = ap quantity (end .is) ∙ preserved big quantity keeps (end .reached)
 
     -- It was kept within 3 n visits, less one for each survivor; one more look sees that all are marked.
-    pub kept-in-3n-visits : looks goes (suc (3 * n - length s)) (start n) ≡ kept s k
-    kept-in-3n-visits = rw (end .is) (kept-after goes n big (end .reached) (end .all-marked) _ (omega (arith, visits-room goes n big (end .reached))))
+    pub kept-in-3n-visits : looks goes (suc (3 * n - length s)) (start n) ≡ ended (walk goes n)
+    kept-in-3n-visits =
+        let w : ending (kept (survivors (end .m))) (walk goes n .tally) ≡ walk goes n = ap (λ (e : End). ending e (walk goes n .tally)) (ap kept (sym (end .is)) ∙ sym is) in
+        rw (end .is) (kept-after goes n big (end .reached) (end .all-marked) _ (omega (arith, visits-room goes n big (end .reached))) ∙ ap ended w)
 
   -- Where the first k positions stand, k looks mark them and come to position k, after as many decisions.
-  pub front-marked : (k : ℕ) → k < n → FirstStand goes n k → looks goes k (start n) ≡ under-way (first-marked n k) k k
+  pub front-marked : (k : ℕ) → k < n → FirstStand goes n k → looks goes k (start n) ≡ under-way (first-marked n k) k (tally k)
   front-marked k h f = reached-is goes n (reached-first goes n k h f)
 
   module _ (big : 3 ≤ n) where
     -- Where no vertex of the ring would go, all is kept, after n decisions.
-    pub unchanged-after-n : Settled goes (fresh n) → walk goes n ≡ kept (survivors (fresh n)) n
-    unchanged-after-n still = settled-answer goes n big begun still ∙ ap (kept (survivors (fresh n))) (omega (arith, fresh-unmarked n))
+    pub unchanged-after-n : NoneToGo goes (fresh n) → walk goes n ≡ ending (kept (survivors (fresh n))) (tally n)
+    unchanged-after-n still =
+        let e : 0 + occurrences unmarked (fresh n) ≡ n = omega (arith, fresh-unmarked n) in
+        none-to-go-answer goes n big begun still ∙ ap (λ (k : ℕ). ending (kept (survivors (fresh n))) (tally k)) e
 
-    module _ {k : ℕ} (is : walk goes n ≡ collapsed k) where
-      fall : Collapsed goes n big k
+    module _ (is : walk goes n .end ≡ collapsed) where
+      fall : Collapsed goes n big (walk goes n .tally .decisions)
       fall = rw is at (past big)
 
-      -- A ring collapses with three positions left, of which one would go, and what each removal preserves is preserved.
+      -- A ring collapses with three positions remaining, of which one would go, and what each removal preserves is preserved.
       pub collapsed-at-three : {X : Type 0} (quantity : List ℕ → X) → Preserved goes n quantity → LastThree goes n quantity
       collapsed-at-three quantity keeps =
           let y = moment goes n big (fall .reached) in
-          let a = place (fall .m) (fall .p) (y .on) in
+          let a = position (fall .m) (fall .p) (y .on) in
           record {
-            left = survivors (fall .m);
+            rest = survivors (fall .m);
             rising = survivors-rise 0 n (fall .m) (omega (arith, y .long));
             three = omega (arith, y .many, fall .few);
             j = a .0;
@@ -118,24 +126,26 @@ module _ (goes : ℕ → ℕ → ℕ → Bool) (n : ℕ) where
           }
 
       -- It collapsed within 3 n visits, less two for each of the three.
-      pub collapsed-in-3n-visits : looks goes (3 * n - 6) (start n) ≡ collapsed k
+      pub collapsed-in-3n-visits : looks goes (3 * n - 6) (start n) ≡ ended (walk goes n)
       collapsed-in-3n-visits =
           let y = moment goes n big (fall .reached) in
           let z = going-room goes n big (fall .reached) (fall .goes-now) in
-          fallen-after goes n big (fall .reached) (fall .due) (fall .goes-now) (fall .few) _ (omega (arith, y .many)) ∙ ap collapsed (sym (fall .is))
+          let w : ending collapsed (tally (suc (fall .made))) ≡ walk goes n =
+          ap (λ (k : ℕ). ending collapsed (tally k)) (sym (fall .is)) ∙ ap (λ (e : End). ending e (walk goes n .tally)) (sym is) in
+          fallen-after goes n big (fall .reached) (fall .due) (fall .goes-now) (fall .few) _ (omega (arith, y .many)) ∙ ap ended w
 
     -- After v looks a walk is under way, at position p with marks m.
-    module _ (v : ℕ) {m : List ℕ} {p k : ℕ} (now : looks goes v (start n) ≡ under-way m p k) where
-      reached : Reached goes n v m p k
+    module _ (v : ℕ) {m : List ℕ} {p : ℕ} {t : Tally} (now : looks goes v (start n) ≡ under-way m p t) where
+      reached : Reached goes n v m p (t .decisions)
       reached = rw now at (history goes n big v)
 
       -- If it is at a marked position, nothing goes any more.
-      pub idle-means-settled : mark-at m p ≡ marked → Settled goes m
-      idle-means-settled e = idle goes n big reached e
+      pub idle-means-none-to-go : mark-at m p ≡ marked → NoneToGo goes m
+      idle-means-none-to-go e = idle goes n big reached e
 
       -- So what survives now is kept, and each unmarked position is decided once more.
-      pub idle-answer : mark-at m p ≡ marked → walk goes n ≡ kept (survivors m) (k + count unmarked m)
-      idle-answer e = settled-answer goes n big reached (idle-means-settled e)
+      pub idle-answer : mark-at m p ≡ marked → walk goes n ≡ ending (kept (survivors m)) (tally (t .decisions + occurrences unmarked m))
+      idle-answer e = none-to-go-answer goes n big reached (idle-means-none-to-go e)
 
       -- The visits so far, decisions and steps over marked positions alike, are at most 3 n less the survivors.
       pub visits-at-most-3n : v + length (survivors m) ≤ 3 * n

@@ -1,4 +1,4 @@
 pub mod Walk
 pub mod Rule
 pub mod Promises
-pub mod Rows
+pub mod inside

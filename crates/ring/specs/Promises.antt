@@ -5,14 +5,7 @@ use mathlib.Core.List.{List, [], _∷_}
 use mathlib.Core.Bool.{Bool, true, false}
 use lib.ListN.{length, getD}
 use Rattle.grid.specs.Neighbours.{preceding, following, leaving-out}
-use Rattle.ring.specs.Walk.{Survivor, survivors, fresh, Stage, to-go}
-use Rattle.ring.specs.Walk.Stage.{under-way, kept, collapsed}
-
--- The walk has ended, after at most so many decisions.
-abbrev pub EndedWithin : ℕ → Stage → Type 0
-EndedWithin most (under-way m p k) = ⊥
-EndedWithin most (kept s k) = k ≤ most
-EndedWithin most (collapsed k) = k ≤ most
+use Rattle.ring.specs.Walk.{Survivor, survivors, fresh, to-go}
 
 -- Positions from low on and below high, in rising order.
 abbrev pub Rising : ℕ → ℕ → List ℕ → Type 0
@@ -29,20 +22,20 @@ module _ (goes : ℕ → ℕ → ℕ → Bool) where
   Clean s = (j : ℕ) → j < length s → would-go s j ≡ false
 
   -- No survivor of a row of marks would go with the survivors beside it.
-  abbrev pub Settled : List ℕ → Type 0
-  Settled m = (q : ℕ) → Survivor m q → to-go goes m q ≡ false
+  abbrev pub NoneToGo : List ℕ → Type 0
+  NoneToGo m = (q : ℕ) → Survivor m q → to-go goes m q ≡ false
 
   module _ (n : ℕ) {X : Type 0} (quantity : List ℕ → X) where
     -- The quantity of a list of positions is the same after any removal that the walk of a ring of n may make.
     abbrev pub Preserved : Type 0
     Preserved = (s : List ℕ) (j : ℕ) → Rising 0 n s → 3 < length s → j < length s → would-go s j ≡ true → quantity (leaving-out s j) ≡ quantity s
 
-    -- A collapse: three positions are left of the ring, one of them would go, and the quantity is still that of the whole ring.
+    -- A collapse: three positions remain of the ring, one of them would go, and the quantity is still that of the whole ring.
     pub record LastThree : Type 0 where
-      pub left : List ℕ
-      pub rising : Rising 0 n left
-      pub three : length left ≡ 3
+      pub rest : List ℕ
+      pub rising : Rising 0 n rest
+      pub three : length rest ≡ 3
       pub j : ℕ
       pub inside : j < 3
-      pub goes-now : would-go left j ≡ true
-      pub same : quantity left ≡ quantity (survivors (fresh n))
+      pub goes-now : would-go rest j ≡ true
+      pub same : quantity rest ≡ quantity (survivors (fresh n))

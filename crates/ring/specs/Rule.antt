@@ -1,26 +1,30 @@
 -- Which vertex is to go.
 use mathlib.Core.Path.{_≡_}
-use mathlib.Core.Bool.{Bool, true, _||_}
+use mathlib.Core.Bool.{Bool, true, false, _||_}
 use mathlib.Core.List.{List}
-use Prim.Native.Nat.{ℕ, _+_, _*_, _<_}
-use lib.ListN.{length}
+use Prim.Native.Nat.{ℕ}
 use lib.IntN.{ℤ, pos}
-use Rattle.grid.specs.Limits.{all-on-grid}
 use Rattle.grid.specs.declared.Edge.{Edge}
-use Rattle.grid.specs.Points.{at, same, bend, still, parallel, opposed}
-use Rattle.grid.specs.Corners.{Corner, straight, back}
+use Rattle.grid.specs.Points.{at, same}
+use Rattle.grid.specs.Edges.{still, aligned, reverses}
+use Rattle.grid.specs.Corners.{Corner, cross-at, aligned-at, reverses-at}
 use Rattle.ring.specs.declared.Rule.{Rule}
 use Rattle.ring.specs.declared.Rule.the-variants.{Collinear, Spike}
 
 -- Collinear cleaning removes a vertex with cross 0. Despiking removes one equal to either neighbour, or with cross 0 and dot below 0.
 unfoldable pub goes-at : Rule → Corner → Bool
-goes-at Collinear k = straight k
-goes-at Spike k = same (k .vertex) (k .before) || (same (k .vertex) (k .after) || back k)
+goes-at Collinear k = aligned-at k
+goes-at Spike k = same (k .vertex) (k .before) || (same (k .vertex) (k .after) || reverses-at k)
+
+-- The rule Collinear, or the rule Spike.
+abbrev pub by : Bool → Rule
+by true = Collinear
+by false = Spike
 
 -- The same of the edges to a vertex and from it.
 unfoldable pub goes-along : Rule → Edge → Edge → Bool
-goes-along Collinear u v = parallel u v
-goes-along Spike u v = still u || (still v || opposed u v)
+goes-along Collinear u v = aligned u v
+goes-along Spike u v = still u || (still v || reverses u v)
 
 -- The corner at three positions of a row: a predecessor, a vertex and a successor.
 abbrev pub corner-of : List ℤ → ℕ → ℕ → ℕ → Corner
@@ -34,17 +38,6 @@ goes-in goes row a c b = goes (corner-of row a c b)
 abbrev pub goes : Rule → List ℤ → ℕ → ℕ → ℕ → Bool
 goes rule = goes-in (goes-at rule)
 
--- The cross at a corner.
-abbrev pub cross-at : Corner → ℤ
-cross-at k = bend (k .before) (k .vertex) (k .after)
-
 -- By a rule, whichever it is, a vertex that is to go has cross 0.
 abbrev pub CrossZero : (Corner → Bool) → Type 0
 CrossZero goes = (k : Corner) → goes k ≡ true → cross-at k ≡ pos 0
-
--- Three positions of a row on the grid.
-pub record Vertices (row : List ℤ) (a c b : ℕ) : Type 0 where
-  pub a-in : 2 * a + 1 < length row
-  pub c-in : 2 * c + 1 < length row
-  pub b-in : 2 * b + 1 < length row
-  pub on : all-on-grid row ≡ true

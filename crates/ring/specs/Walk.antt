@@ -1,4 +1,4 @@
--- The walk over the surviving positions of a ring, for any rule that says which vertex is to go. Here m is a row of marks, p a position, and k the decisions so far.
+-- The walk over the surviving positions of a ring, for any rule that says which vertex is to go. Here m is a row of marks, p a position, and t what is counted so far.
 use Prim.Native.Nat.{ℕ, zero, suc, _*_, _<_}
 use mathlib.Core.List.{List, [], _∷_, _++_}
 use mathlib.Core.Bool.{Bool, true, false}
@@ -50,13 +50,13 @@ unfoldable pub predecessor : List ℕ → ℕ → ℕ
 predecessor m p = last (others m p) p
 
 -- How many positions have the mark x.
-unfoldable pub count : ℕ → List ℕ → ℕ
-count x [] = 0
-count x (y ∷ m) = elim (eqb y x) [ true ↦ suc (count x m) | false ↦ count x m ]
+unfoldable pub occurrences : ℕ → List ℕ → ℕ
+occurrences x [] = 0
+occurrences x (y ∷ m) = elim (eqb y x) [ true ↦ suc (occurrences x m) | false ↦ occurrences x m ]
 
 -- All survivors are marked: no position is unmarked.
 abbrev pub all-marked : List ℕ → Bool
-all-marked m = eqb (count unmarked m) 0
+all-marked m = eqb (occurrences unmarked m) 0
 
 -- Only three survive.
 abbrev pub only-three : List ℕ → Bool
@@ -74,11 +74,36 @@ unmark-about m p = unmark (unmark (unmark m p) (successor m p)) (predecessor m p
 unfoldable pub remove : List ℕ → ℕ → List ℕ
 remove m c = unmark-about (set m c removed) (predecessor m c)
 
--- A walk is under way, with its marks, its position and its decisions so far; or it has ended after its decisions, with the survivors kept, or collapsed.
+-- What a walk counts.
+pub record Tally : Type 0 where
+  pub decisions : ℕ
+
+-- A walk ends with the survivors that it keeps, or collapsed.
+pub data End : Type 0 where
+  kept : List ℕ → End
+  collapsed : End
+
+-- What a walk comes to: how it ended, and what it counted.
+pub record Walked : Type 0 where
+  pub end : End
+  pub tally : Tally
+
+-- A walk is under way, with its marks, its position and what it counted so far; or it has ended.
 pub data Stage : Type 0 where
-  under-way : List ℕ → ℕ → ℕ → Stage
-  kept : List ℕ → ℕ → Stage
-  collapsed : ℕ → Stage
+  under-way : List ℕ → ℕ → Tally → Stage
+  ended : Walked → Stage
+
+-- So many decisions.
+abbrev pub tally : ℕ → Tally
+tally k = record { decisions = k }
+
+-- One decision more.
+abbrev pub counted : Tally → Tally
+counted t = record { decisions = suc (t .decisions) }
+
+-- A walk that ended so, with this tally.
+abbrev pub ending : End → Tally → Walked
+ending e t = record { end = e; tally = t }
 
 -- The row of n positions with nothing marked.
 abbrev pub fresh : ℕ → List ℕ
@@ -86,7 +111,12 @@ fresh n = replicate n unmarked
 
 -- The walk starts at position 0, with nothing marked.
 abbrev pub start : ℕ → Stage
-start n = under-way (fresh n) 0 0
+start n = under-way (fresh n) 0 (tally 0)
+
+-- What a walk has come to: one that is under way has kept its survivors so far.
+abbrev pub come-to : Stage → Walked
+come-to (under-way m p t) = ending (kept (survivors m)) t
+come-to (ended w) = w
 
 -- The rule says of a predecessor, a vertex and a successor whether the vertex is to go.
 module _ (goes : ℕ → ℕ → ℕ → Bool) where
@@ -95,24 +125,23 @@ module _ (goes : ℕ → ℕ → ℕ → Bool) where
   to-go m p = goes (predecessor m p) p (successor m p)
 
   -- A decision at position p, which is counted.
-  unfoldable pub decide : List ℕ → ℕ → ℕ → Stage
-  decide m p k =
+  unfoldable pub decide : List ℕ → ℕ → Tally → Stage
+  decide m p t =
       elim (to-go m p) [
         -- If the vertex is to go and only three survive, the ring has collapsed. If it is to go otherwise, it is removed, and the walk moves to its predecessor.
-        | true ↦ elim (only-three m) [ true ↦ collapsed (suc k) | false ↦ under-way (remove m p) (predecessor m p) (suc k) ]
+        | true ↦ elim (only-three m) [ true ↦ ended (ending collapsed (counted t)) | false ↦ under-way (remove m p) (predecessor m p) (counted t) ]
         -- If it stays, it is marked, and the walk steps forward.
-        | false ↦ under-way (set m p marked) (successor m p) (suc k)
+        | false ↦ under-way (set m p marked) (successor m p) (counted t)
       ]
 
   -- One look at the ring: it ends the walk if all survivors are marked, and otherwise visits the position, to step forward if it is marked and to decide if it isn't.
   unfoldable pub look : Stage → Stage
-  look (under-way m p k) =
+  look (under-way m p t) =
       elim (all-marked m) [
-        | true ↦ kept (survivors m) k
-        | false ↦ elim (eqb (mark-at m p) marked) [ true ↦ under-way m (successor m p) k | false ↦ decide m p k ]
+        | true ↦ ended (ending (kept (survivors m)) t)
+        | false ↦ elim (eqb (mark-at m p) marked) [ true ↦ under-way m (successor m p) t | false ↦ decide m p t ]
       ]
-  look (kept s k) = kept s k
-  look (collapsed k) = collapsed k
+  look (ended w) = ended w
 
   -- So many looks, one after the other.
   unfoldable pub looks : ℕ → Stage → Stage
@@ -120,5 +149,5 @@ module _ (goes : ℕ → ℕ → ℕ → Bool) where
   looks (suc v) w = look (looks v w)
 
   -- The walk of a ring of n positions. Under three it has collapsed, with no decision; otherwise 3 n visits and one more look are enough for it to end.
-  unfoldable pub walk : ℕ → Stage
-  walk n = elim (ltb n 3) [ true ↦ collapsed 0 | false ↦ looks (suc (3 * n)) (start n) ]
+  unfoldable pub walk : ℕ → Walked
+  walk n = elim (ltb n 3) [ true ↦ ending collapsed (tally 0) | false ↦ come-to (looks (suc (3 * n)) (start n)) ]

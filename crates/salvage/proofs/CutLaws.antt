@@ -13,9 +13,9 @@ use mir.Syntax.{w32}
 use mir.Val.{toZ}
 use borrow.Author.Tests.{leb-true, leb-false, le-leb, lt-leb}
 use Rattle.setfile.specs.Format.{Entry, entry, Come, come-next}
-use Rattle.setfile.specs.Inside.{pair, quad, places, starts, held, front-entry, all-there, arrived}
-use Rattle.setfile.proofs.ReadLaws.{places-length}
-use Rattle.salvage.specs.Inside.{size}
+use Rattle.setfile.specs.inside.Bytes.{pair, quad, decoded, starts, held, front-entry, all-there, arrived}
+use Rattle.setfile.proofs.ReadLaws.{decoded-length}
+use Rattle.salvage.specs.inside.Sifting.{size}
 use Rattle.salvage.specs.Promises.{length-of, as-long, all-within}
 
 pub drop-take : {A : Type 0} (k n : ℕ) (l : List A) → drop k (take (k + n) l) ≡ take n (drop k l)
@@ -38,14 +38,14 @@ module _ (f : List ℕ) (n : ℕ) where
         getD-take n f 3 0 (omega arith),
       )
 
-places-cut : (k m : ℕ) (f : List ℕ) → places k (take (4 * k + m) f) ≡ places k f
-unfolding places
-places-cut zero m f = refl
-places-cut (suc k) m f =
+decoded-cut : (k m : ℕ) (f : List ℕ) → decoded k (take (4 * k + m) f) ≡ decoded k f
+unfolding decoded
+decoded-cut zero m f = refl
+decoded-cut (suc k) m f =
     let e : 4 * suc k + m ≡ 4 + (4 * k + m) = omega arith in
     ap₂ (λ (z : ℤ) (l : List ℤ). z ∷ l)
     (ap (toZ w32) (quad-cut f (4 * suc k + m) (omega arith)))
-    (ap (places k) (ap (λ (n : ℕ). drop 4 (take n f)) e ∙ drop-take 4 (4 * k + m) f) ∙ places-cut k m (drop 4 f))
+    (ap (decoded k) (ap (λ (n : ℕ). drop 4 (take n f)) e ∙ drop-take 4 (4 * k + m) f) ∙ decoded-cut k m (drop 4 f))
 
 -- the contour in front, where it is left whole, and where it is not
 module _ (f : List ℕ) (n : ℕ) where
@@ -53,10 +53,10 @@ module _ (f : List ℕ) (n : ℕ) where
   entry-cut h =
       let p : pair (take n f) ≡ pair f = pair-cut f n (omega arith) in
       let m : n ≡ 2 + (4 * (2 * held f) + (n - size f)) = omega arith in
-      ap (λ (k : ℕ). entry (leb 32768 k) (places (2 * (k % 32768)) (drop 2 (take n f)))) p
+      ap (λ (k : ℕ). entry (leb 32768 k) (decoded (2 * (k % 32768)) (drop 2 (take n f)))) p
       ∙ ap (entry (starts f))
-      (ap (λ (k : ℕ). places (2 * held f) (drop 2 (take k f))) m
-      ∙ ap (places (2 * held f)) (drop-take 2 (4 * (2 * held f) + (n - size f)) f) ∙ places-cut (2 * held f) (n - size f) (drop 2 f))
+      (ap (λ (k : ℕ). decoded (2 * held f) (drop 2 (take k f))) m
+      ∙ ap (decoded (2 * held f)) (drop-take 2 (4 * (2 * held f) + (n - size f)) f) ∙ decoded-cut (2 * held f) (n - size f) (drop 2 f))
 
   held-cut : 2 ≤ n → held (take n f) ≡ held f
   held-cut h = ap (λ (k : ℕ). k % 32768) (pair-cut f n h)
@@ -92,7 +92,7 @@ module _ (f : List ℕ) (n : ℕ) where
       ap (λ (k : ℕ). drop (2 + 8 * k) (take n f)) p ∙ ap (λ (k : ℕ). drop (size f) (take k f)) m ∙ drop-take (size f) (n - size f) f
 
 entry-length : (f : List ℕ) → length-of (front-entry f) ≡ size f
-entry-length f = let n = places-length (2 * held f) (drop 2 f) in omega (arith, n)
+entry-length f = let n = decoded-length (2 * held f) (drop 2 f) in omega (arith, n)
 
 -- what has come of a file that is cut off
 pub record Cut (n : ℕ) (whole rest : Come) : Type 0 where

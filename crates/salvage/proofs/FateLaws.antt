@@ -7,7 +7,7 @@ use native.Mathlib.Omega.{arith}
 use lib.ListN.{length, length-append}
 use Rattle.buffer.specs.Sets.{joined, Even}
 use Rattle.setfile.specs.Format.{Entry, contours-of}
-use Rattle.setfile.specs.Inside.{coded-contour, coded-contours}
+use Rattle.setfile.specs.inside.Bytes.{coded-contour, coded-contours}
 use Rattle.setfile.specs.Promises.{Each}
 use Rattle.salvage.specs.Fates.{fates, kept, dropped}
 

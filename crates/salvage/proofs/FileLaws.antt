@@ -11,11 +11,11 @@ use mir.Val.{SFits}
 use borrow.Author.Tests.{not-false}
 use Rattle.grid.specs.Limits.{all-on-grid}
 use Rattle.grid.specs.Domain.{count}
-use Rattle.grid.specs.Ladder.{first-of}
-use Rattle.grid.proofs.LadderLaws.{clear}
+use Rattle.replies.specs.Ladder.{first-of}
+use Rattle.replies.proofs.LadderLaws.{clear}
 use Rattle.buffer.specs.Sets.{joined}
 use Rattle.setfile.specs.Format.{Entry, contours-of, promised, come}
-use Rattle.setfile.specs.Inside.{Bytes, coded-contours, coded}
+use Rattle.setfile.specs.inside.Bytes.{Bytes, coded-contours, coded}
 use Rattle.setfile.specs.Writing.{most-points}
 use Rattle.setfile.specs.Promises.{Each, Started, Carried}
 use Rattle.setfile.proofs.SizeLaws.{promised-few}

@@ -9,26 +9,24 @@ use lib.ListN.{length, take, drop, length-append}
 use lib.Seq.{drop-at, length-take-le}
 use borrow.Author.Tests.{ltb-false, leb-true, leb-false, lt-ltb, le-ltb, not-false}
 use Rattle.integers.proofs.Logic.{and-left, and-right}
-use Rattle.grid.specs.Ladder.{Rung, first-of}
-use Rattle.grid.specs.Rows.{front}
-use Rattle.grid.proofs.LadderLaws.{First, first-is, cleared, clear, stopped, onward}
-use Rattle.grid.proofs.LadderLaws.First.{here, past, foot}
-use Rattle.buffer.specs.Rows.{placed}
-use Rattle.buffer.specs.Refusals.{room}
-use Rattle.buffer.proofs.RowLaws.{placed-front}
-use Rattle.buffer.proofs.PlacedLaws.{placed-long}
+use Rattle.replies.specs.Ladder.{Rung, first-of, room}
+use Rattle.rows.specs.Rows.{front, placed}
+use Rattle.replies.proofs.LadderLaws.{First, first-is, cleared, clear, stopped, onward}
+use Rattle.replies.proofs.LadderLaws.First.{here, past, foot}
+use Rattle.rows.proofs.RowLaws.{placed-front}
+use Rattle.rows.proofs.PlacedLaws.{placed-long}
 use Rattle.setfile.specs.Format.{Come, file, come}
-use Rattle.setfile.specs.Inside.{Bytes, pair, arrived, two, coded-contours, coded}
-use Rattle.setfile.specs.InsideReading.{head-refusals}
-use Rattle.setfile.specs.InsideWriting.{Put, Room}
+use Rattle.setfile.specs.inside.Bytes.{Bytes, pair, arrived, two, coded-contours, coded}
+use Rattle.setfile.specs.inside.Reading.{head-refusals}
+use Rattle.setfile.specs.inside.Writing.{Put, Room}
 use Rattle.setfile.specs.Reading.{long}
 use Rattle.setfile.proofs.FaultLaws.{head-long}
 use Rattle.setfile.proofs.ByteLaws.{dropped, head-by-bytes, promised-by-bytes, come-by-bytes}
 use Rattle.salvage.specs.declared.answer.Salvaged.{Salvaged}
 use Rattle.salvage.specs.Fates as F
 use Rattle.salvage.specs.Outcome as O
-use Rattle.salvage.specs.Outcome.{Left, left, salvaged, mended, kept-of, dropped-of, answered, outcome}
-use Rattle.salvage.specs.Inside.{refusals, none-sifted, Roomy, ended, ending}
+use Rattle.salvage.specs.Outcome.{Outcome, leaving, salvaged, mended, kept-of, dropped-of, answered, outcome}
+use Rattle.salvage.specs.inside.Sifting.{refusals, none-sifted, Roomy, ended, ending}
 use Rattle.salvage.proofs.FileLaws.{the-counts, mended-is, kept-within}
 
 -- a row that lacks room, as the code asks
@@ -80,11 +78,11 @@ module _ (f : List ℕ) (h : Bytes f) (out : List ℕ) (list : List (List ℕ)) 
           let l = ltb-false (length f) 2 e in
           ap₂ (λ (a : List Rung) (k : ℕ). first-of (long (length f) ++ a ++ room (leb (length f) (length out) && leb k (length list)))) (sym (head-by-bytes f h l)) (sym (promised-by-bytes f h l))
 
-  pub mend-refused : (r : ℕ) → r ≡ first-of (refusals f (length out) (length list)) → (r ≡ 0 → ⊥) → {s : Salvaged} → s ≡ salvaged r 0 0 0 0 → left s out list ≡ outcome f out list
+  pub mend-refused : (r : ℕ) → r ≡ first-of (refusals f (length out) (length list)) → (r ≡ 0 → ⊥) → {s : Salvaged} → s ≡ salvaged r 0 0 0 0 → leaving s out list ≡ outcome f out list
   unfolding outcome
-  mend-refused r e z {s} g = ap (λ (s : Salvaged). left s out list) g ∙ go r z ∙ ap (λ (k : ℕ). answered k f out list) (e ∙ refusals-by-bytes)
+  mend-refused r e z {s} g = ap (λ (s : Salvaged). leaving s out list) g ∙ go r z ∙ ap (λ (k : ℕ). answered k f out list) (e ∙ refusals-by-bytes)
     where
-      go : (r : ℕ) → (r ≡ 0 → ⊥) → left (salvaged r 0 0 0 0) out list ≡ answered r f out list
+      go : (r : ℕ) → (r ≡ 0 → ⊥) → leaving (salvaged r 0 0 0 0) out list ≡ answered r f out list
       go zero z = absurd (z refl)
       go (suc r) z = refl
 
@@ -103,8 +101,8 @@ placed-before a b row h =
 same-salvaged : {a b c d k l m n : ℕ} → a ≡ b → c ≡ d → k ≡ l → m ≡ n → salvaged 0 a c k m ≡ salvaged 0 b d l n
 same-salvaged p q r s = cc
 
-same-left : {r s : Salvaged} {x y : List ℕ} {u v : List (List ℕ)} → r ≡ s → x ≡ y → u ≡ v → left r x u ≡ left s y v
-same-left p q w = cc
+same-outcome : {r s : Salvaged} {x y : List ℕ} {u v : List (List ℕ)} → r ≡ s → x ≡ y → u ≡ v → leaving r x u ≡ leaving s y v
+same-outcome p q w = cc
 
 -- a file that is not refused
 module _ (f : List ℕ) (h : Bytes f) (out : List ℕ) (list : List (List ℕ)) (z : first-of (refusals f (length out) (length list)) ≡ 0) (n : ℕ) (e : n ≡ pair f % 4096) where
@@ -135,16 +133,16 @@ module _ (f : List ℕ) (h : Bytes f) (out : List ℕ) (list : List (List ℕ)) 
   fits = omega (arith, kept-within f h headed, roomy .out-room)
 
   -- what the pass has left
-  module _ {r : Salvaged} {mid : List ℕ} {list′ : List (List ℕ)} (p : left r mid list′ ≡ ending n 0 none-sifted f out list) where
-    by-bits : left r mid list′ ≡ left (salvaged 0 (2 + length body) (0 + length (dropped-of f)) (come f .missing) (come f .past / 8)) (placed 2 body out) (placed 0 (dropped-of f) list)
+  module _ {r : Salvaged} {mid : List ℕ} {list′ : List (List ℕ)} (p : leaving r mid list′ ≡ ending n 0 none-sifted f out list) where
+    by-bits : leaving r mid list′ ≡ leaving (salvaged 0 (2 + length body) (0 + length (dropped-of f)) (come f .missing) (come f .past / 8)) (placed 2 body out) (placed 0 (dropped-of f) list)
     unfolding body
     by-bits = p ∙ ap (λ (c : Come). ended c 0 none-sifted out list) (ap (λ (k : ℕ). arrived k (drop 2 f)) e ∙ sym (come-by-bytes f h headed))
 
     answer-is : r ≡ salvaged 0 (2 + length body) (0 + length (dropped-of f)) (come f .missing) (come f .past / 8)
-    answer-is = ap (λ (o : Left). o .answer) by-bits
+    answer-is = ap (λ (o : Outcome). o .answer) by-bits
 
     mid-is : mid ≡ placed 2 body out
-    mid-is = ap (λ (o : Left). o .bytes) by-bits
+    mid-is = ap (λ (o : Outcome). o .bytes) by-bits
 
     missing-is : r .missing ≡ come f .missing
     missing-is = ap (λ (s : Salvaged). s .missing) answer-is
@@ -164,14 +162,14 @@ module _ (f : List ℕ) (h : Bytes f) (out : List ℕ) (list : List (List ℕ)) 
     pub head-room : Room 0 (two (4096 + (n - r .missing - r .dropped))) mid
     head-room = omega (arith, ap length mid-is ∙ placed-long out 2 body fits, fits)
 
-    pub mend-done : {b : ℕ} {out′ : List ℕ} → Put 0 (two (4096 + (n - r .missing - r .dropped))) mid b out′ → left r out′ list′ ≡ outcome f out list
+    pub mend-done : {b : ℕ} {out′ : List ℕ} → Put 0 (two (4096 + (n - r .missing - r .dropped))) mid b out′ → leaving r out′ list′ ≡ outcome f out list
     unfolding outcome body
     mend-done {b} {out′} u =
         let o : out′ ≡ front (mended f) out =
         u .is ∙ ap₂ (λ (k : ℕ) (l : List ℕ). placed 0 (two (4096 + k)) l) kept-is mid-is
         ∙ placed-before (two (4096 + length (kept-of f))) body out fits ∙ placed-front out (coded (kept-of f)) ∙ ap (λ (l : List ℕ). front l out) (sym (mended-is f h headed)) in
-        same-left
+        same-outcome
         (answer-is ∙ same-salvaged (sym (ap length (mended-is f h headed) ∙ omega arith)) (omega arith) refl refl)
         o
-        (ap (λ (o : Left). o .list) by-bits ∙ placed-front list (dropped-of f))
+        (ap (λ (o : Outcome). o .list) by-bits ∙ placed-front list (dropped-of f))
         ∙ ap (λ (k : ℕ). answered k f out list) (sym z ∙ refusals-by-bytes f h out list)

@@ -4,7 +4,7 @@ use mathlib.Core.Bool.{Bool, true, false, not, _||_}
 use mathlib.Core.List.{List, [], _∷_}
 use lib.IntN.{ℤ}
 use Rattle.grid.specs.Limits.{all-on-grid}
-use Rattle.grid.specs.Ladder.{first-of}
+use Rattle.replies.specs.Ladder.{first-of}
 use Rattle.setfile.specs.Format.{Entry, Gathered, gather, gathered, shapes-of}
 use Rattle.salvage.specs.Fates.{reason, open-behind, fates, keep, kept}
 use Rattle.salvage.specs.Promises.{if-so, sound-contours, sound-shapes}

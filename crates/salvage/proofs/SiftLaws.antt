@@ -10,19 +10,19 @@ use lib.ListN.{length, take, drop, set, length-append, length-drop, length-set}
 use lib.Seq.{drop-drop, length-take-le}
 use borrow.Author.Tests.{leb-true, le-leb, lt-leb}
 use Rattle.grid.specs.Limits.{all-on-grid}
-use Rattle.grid.specs.Ladder.{first-of}
-use Rattle.buffer.specs.Rows.{placed}
+use Rattle.replies.specs.Ladder.{first-of}
+use Rattle.rows.specs.Rows.{placed}
 use Rattle.buffer.specs.Sets.{joined}
-use Rattle.buffer.proofs.PlacedLaws.{placed-none, placed-long, placed-behind, set-placed}
+use Rattle.rows.proofs.PlacedLaws.{placed-none, placed-long, placed-behind, set-placed}
 use Rattle.setfile.specs.Format.{Entry, Come, come-next}
-use Rattle.setfile.specs.Inside.{Bytes, places, starts, held, front-entry, all-there, arrived, coded-contour, coded-contours}
+use Rattle.setfile.specs.inside.Bytes.{Bytes, decoded, starts, held, front-entry, all-there, arrived, coded-contour, coded-contours}
 use Rattle.setfile.proofs.ByteLaws.{dropped}
 use Rattle.setfile.proofs.RoundTrip.{contour-read}
-use Rattle.salvage.specs.declared.sifting.Sifted.{Sifted}
+use Rattle.salvage.specs.declared.inner.sifting.Sifted.{Sifted}
 use Rattle.salvage.specs.Fates.{reason, open-behind, fates, keep, kept, note}
 use Rattle.salvage.specs.Fates as F
-use Rattle.salvage.specs.Outcome.{Left, left, salvaged}
-use Rattle.salvage.specs.Inside.{size, none-sifted, sifted, copied, noted, Ready, Sifts, Roomy, ended, ending}
+use Rattle.salvage.specs.Outcome.{Outcome, leaving, salvaged}
+use Rattle.salvage.specs.inside.Sifting.{size, none-sifted, sifted, copied, noted, Ready, Sifts, Roomy, ended, ending}
 
 -- whether the contour at a position is complete, as the code asks
 module _ (f : List ℕ) (at : ℕ) where
@@ -33,13 +33,13 @@ module _ (f : List ℕ) (at : ℕ) where
   there n e = ap₂ (λ (k m : ℕ). leb (2 + 8 * k) m) e (sym (length-drop at f))
 
 -- the reason, by what the code has found
-pub reason-is : (f : List ℕ) (at h : ℕ) (on b keeping : Bool) (w : ℕ) → h ≡ held (drop at f) → b ≡ starts (drop at f) → on ≡ all-on-grid (places (2 * h) (drop (at + 2) f))
+pub reason-is : (f : List ℕ) (at h : ℕ) (on b keeping : Bool) (w : ℕ) → h ≡ held (drop at f) → b ≡ starts (drop at f) → on ≡ all-on-grid (decoded (2 * h) (drop (at + 2) f))
     → w ≡ first-of ((not on, 3) ∷ (not (b || keeping), 11) ∷ []) → w ≡ reason keeping (front-entry (drop at f))
 unfolding reason
 reason-is f at h on b keeping w p q o e =
     e
     ∙ ap₂ (λ (x y : Bool). first-of ((not x, 3) ∷ (not (y || keeping), 11) ∷ []))
-    (o ∙ ap₂ (λ (k : ℕ) (g : List ℕ). all-on-grid (places (2 * k) g)) p (sym (drop-drop 2 at f))) q
+    (o ∙ ap₂ (λ (k : ℕ) (g : List ℕ). all-on-grid (decoded (2 * k) g)) p (sym (drop-drop 2 at f))) q
 
 -- a contour is kept or noted, as the code does it
 module _ (f : List ℕ) (s : Sifted) (i : ℕ) (out : List ℕ) (list : List (List ℕ)) where
@@ -92,15 +92,15 @@ open-dropped true true k r e = absurd (omega arith)
 open-dropped true false true r e = absurd (omega arith)
 open-dropped true false false r e = refl
 
-same-left : {a b c d k l m n : ℕ} {x y : List ℕ} {u v : List (List ℕ)} → a ≡ b → c ≡ d → k ≡ l → m ≡ n → x ≡ y → u ≡ v
-    → left (salvaged 0 a c k m) x u ≡ left (salvaged 0 b d l n) y v
-same-left p q r s t w = cc
+same-outcome : {a b c d k l m n : ℕ} {x y : List ℕ} {u v : List (List ℕ)} → a ≡ b → c ≡ d → k ≡ l → m ≡ n → x ≡ y → u ≡ v
+    → leaving (salvaged 0 a c k m) x u ≡ leaving (salvaged 0 b d l n) y v
+same-outcome p q r s t w = cc
 
 -- one contour in front of others
 module _ (c : Come) (e : Entry) (k i : ℕ) (s : Sifted) (out : List ℕ) (list : List (List ℕ)) where
-  behind : Bool → ℕ → Left
+  behind : Bool → ℕ → Outcome
   behind b w =
-      left
+      leaving
       (salvaged 0
       (s .to + length (coded-contours (keep w e (kept (fates b (c .contours)) (c .contours)))))
       (s .dropped + length (note i w (F.dropped (suc i) (fates b (c .contours)))))
@@ -143,7 +143,7 @@ module _ (f : List ℕ) (h : Bytes f) (k i : ℕ) (s : Sifted) (out : List ℕ) 
       let room : s .to + length (take (size here) here) ≤ length out = omega (arith, ready .out-room) in
       ap (λ (c : Come). ended c i s out list) whole
       ∙ ended-next found (front-entry here) k i s out list true 0 e (open-kept _ (starts here) (s .keeping) e)
-      ∙ same-left
+      ∙ same-outcome
       (ap (λ (l : List ℕ). s .to + length (l ++ rest)) part ∙ omega (arith, length-append (take (size here) here) rest))
       refl refl refl
       (ap (λ (l : List ℕ). placed (s .to) (l ++ rest) out) part
@@ -155,7 +155,7 @@ module _ (f : List ℕ) (h : Bytes f) (k i : ℕ) (s : Sifted) (out : List ℕ) 
       let row : List ℕ = i ∷ suc r ∷ [] in
       ap (λ (c : Come). ended c i s out list) whole
       ∙ ended-next found (front-entry here) k i s out list (s .keeping && not (starts here)) (suc r) e (open-dropped _ (starts here) (s .keeping) r e)
-      ∙ same-left refl (omega arith) refl refl refl
+      ∙ same-outcome refl (omega arith) refl refl refl
       (sym (ap (placed (s .dropped + 1) rest) (set-placed list (s .dropped) row (ready .list-room))
       ∙ placed-behind list (s .dropped) (row ∷ []) rest (s .dropped + 1) (omega (arith, ready .list-room)) (omega arith)))
       ∙ on (suc i) (s .to) (s .dropped + 1) (s .keeping && not (starts here)) out (set list (s .dropped) row)
@@ -235,11 +235,11 @@ module _ {f : List ℕ} {n : ℕ} {out₀ : List ℕ} {list₀ : List (List ℕ)
         }
 
   -- none is left, or the next is not complete
-  nothing-more : (m p : ℕ) → left (salvaged 0 (s .to) (s .dropped) m p) out list ≡ ended (record { contours = []; missing = m; past = p }) i s out list
+  nothing-more : (m p : ℕ) → leaving (salvaged 0 (s .to) (s .dropped) m p) out list ≡ ended (record { contours = []; missing = m; past = p }) i s out list
   unfolding fates kept F.dropped joined
-  nothing-more m p = same-left (omega arith) (omega arith) refl refl (sym (placed-none out (s .to))) (sym (placed-none list (s .dropped)))
+  nothing-more m p = same-outcome (omega arith) (omega arith) refl refl (sym (placed-none out (s .to))) (sym (placed-none list (s .dropped)))
 
-  pub stopped : i < n → false ≡ all-there (drop (s .at) f) → left (salvaged 0 (s .to) (s .dropped) (n - i) 0) out list ≡ ending n 0 none-sifted f out₀ list₀
+  pub stopped : i < n → false ≡ all-there (drop (s .at) f) → leaving (salvaged 0 (s .to) (s .dropped) (n - i) 0) out list ≡ ending n 0 none-sifted f out₀ list₀
   unfolding arrived
   stopped l t =
       let e : n - i ≡ suc (n - (i + 1)) = omega arith in
@@ -248,7 +248,7 @@ module _ {f : List ℕ} {n : ℕ} {out₀ : List ℕ} {list₀ : List (List ℕ)
       ∙ ap (λ (b : Bool). ended (come-next b (front-entry (drop (s .at) f)) (n - (i + 1)) (arrived (n - (i + 1)) (drop (size (drop (s .at) f)) (drop (s .at) f)))) i s out list) t
       ∙ ap (λ (k : ℕ). ending k i s f out list) (sym e) ∙ x .is
 
-  pub finished : n ≤ i → left (salvaged 0 (s .to) (s .dropped) 0 (length f - s .at)) out list ≡ ending n 0 none-sifted f out₀ list₀
+  pub finished : n ≤ i → leaving (salvaged 0 (s .to) (s .dropped) 0 (length f - s .at)) out list ≡ ending n 0 none-sifted f out₀ list₀
   unfolding arrived
   finished l =
       let e : n - i ≡ 0 = omega (arith, x .high) in

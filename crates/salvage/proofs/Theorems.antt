@@ -10,14 +10,14 @@ use lib.Seq.{take-at, getD-take}
 use borrow.Author.Tests.{ltb-false, le-ltb, le-leb, not-false}
 use Rattle.integers.proofs.Logic.{and-left, and-right}
 use Rattle.grid.specs.Limits.{all-on-grid}
-use Rattle.grid.specs.Ladder.{first-of}
-use Rattle.grid.specs.Rows.{front}
-use Rattle.grid.proofs.LadderLaws.{Clear, clear, first-is}
-use Rattle.grid.proofs.LadderLaws.First.{past, foot}
+use Rattle.replies.specs.Ladder.{first-of}
+use Rattle.rows.specs.Rows.{front}
+use Rattle.replies.proofs.LadderLaws.{Clear, clear, first-is}
+use Rattle.replies.proofs.LadderLaws.First.{past, foot}
 use Rattle.buffer.specs.Sets.{joined}
 use Rattle.setfile.specs.Format.{Entry, contours-of, shapes-of, file, bad-head, promised, come, parsed, damage, read-contours}
 use Rattle.setfile.specs.Format.Parsed.{carries}
-use Rattle.setfile.specs.Inside.{Bytes, pair, head-faults, coded-contour, coded}
+use Rattle.setfile.specs.inside.Bytes.{Bytes, pair, head-faults, coded-contour, coded}
 use Rattle.setfile.specs.Reading as R
 use Rattle.setfile.specs.Promises.{Started}
 use Rattle.setfile.proofs.JudgeLaws.{all-on-append}
@@ -25,7 +25,7 @@ use Rattle.setfile.proofs.ByteLaws.{coded-bytes, head-by-bytes, promised-by-byt
 use Rattle.setfile.proofs.RoundTrip.{come-matched, Whole, read-whole, read-carried, read-back, written-back}
 use Rattle.setfile.proofs.Theorems.{right, whole}
 use Rattle.salvage.specs.Fates.{reason, open-behind, fates, keep, kept, note, dropped}
-use Rattle.salvage.specs.Outcome.{fates-of, kept-of, dropped-of, mended, refusals, Left, left, salvaged, answered, outcome}
+use Rattle.salvage.specs.Outcome.{fates-of, kept-of, dropped-of, mended, refusals, Outcome, leaving, salvaged, answered, outcome}
 use Rattle.salvage.specs.Promises.{written-file, written-list, Parted, SameBytes, sound-shapes, as-long, length-of, all-within}
 use Rattle.salvage.specs.Promises.Parted.{all-parted, one-kept, one-dropped}
 use Rattle.salvage.proofs.FileLaws.{the-counts, kept-carried, kept-on, mended-is, kept-within}
@@ -89,7 +89,7 @@ sound-kept b (e ∷ l) s h =
 
 -- what is answered, by what is known of the file
 answered-so : (f out : List ℕ) (list : List (List ℕ)) {m : List ℕ} {d : List (List ℕ)} {a b : ℕ} → mended f ≡ m → dropped-of f ≡ d → come f .missing ≡ a → come f .past / 8 ≡ b
-    → answered 0 f out list ≡ left (salvaged 0 (length m) (length d) a b) (front m out) (front d list)
+    → answered 0 f out list ≡ leaving (salvaged 0 (length m) (length d) a b) (front m out) (front d list)
 answered-so f out list p q r s = cc
 
 room-enough : (a b c d : ℕ) → a ≤ b → c ≤ d → not (leb a b && leb c d) ≡ false
@@ -135,7 +135,7 @@ module _ (f : List ℕ) (h : Bytes f) (ok : first-of (R.refusals f) ≡ 0) where
   each-kept = sound-kept false read (λ z. read-carried f h read (whole f h ok) .started) (not-false _ (right f h ok .1 .1 .0))
 
   pub a-sound-file-comes-back-byte-for-byte : (out : List ℕ) (list : List (List ℕ)) → length f ≤ length out → promised f ≤ length list
-      → outcome f out list ≡ left (salvaged 0 (length f) 0 0 0) (front f out) list
+      → outcome f out list ≡ leaving (salvaged 0 (length f) 0 0 0) (front f out) list
   a-sound-file-comes-back-byte-for-byte out list p q =
       let e : come f .contours ≡ read = sym (taken .is) in
       not-refused f out list (le-ltb R.most-bytes (length f) short, (head-clear .0, (head-clear .1 .0, (room-enough (length f) (length out) (promised f) (length list) p q, tt))))
@@ -145,26 +145,26 @@ module _ (f : List ℕ) (h : Bytes f) (ok : first-of (R.refusals f) ≡ 0) where
       (taken .none-missing) (omega (arith, taken .none-past))
 
 -- a call that is not refused
-module _ (f : List ℕ) (h : Bytes f) (out : List ℕ) (list : List (List ℕ)) (o : Left) (e : o ≡ outcome f out list) (done : o .answer .reply ≡ 0) where
+module _ (f : List ℕ) (h : Bytes f) (out : List ℕ) (list : List (List ℕ)) (o : Outcome) (e : o ≡ outcome f out list) (done : o .answer .reply ≡ 0) where
   pass : Clear (refusals f out list)
   unfolding outcome
   pass = go (first-of (refusals f out list)) refl e
     where
       go : (r : ℕ) → first-of (refusals f out list) ≡ r → o ≡ answered r f out list → Clear (refusals f out list)
       go zero z g = clear (refusals f out list) tt z
-      go (suc r) z g = let n : suc r ≡ 0 = ap (λ (o : Left). o .answer .reply) (sym g) ∙ done in absurd (omega arith)
+      go (suc r) z g = let n : suc r ≡ 0 = ap (λ (o : Outcome). o .answer .reply) (sym g) ∙ done in absurd (omega arith)
 
-  left-so : o ≡ answered 0 f out list
-  left-so = e ∙ not-refused f out list pass
+  outcome-is : o ≡ answered 0 f out list
+  outcome-is = e ∙ not-refused f out list pass
 
   with-head : 2 ≤ length f
   with-head = ltb-false (length f) 2 (pass .1 .0)
 
   file-is : written-file o ≡ mended f
-  file-is = ap written-file left-so ∙ take-at (mended f) (drop (length (mended f)) out) (length (mended f)) refl
+  file-is = ap written-file outcome-is ∙ take-at (mended f) (drop (length (mended f)) out) (length (mended f)) refl
 
   list-is : written-list o ≡ dropped-of f
-  list-is = ap written-list left-so ∙ take-at (dropped-of f) (drop (length (dropped-of f)) list) (length (dropped-of f)) refl
+  list-is = ap written-list outcome-is ∙ take-at (dropped-of f) (drop (length (dropped-of f)) list) (length (dropped-of f)) refl
 
   reads : parsed (written-file o) ≡ carries (kept-of f)
   reads = ap parsed file-is ∙ read-back (kept-of f) (kept-carried f h with-head)
@@ -189,7 +189,7 @@ module _ (f : List ℕ) (h : Bytes f) (out : List ℕ) (list : List (List ℕ)) 
   every-contour-is-kept-or-dropped-once-and-in-order = rw (kept-is, list-is) (parted false 0 (come f .contours))
 
   pub kept-dropped-and-missing-are-as-many-as-promised : length (read-contours (parsed (written-file o))) + o .answer .dropped + o .answer .missing ≡ promised f
-  kept-dropped-and-missing-are-as-many-as-promised = rw (kept-is, left-so) (the-counts f h with-head)
+  kept-dropped-and-missing-are-as-many-as-promised = rw (kept-is, outcome-is) (the-counts f h with-head)
 
   pub every-kept-contour-has-the-bytes-it-had : SameBytes f o
   every-kept-contour-has-the-bytes-it-had =
@@ -213,7 +213,7 @@ module _ (f : List ℕ) (h : Bytes f) (out : List ℕ) (list : List (List ℕ)) 
       (no-longer, omega (arith, n, t .none-missing, ap length (t .is), the-counts f h with-head))
 
   pub salvaging-what-was-salvaged-changes-nothing : (out′ : List ℕ) (list′ : List (List ℕ)) → length (written-file o) ≤ length out′ → promised (written-file o) ≤ length list′
-      → outcome (written-file o) out′ list′ ≡ left (salvaged 0 (length (written-file o)) 0 0 0) (front (written-file o) out′) list′
+      → outcome (written-file o) out′ list′ ≡ leaving (salvaged 0 (length (written-file o)) 0 0 0) (front (written-file o) out′) list′
   salvaging-what-was-salvaged-changes-nothing = a-sound-file-comes-back-byte-for-byte (written-file o) bytes-written what-is-written-is-always-taken-by-the-reader
 
 -- a file that is cut off behind its head
@@ -242,7 +242,7 @@ module _ (f : List ℕ) (h : Bytes f) (ok : first-of (R.refusals f) ≡ 0) (n : 
   there = all-within (n - 2) (read f h ok)
 
   pub a-sound-file-that-is-cut-off-loses-no-other-contour : (out : List ℕ) (list : List (List ℕ)) → length f ≤ length out → promised f ≤ length list
-      → outcome (take n f) out list ≡ left (salvaged 0 (length (file there)) 0 (length (read f h ok) - length there) 0) (front (file there) out) list
+      → outcome (take n f) out list ≡ leaving (salvaged 0 (length (file there)) 0 (length (read f h ok) - length there) 0) (front (file there) out) list
   a-sound-file-that-is-cut-off-loses-no-other-contour out list p q =
       let x = headed f h ok in
       let t = taken f h ok in

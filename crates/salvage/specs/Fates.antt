@@ -3,7 +3,7 @@ use mathlib.Core.Bool.{Bool, true, false, not, _||_}
 use mathlib.Core.List.{List, [], _∷_}
 use Prim.Native.Nat.{ℕ, zero, suc}
 use Rattle.grid.specs.Limits.{all-on-grid}
-use Rattle.grid.specs.Ladder.{first-of}
+use Rattle.replies.specs.Ladder.{first-of}
 use Rattle.setfile.specs.Format.{Entry}
 
 -- why a contour is dropped: 3 a place off the grid, 11 no shape, since it begins none and the one that it belongs to is not kept; 0 where it is kept

@@ -1,4 +1,4 @@
 pub mod Fates
 pub mod Outcome
-pub mod Inside
+pub mod inside
 pub mod Promises

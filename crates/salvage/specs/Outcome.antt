@@ -4,9 +4,8 @@ use mathlib.Core.List.{List, _++_}
 use Prim.Native.Nat.{ℕ, zero, suc, _/_}
 use lib.Dec.{leb}
 use lib.ListN.{length}
-use Rattle.grid.specs.Ladder.{Rung, first-of}
-use Rattle.grid.specs.Rows.{front}
-use Rattle.buffer.specs.Refusals.{room}
+use Rattle.replies.specs.Ladder.{Rung, first-of, room}
+use Rattle.rows.specs.Rows.{front}
 use Rattle.setfile.specs.Format.{Entry, file, bad-head, promised, come}
 use Rattle.setfile.specs.Reading.{long}
 use Rattle.salvage.specs.declared.answer.Salvaged.{Salvaged}
@@ -33,25 +32,25 @@ abbrev pub refusals : List ℕ → List ℕ → List (List ℕ) → List Rung
 refusals f out list = long (length f) ++ bad-head f ++ room (leb (length f) (length out) && leb (promised f) (length list))
 
 -- the answer, and the rows as they are left
-pub record Left : Type 0 where
+pub record Outcome : Type 0 where
   pub answer : Salvaged
   pub bytes : List ℕ
   pub list : List (List ℕ)
 
-abbrev pub left : Salvaged → List ℕ → List (List ℕ) → Left
-left r bytes list = record { answer = r; bytes = bytes; list = list }
+abbrev pub leaving : Salvaged → List ℕ → List (List ℕ) → Outcome
+leaving r bytes list = record { answer = r; bytes = bytes; list = list }
 
 abbrev pub salvaged : ℕ → ℕ → ℕ → ℕ → ℕ → Salvaged
 salvaged reply bytes dropped missing past = record { reply = reply; bytes = bytes; dropped = dropped; missing = missing; past = past }
 
 -- by the number of the first refusal: refused, and the rows as they were, or the mended file and the list in front of them
-abbrev pub answered : ℕ → List ℕ → List ℕ → List (List ℕ) → Left
-answered (suc r) f out list = left (salvaged (suc r) 0 0 0 0) out list
+abbrev pub answered : ℕ → List ℕ → List ℕ → List (List ℕ) → Outcome
+answered (suc r) f out list = leaving (salvaged (suc r) 0 0 0 0) out list
 answered zero f out list =
-    left
+    leaving
     (salvaged 0 (length (mended f)) (length (dropped-of f)) (come f .missing) (come f .past / 8))
     (front (mended f) out) (front (dropped-of f) list)
 
 -- a file is refused, or what is sound of it is written
-unfoldable pub outcome : List ℕ → List ℕ → List (List ℕ) → Left
+unfoldable pub outcome : List ℕ → List ℕ → List (List ℕ) → Outcome
 outcome f out list = answered (first-of (refusals f out list)) f out list

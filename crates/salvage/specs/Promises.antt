@@ -10,16 +10,16 @@ use Rattle.grid.specs.Limits.{all-on-grid}
 use Rattle.grid.specs.Domain.{count}
 use Rattle.buffer.specs.Sets.{joined}
 use Rattle.setfile.specs.Format.{Entry, come}
-use Rattle.setfile.specs.Inside.{coded-contour}
+use Rattle.setfile.specs.inside.Bytes.{coded-contour}
 use Rattle.salvage.specs.Fates.{kept}
-use Rattle.salvage.specs.Outcome.{fates-of, Left}
+use Rattle.salvage.specs.Outcome.{fates-of, Outcome}
 
 -- the file that was written, as far as the answer counts it
-abbrev pub written-file : Left → List ℕ
+abbrev pub written-file : Outcome → List ℕ
 written-file o = take (o .answer .bytes) (o .bytes)
 
 -- the list that was written, as far as the answer counts it
-abbrev pub written-list : Left → List (List ℕ)
+abbrev pub written-list : Outcome → List (List ℕ)
 written-list o = take (o .answer .dropped) (o .list)
 
 -- contours, of which the first has number k, are parted in their order: each is kept, or dropped by its number
@@ -33,7 +33,7 @@ abbrev pub bytes-of : List ℕ → List (List ℕ)
 bytes-of f = map coded-contour (come f .contours)
 
 -- they stand behind the head of the damaged file, and of the written one those that are kept
-pub record SameBytes (f : List ℕ) (o : Left) : Type 0 where
+pub record SameBytes (f : List ℕ) (o : Outcome) : Type 0 where
   pub rest : List ℕ
   pub before : drop 2 f ≡ joined (bytes-of f) ++ rest
   pub after : drop 2 (written-file o) ≡ joined (kept (fates-of f) (bytes-of f))

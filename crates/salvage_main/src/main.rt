@@ -13,7 +13,7 @@ fn main() {
     let mut out = [0u8; BYTES];
     let mut text = [0u8; TEXT];
     let n = io::read_full(STDIN_FILENO, &mut bytes);
-    let lengths = account::mend(&bytes[..n], &mut out, &mut text);
+    let lengths = account::inner::mending::mend(&bytes[..n], &mut out, &mut text);
     let mended = lengths.bytes;
     let words = lengths.text;
     io::write_all(STDOUT_FILENO, &out[..mended]);

@@ -4,8 +4,8 @@ use mathlib.Core.List.{List, [], _∷_, _++_}
 use Prim.Native.Nat.{ℕ, _+_, _≤_, _<_}
 use native.Mathlib.Omega.{arith}
 use lib.ListN.{length, set, length-append}
-use Rattle.buffer.specs.Rows.{placed}
-use Rattle.buffer.proofs.PlacedLaws.{placed-none, placed-long, placed-behind, set-placed}
+use Rattle.rows.specs.Rows.{placed}
+use Rattle.rows.proofs.PlacedLaws.{placed-none, placed-long, placed-behind, set-placed}
 
 -- with l from position at on the row, which is as long as at first, becomes the one that is wanted
 pub record Ahead {A : Type 0} (row₀ wanted : List A) (at : ℕ) (l row : List A) : Type 0 where

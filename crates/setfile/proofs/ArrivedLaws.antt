@@ -7,12 +7,12 @@ use native.Mathlib.Omega.{arith}
 use lib.Dec.{eqb, ltb, eqb·suc-zero}
 use lib.ListN.{length, drop}
 use borrow.Author.Tests.{lt-ltb, le-ltb, leb-true, leb-false}
-use Rattle.grid.specs.Ladder.{first-of}
-use Rattle.grid.proofs.LadderLaws.{first-is}
-use Rattle.grid.proofs.LadderLaws.First.{here, past, foot}
+use Rattle.replies.specs.Ladder.{first-of}
+use Rattle.replies.proofs.LadderLaws.{first-is}
+use Rattle.replies.proofs.LadderLaws.First.{here, past, foot}
 use Rattle.setfile.specs.Format.{Entry, Parsed, Come, come-next, unless}
 use Rattle.setfile.specs.Format.Parsed.{carries, damaged}
-use Rattle.setfile.specs.Inside.{starts, held, front-entry, fault, and-then, walk, all-there, arrived}
+use Rattle.setfile.specs.inside.Bytes.{starts, held, front-entry, fault, and-then, walk, all-there, arrived}
 
 -- the contours that have come, if none is missing and nothing is left over
 abbrev pub wants-all : Come → Parsed

@@ -12,7 +12,7 @@ use lib.Seq.{take-append-add, drop-append-add, take-nil, drop-nil, take-at, drop
 use lib.Pow.{pow-add, high, low, mod-pow-add}
 use mir.Val.{boolByte}
 use Rattle.setfile.specs.Bits.{digit, value, field, bits, bytes}
-use Rattle.setfile.specs.Inside.{Bytes}
+use Rattle.setfile.specs.inside.Bytes.{Bytes}
 
 -- a truth value in the code's byte is its bit
 pub byte-digit : (b : Bool) → boolByte b ≡ digit b

@@ -13,15 +13,15 @@ use lib.IntN.{ℤ}
 use mir.Syntax.{w32}
 use mir.Val.{toZ, ofZ}
 use borrow.Author.Tests.{ltb-true, ltb-false, lt-ltb, le-ltb, leb-true, leb-false, le-leb, lt-leb, eq-eqb, ne-eqb}
-use Rattle.grid.specs.Ladder.{first-of}
+use Rattle.replies.specs.Ladder.{first-of}
 use Rattle.grid.specs.Domain.{count}
 use Rattle.buffer.specs.Spans.{total}
 use Rattle.buffer.specs.Sets.{joined, Even}
-use Rattle.grid.proofs.LadderLaws.{clear}
+use Rattle.replies.proofs.LadderLaws.{clear}
 use Rattle.setfile.specs.Bits.{digit, value, field, bits}
 use Rattle.setfile.specs.Format.{Entry, entry, Parsed, coordinates, begins, points-in, contour-in, is-complete, Come, come-next, complete, unless, contours-in, bad-head, head-damage, promised, come, parsed, contours-of, coordinate, contour-bits, file-bits, file-length, file}
 use Rattle.setfile.specs.Format.Parsed.{damaged}
-use Rattle.setfile.specs.Inside.{Bytes, pair, quad, places, starts, held, walk, head-faults, head-fault, walked, two, four, coded-places, coded-contour, coded-contours, coded, front-entry, all-there, arrived}
+use Rattle.setfile.specs.inside.Bytes.{Bytes, pair, quad, decoded, starts, held, walk, head-faults, head-fault, walked, two, four, coded-coordinates, coded-contour, coded-contours, coded, front-entry, all-there, arrived}
 use Rattle.setfile.specs.Writing.{most-points}
 use Rattle.setfile.specs.Promises.{Short, Small}
 use Rattle.setfile.proofs.ReadLaws.{walk-ends}
@@ -115,13 +115,13 @@ complete-there f h = go (leb 2 (length f)) refl
         (leb-eight (2 + 8 * held f) (length f) (16 + 64 * held f) (length (bits f)) (omega arith) (bits-length f))
     go false g = rw (header, g) (sym (lt-leb (2 + 8 * held f) (length f) (omega (arith, leb-false 2 (length f) g))))
 
-places-read : (k : ℕ) (f : List ℕ) → Bytes f → 4 * k ≤ length f → coordinates k (bits f) ≡ places k f
-unfolding coordinates places
-places-read zero f h e = refl
-places-read (suc k) f h e =
+decoded-read : (k : ℕ) (f : List ℕ) → Bytes f → 4 * k ≤ length f → coordinates k (bits f) ≡ decoded k f
+unfolding coordinates decoded
+decoded-read zero f h e = refl
+decoded-read (suc k) f h e =
     ap₂ (λ (z : ℤ) (l : List ℤ). z ∷ l)
     (ap (toZ w32) (quad-value f h (omega arith)))
-    (ap (coordinates k) (bits-dropped 4 f) ∙ places-read k (drop 4 f) (dropped 4 f h) (omega (arith, length-drop 4 f)))
+    (ap (coordinates k) (bits-dropped 4 f) ∙ decoded-read k (drop 4 f) (dropped 4 f h) (omega (arith, length-drop 4 f)))
 
 -- what is read where nothing is wrong
 same-unless : (r : ℕ) (a b : Parsed) → (r ≡ 0 → a ≡ b) → _≡_ {A = Parsed} (elim r [ suc k ↦ damaged (suc k) | zero ↦ a ]) (elim r [ suc k ↦ damaged (suc k) | zero ↦ b ])
@@ -156,7 +156,7 @@ complete-by-bytes (suc k) f h =
     let n = leb-true (2 + 8 * held f) (length f) t in
     let e : 2 ≤ length f = omega arith in
     rw (begins-starts f h e, points-held f h e)
-    (ap (entry (starts f)) (ap (coordinates (2 * held f)) (bits-dropped 2 f) ∙ places-read (2 * held f) (drop 2 f) (dropped 2 f h) (omega (arith, length-drop 2 f)))))
+    (ap (entry (starts f)) (ap (coordinates (2 * held f)) (bits-dropped 2 f) ∙ decoded-read (2 * held f) (drop 2 f) (dropped 2 f h) (omega (arith, length-drop 2 f)))))
     (λ t.
     let n = leb-true (2 + 8 * held f) (length f) t in
     rw (points-held f h (omega arith))
@@ -249,32 +249,32 @@ four-is n =
     let e : n / 16777216 ≡ n / 65536 / 256 = omega arith in
     ap (λ (m : ℕ). m % 256 ∷ n / 65536 % 256 ∷ n / 256 % 256 ∷ n % 256 ∷ []) e
 
-places-bytes : (c : List ℤ) → Bytes (coded-places c)
+decoded-bytes : (c : List ℤ) → Bytes (coded-coordinates c)
 unfolding joined
-places-bytes [] = no-bytes
-places-bytes (z ∷ c) = both-bytes (four (ofZ w32 z)) (coded-places c) (four-bytes (ofZ w32 z)) (places-bytes c)
+decoded-bytes [] = no-bytes
+decoded-bytes (z ∷ c) = both-bytes (four (ofZ w32 z)) (coded-coordinates c) (four-bytes (ofZ w32 z)) (decoded-bytes c)
 
 contours-bytes : (l : List Entry) → Bytes (coded-contours l)
 unfolding joined
 contours-bytes [] = no-bytes
 contours-bytes (e ∷ l) =
     let n : ℕ = digit (e .begins) * 32768 + count (e .points) in
-    both-bytes (coded-contour e) (coded-contours l) (both-bytes (two n) (coded-places (e .points)) (two-bytes n) (places-bytes (e .points))) (contours-bytes l)
+    both-bytes (coded-contour e) (coded-contours l) (both-bytes (two n) (coded-coordinates (e .points)) (two-bytes n) (decoded-bytes (e .points))) (contours-bytes l)
 
 pub coded-bytes : (l : List Entry) → Bytes (coded l)
 coded-bytes l = both-bytes (two (4096 + length l)) (coded-contours l) (two-bytes (4096 + length l)) (contours-bytes l)
 
 -- and as many as the format says
-pub coded-places-length : (c : List ℤ) → length (coded-places c) ≡ 4 * length c
+pub coded-coordinates-length : (c : List ℤ) → length (coded-coordinates c) ≡ 4 * length c
 unfolding joined
-coded-places-length [] = refl
-coded-places-length (z ∷ c) = omega (arith, coded-places-length c)
+coded-coordinates-length [] = refl
+coded-coordinates-length (z ∷ c) = omega (arith, coded-coordinates-length c)
 
 contours-length : (l : List Entry) → Even (contours-of l) → length (coded-contours l) ≡ 2 * length l + 8 * total (map count (contours-of l))
 unfolding joined
 contours-length [] h = refl
 contours-length (e ∷ l) h =
-    length-append (coded-contour e) (coded-contours l) ∙ omega (arith, h .0, coded-places-length (e .points), contours-length l (h .1))
+    length-append (coded-contour e) (coded-contours l) ∙ omega (arith, h .0, coded-coordinates-length (e .points), contours-length l (h .1))
 
 pub coded-length : (l : List Entry) → Even (contours-of l) → length (coded l) ≡ file-length (length l) (total (map count (contours-of l)))
 coded-length l h = omega (arith, contours-length l h)
@@ -294,11 +294,11 @@ four-bits n =
     ap bits (four-is n) ∙ bits-append (two (n / 65536)) (two n)
     ∙ ap₂ (λ (a b : List Bool). a ++ b) (two-bits (n / 65536)) (two-bits n) ∙ field-append 16 16 n
 
-places-bits : (c : List ℤ) → bits (coded-places c) ≡ joined (map coordinate c)
+decoded-bits : (c : List ℤ) → bits (coded-coordinates c) ≡ joined (map coordinate c)
 unfolding joined bits
-places-bits [] = refl
-places-bits (z ∷ c) =
-    bits-append (four (ofZ w32 z)) (coded-places c) ∙ ap₂ (λ (a b : List Bool). a ++ b) (four-bits (ofZ w32 z)) (places-bits c)
+decoded-bits [] = refl
+decoded-bits (z ∷ c) =
+    bits-append (four (ofZ w32 z)) (coded-coordinates c) ∙ ap₂ (λ (a b : List Bool). a ++ b) (four-bits (ofZ w32 z)) (decoded-bits c)
 
 one-bit : (b : Bool) → field 1 (digit b) ≡ b ∷ []
 unfolding field
@@ -308,11 +308,11 @@ one-bit false = refl
 contour-bits-are : (e : Entry) → count (e .points) ≤ most-points → bits (coded-contour e) ≡ contour-bits e
 contour-bits-are e h =
     let n : ℕ = count (e .points) in
-    bits-append (two (digit (e .begins) * 32768 + n)) (coded-places (e .points))
+    bits-append (two (digit (e .begins) * 32768 + n)) (coded-coordinates (e .points))
     ∙ ap₂ (λ (a b : List Bool). a ++ b)
     (two-bits (digit (e .begins) * 32768 + n) ∙ sym (field-joined 1 15 (digit (e .begins)) n (omega arith))
     ∙ ap (λ (a : List Bool). a ++ field 15 n) (one-bit (e .begins)))
-    (places-bits (e .points))
+    (decoded-bits (e .points))
 
 contours-bits-are : (l : List Entry) → Short (contours-of l) → bits (coded-contours l) ≡ joined (map contour-bits l)
 unfolding joined bits

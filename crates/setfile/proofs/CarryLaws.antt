@@ -14,10 +14,10 @@ use borrow.Author.Tests.{ltb-true, ltb-false, le-ltb, eqb-false, ne-eqb, not-fal
 use Rattle.integers.proofs.Logic.{and-left, and-right, or-left, or-right}
 use Rattle.integers.proofs.Bound.{in-fits}
 use Rattle.grid.specs.Limits.{limit, most, on-grid, all-on-grid}
-use Rattle.grid.specs.Ladder.{first-of}
+use Rattle.replies.specs.Ladder.{first-of}
 use Rattle.grid.specs.Domain.{count}
-use Rattle.grid.proofs.LadderLaws.{clear, first-is}
-use Rattle.grid.proofs.LadderLaws.First.{past, foot}
+use Rattle.replies.proofs.LadderLaws.{clear, first-is}
+use Rattle.replies.proofs.LadderLaws.First.{past, foot}
 use Rattle.grid.proofs.LimitLaws.{on-grid-in, on-dropped, on-taken}
 use Rattle.buffer.specs.declared.ranges.Span.{Span}
 use Rattle.buffer.specs.Spans.{spans, sound, sound-from, size, total, laid}

@@ -4,7 +4,7 @@ use mathlib.Core.Bool.{true, false}
 use mathlib.Core.List.{List, [], _∷_}
 use Prim.Native.Nat.{ℕ}
 use lib.IntN.{negsuc}
-use Rattle.grid.specs.Ladder.{first-of}
+use Rattle.replies.specs.Ladder.{first-of}
 use Rattle.grid.specs.Cases.{W4}
 use Rattle.buffer.specs.Sets.{joined}
 use Rattle.setfile.specs.Bits.{value, field, bits, bytes}

@@ -19,22 +19,22 @@ use Rattle.buffer.specs.Sets.{joined, cut, contour, contours, shapes}
 use Rattle.buffer.proofs.PartLaws.{contours-at}
 use Rattle.buffer.proofs.SetLaws.{joined-append}
 use Rattle.setfile.specs.Format.{Entry, entry, shape-entries, entries}
-use Rattle.setfile.specs.Inside.{four, coded-places, coded-contour, coded-contours}
-use Rattle.setfile.specs.InsideWriting.{between, coded-shape, coded-shapes}
+use Rattle.setfile.specs.inside.Bytes.{four, coded-coordinates, coded-contour, coded-contours}
+use Rattle.setfile.specs.inside.Writing.{between, coded-shape, coded-shapes}
 use Rattle.setfile.proofs.WriteLaws.{Parted}
 
 -- the coordinates from number i on: the next of them, or none
 module _ (c : List ℤ) (i : ℕ) where
-  pub next-place : {n : ℕ} → n ≡ ofZ w32 (toZ w32 (ofZ w32 (getD c i (pos 0)))) → mag (getD c i (pos 0)) < 2 ^ 31 → i < length c
-      → Parted (coded-places (drop i c)) (four n) (coded-places (drop (i + 1) c))
+  pub next-coordinate : {n : ℕ} → n ≡ ofZ w32 (toZ w32 (ofZ w32 (getD c i (pos 0)))) → mag (getD c i (pos 0)) < 2 ^ 31 → i < length c
+      → Parted (coded-coordinates (drop i c)) (four n) (coded-coordinates (drop (i + 1) c))
   unfolding joined
-  next-place {n} e f h =
+  next-coordinate {n} e f h =
       let z : n ≡ ofZ w32 (getD c i (pos 0)) = e ∙ ap (ofZ w32) (toZ-ofZ {w = w32} {z = getD c i (pos 0)} (record { sfits = f })) in
       record { is = rw (drop-cons c i (pos 0) h, add-one i, z) }
 
-  pub no-place : length c ≤ i → coded-places (drop i c) ≡ []
+  pub no-coordinate : length c ≤ i → coded-coordinates (drop i c) ≡ []
   unfolding joined
-  no-place h = rw (drop-of-length-le c {i = i} h)
+  no-coordinate h = rw (drop-of-length-le c {i = i} h)
 
 -- contours of which the first begins a shape or not, and the others do not
 abbrev pub marked : Bool → List (List ℤ) → List Entry

@@ -7,11 +7,11 @@ use native.Mathlib.Omega.{arith}
 use lib.Dec.{ltb}
 use lib.ListN.{length, drop, length-drop}
 use borrow.Author.Tests.{ltb-false, lt-ltb, le-ltb, eq-eqb, ne-eqb}
-use Rattle.grid.specs.Ladder.{first-of}
-use Rattle.grid.proofs.LadderLaws.{clear, first-is}
-use Rattle.grid.proofs.LadderLaws.First.{here, past, foot}
-use Rattle.setfile.specs.Inside.{pair, starts, held, fault}
-use Rattle.setfile.specs.InsideReading.{head-refusals}
+use Rattle.replies.specs.Ladder.{first-of}
+use Rattle.replies.proofs.LadderLaws.{clear, first-is}
+use Rattle.replies.proofs.LadderLaws.First.{here, past, foot}
+use Rattle.setfile.specs.inside.Bytes.{pair, starts, held, fault}
+use Rattle.setfile.specs.inside.Reading.{head-refusals}
 
 module _ (f : List ℕ) (at : ℕ) (first : Bool) where
   abbrev here-on : ℕ

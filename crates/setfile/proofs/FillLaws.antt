@@ -7,16 +7,15 @@ use lib.ListN.{length, drop, set, length-append, length-map}
 use lib.Seq.{drop-drop}
 use lib.IntN.{ℤ}
 use Rattle.grid.specs.Domain.{count}
-use Rattle.grid.specs.Rows.{front}
+use Rattle.rows.specs.Rows.{front, placed}
 use Rattle.buffer.specs.Spans.{row, rows, laid}
 use Rattle.buffer.specs.Sets.{joined}
-use Rattle.buffer.specs.Rows.{placed}
-use Rattle.buffer.proofs.RowLaws.{placed-front}
+use Rattle.rows.proofs.RowLaws.{placed-front}
 use Rattle.setfile.specs.Format.{Entry, contours-of}
-use Rattle.setfile.specs.Inside.{places, held, front-entry}
-use Rattle.setfile.specs.InsideReading.{contained, Readable}
+use Rattle.setfile.specs.inside.Bytes.{decoded, held, front-entry}
+use Rattle.setfile.specs.inside.Reading.{contained, Readable}
 use Rattle.buffer.proofs.SetLaws.{laid-length}
-use Rattle.setfile.proofs.ReadLaws.{places-length}
+use Rattle.setfile.proofs.ReadLaws.{decoded-length}
 use Rattle.setfile.proofs.RestLaws.{Rest, Next, next, done, rest-all}
 use Rattle.setfile.proofs.AheadLaws.{Ahead, ahead-all, ahead-more, ahead-one, ahead-none}
 
@@ -63,7 +62,7 @@ points-made l = joined (contours-of l)
 
 module _ {f : List ℕ} {n i at to : ℕ} {row₀ wanted row : List ℤ} (x : Filling f n row₀ wanted points-made i at to row) (l : i < n) where
   abbrev next-points : List ℤ
-  next-points = places (2 * held (drop at f)) (drop 2 (drop at f))
+  next-points = decoded (2 * held (drop at f)) (drop 2 (drop at f))
 
   points-left : List Entry
   points-left = coming x l .rest
@@ -74,14 +73,14 @@ module _ {f : List ℕ} {n i at to : ℕ} {row₀ wanted row : List ℤ} (x : Fi
 
   pub points-room : to + 2 * held (drop at f) ≤ length row
   points-room =
-      omega (arith, points-to-come .room, length-append next-points (points-made points-left), places-length (2 * held (drop at f)) (drop 2 (drop at f)))
+      omega (arith, points-to-come .room, length-append next-points (points-made points-left), decoded-length (2 * held (drop at f)) (drop 2 (drop at f)))
 
-  pub points-more : (h : ℕ) → h ≡ held (drop at f) → (new : List ℤ) → new ≡ placed to (places (2 * h) (drop (at + 2) f)) row
+  pub points-more : (h : ℕ) → h ≡ held (drop at f) → (new : List ℤ) → new ≡ placed to (decoded (2 * h) (drop (at + 2) f)) row
       → Filling f n row₀ wanted points-made (i + 1) (at + (2 + 8 * h)) (to + 2 * h) new
   unfolding points-left
   points-more h e new q =
-      let a : to + 2 * h ≡ to + length next-points = omega (arith, places-length (2 * held (drop at f)) (drop 2 (drop at f))) in
-      let b : new ≡ placed to next-points row = q ∙ ap₂ (λ (k : ℕ) (g : List ℕ). placed to (places (2 * k) g) row) e (sym (drop-drop 2 at f)) in
+      let a : to + 2 * h ≡ to + length next-points = omega (arith, decoded-length (2 * held (drop at f)) (drop 2 (drop at f))) in
+      let b : new ≡ placed to next-points row = q ∙ ap₂ (λ (k : ℕ) (g : List ℕ). placed to (decoded (2 * k) g) row) e (sym (drop-drop 2 at f)) in
       filled x l points-made (to + 2 * h) new
       (subst (Ahead row₀ wanted (to + 2 * h) (points-made points-left)) (sym b) (ahead-more next-points (points-made points-left) (to + 2 * h) a points-to-come)) h e
 
@@ -102,7 +101,7 @@ module _ {f : List ℕ} {n i at : ℕ} (start : ℕ) {row₀ wanted now : List (
   contours-to-come : (h : ℕ) → h ≡ held (drop at f) → Ahead row₀ wanted i ((start ∷ (start + h) ∷ []) ∷ contours-made (start + h) contours-left) now
   unfolding laid contours-left
   contours-to-come h e =
-      let c : count (places (2 * held (drop at f)) (drop 2 (drop at f))) ≡ h = omega (arith, places-length (2 * held (drop at f)) (drop 2 (drop at f))) in
+      let c : count (decoded (2 * held (drop at f)) (drop 2 (drop at f))) ≡ h = omega (arith, decoded-length (2 * held (drop at f)) (drop 2 (drop at f))) in
       subst (λ (k : ℕ). Ahead row₀ wanted i ((start ∷ (start + k) ∷ []) ∷ contours-made (start + k) contours-left) now) c (to-come x l)
 
   pub contours-room : i < length now

@@ -12,21 +12,20 @@ use lib.IntN.{ℤ}
 use mir.Val.{boolByte}
 use borrow.Author.Tests.{ltb-true, ltb-false, lt-ltb, le-ltb, eq-eqb, ne-eqb}
 use Rattle.grid.specs.Limits.{on-grid, all-on-grid}
-use Rattle.grid.specs.Ladder.{first-of}
+use Rattle.replies.specs.Ladder.{first-of}
 use Rattle.grid.specs.Domain.{off}
-use Rattle.grid.proofs.LadderLaws.{Clear, clear, first-is}
-use Rattle.grid.proofs.LadderLaws.First.{here, past, foot}
-use Rattle.buffer.proofs.RefusalLaws.{found}
+use Rattle.replies.proofs.LadderLaws.{Clear, clear, first-is, found}
+use Rattle.replies.proofs.LadderLaws.First.{here, past, foot}
 use Rattle.buffer.specs.Sets.{joined}
-use Rattle.setfile.specs.declared.judging.Met.{Met}
-use Rattle.setfile.specs.declared.judging.Judged.{Judged}
+use Rattle.setfile.specs.declared.inner.judging.Met.{Met}
+use Rattle.setfile.specs.declared.inner.judging.Judged.{Judged}
 use Rattle.setfile.specs.Bits.{digit}
 use Rattle.setfile.specs.Format.{Entry, entry, contours-of, shapes-of, gathered, Parsed, read-contours}
 use Rattle.setfile.specs.Format.Parsed.{carries, damaged}
-use Rattle.setfile.specs.Inside.{pair, places, starts, held, fault, walk, head-faults, head-fault, walked, and-then}
-use Rattle.setfile.specs.InsideReading.{none-met, met-more, Inside, judged, on-or-refused, summed, head-refusals, contained, refusals-of, Readable, Judgement}
+use Rattle.setfile.specs.inside.Bytes.{pair, decoded, starts, held, fault, walk, head-faults, head-fault, walked, and-then}
+use Rattle.setfile.specs.inside.Reading.{none-met, met-more, Within, judged, on-or-refused, summed, head-refusals, contained, refusals-of, Readable, Judgement}
 use Rattle.setfile.proofs.BitLaws.{byte-digit, digit-below}
-use Rattle.setfile.proofs.ReadLaws.{places-length, walk-more, Numbered, walk-numbered, Long, walk-long}
+use Rattle.setfile.proofs.ReadLaws.{decoded-length, walk-more, Numbered, walk-numbered, Long, walk-long}
 
 pub all-on-append : (p q : List ℤ) → all-on-grid (p ++ q) ≡ (all-on-grid p && all-on-grid q)
 unfolding all-on-grid
@@ -60,11 +59,11 @@ module _ (f : List ℕ) (n i : ℕ) (m : Met) where
       let g : List ℕ = drop (m .at) f in
       let w : Parsed = walk (n - (i + 1)) (eqb (i + 1) 0) (drop (m .at + (2 + 8 * held g)) f) in
       ap (summed m i) (walk-more f n i (m .at) first h e)
-      ∙ summed-more m i (m .at + (2 + 8 * held g)) (2 * held g) (starts g) (places (2 * held g) (drop 2 g)) w (places-length (2 * held g) (drop 2 g))
+      ∙ summed-more m i (m .at + (2 + 8 * held g)) (2 * held g) (starts g) (decoded (2 * held g) (drop 2 g)) w (decoded-length (2 * held g) (drop 2 g))
 
-  pub inside-more : Inside f m → m .at + (2 + 8 * held (drop (m .at) f)) ≤ length f → Inside f (met-more (drop (m .at) f) m)
-  inside-more h e = record {
-    within = e;
+  pub within-more : Within f m → m .at + (2 + 8 * held (drop (m .at) f)) ≤ length f → Within f (met-more (drop (m .at) f) m)
+  within-more h e = record {
+    ends = e;
     numbers-few = omega (arith, h .numbers-few);
     shapes-few = omega (arith, h .shapes-few, digit-below (starts (drop (m .at) f)));
   }
@@ -74,14 +73,14 @@ same-met : {a b c d : ℕ} {x y : Bool} {k l : ℕ} → a ≡ b → c ≡ d → 
 same-met e f g h = cc
 
 -- as the code counts
-pub met-is : (f : List ℕ) (m : Met) (h : ℕ) (b on : Bool) → h ≡ held (drop (m .at) f) → b ≡ starts (drop (m .at) f) → on ≡ all-on-grid (places (2 * h) (drop (m .at + 2) f))
+pub met-is : (f : List ℕ) (m : Met) (h : ℕ) (b on : Bool) → h ≡ held (drop (m .at) f) → b ≡ starts (drop (m .at) f) → on ≡ all-on-grid (decoded (2 * h) (drop (m .at + 2) f))
     → record { at = m .at + (2 + 8 * h); numbers = m .numbers + 2 * h; shapes = m .shapes + boolByte b; on = m .on && on } ≡ met-more (drop (m .at) f) m
 met-is f m h b on e g k =
     same-met
     (ap (λ (t : ℕ). m .at + (2 + 8 * t)) e)
     (ap (λ (t : ℕ). m .numbers + 2 * t) e)
     (ap (λ (t : ℕ). m .shapes + t) (byte-digit b ∙ ap digit g))
-    (ap (λ (t : Bool). m .on && t) (k ∙ ap₂ (λ (t : ℕ) (l : List ℕ). all-on-grid (places (2 * t) l)) e (sym (drop-drop 2 (m .at) f))))
+    (ap (λ (t : Bool). m .on && t) (k ∙ ap₂ (λ (t : ℕ) (l : List ℕ). all-on-grid (decoded (2 * t) l)) e (sym (drop-drop 2 (m .at) f))))
 
 -- behind the last contour
 module _ (f : List ℕ) (m : Met) (n : ℕ) where

@@ -8,21 +8,20 @@ use lib.Dec.{leb}
 use lib.ListN.{length}
 use lib.IntN.{ℤ}
 use borrow.Author.Tests.{le-leb, lt-leb}
-use Rattle.grid.specs.Ladder.{first-of}
+use Rattle.replies.specs.Ladder.{first-of, room}
 use Rattle.grid.specs.Domain.{count}
-use Rattle.grid.specs.Rows.{front}
-use Rattle.grid.proofs.LadderLaws.{First, first-is, stopped, onward}
-use Rattle.grid.proofs.LadderLaws.First.{here, past, foot}
+use Rattle.rows.specs.Rows.{front}
+use Rattle.replies.proofs.LadderLaws.{First, first-is, stopped, onward}
+use Rattle.replies.proofs.LadderLaws.First.{here, past, foot}
 use Rattle.buffer.specs.Spans.{spans}
 use Rattle.buffer.specs.Sets.{shapes}
-use Rattle.buffer.specs.Refusals.{room}
 use Rattle.buffer.proofs.SpanLaws.{range-within}
-use Rattle.buffer.proofs.RowLaws.{placed-front}
-use Rattle.buffer.proofs.PlacedLaws.{placed-long}
+use Rattle.rows.proofs.RowLaws.{placed-front}
+use Rattle.rows.proofs.PlacedLaws.{placed-long}
 use Rattle.setfile.specs.Format.{Entry, entries, file-length}
-use Rattle.setfile.specs.Inside.{two, coded-contours}
-use Rattle.setfile.specs.InsideWriting.{Put, Room, Named, Grouped, coded-shapes}
-use Rattle.setfile.specs.Writing.{refusals, left, written, outcome}
+use Rattle.setfile.specs.inside.Bytes.{two, coded-contours}
+use Rattle.setfile.specs.inside.Writing.{Put, Room, Named, Grouped, coded-shapes}
+use Rattle.setfile.specs.Writing.{refusals, leaving, written, outcome}
 use Rattle.setfile.specs.Promises.{Small, Carriable, file-of}
 use Rattle.setfile.proofs.ByteLaws.{coded-length, file-by-bytes}
 use Rattle.setfile.proofs.CarryLaws.{carriable, carried-count, carried-total, set-carried}
@@ -59,10 +58,10 @@ module _ (p : List ℤ) (cs ss : List (List ℕ)) (row : List ℕ) where
   outcome-is k e = ap (λ (n : ℕ). written n (file-of p cs ss) row) e
 
   module _ (m r : ℕ) (g : m ≡ file-length (length cs) (count p)) (e : r ≡ first-of (refusals p cs ss)) where
-    pub write-refused : (r ≡ 0 → ⊥) → left r 0 row ≡ outcome p cs ss row
+    pub write-refused : (r ≡ 0 → ⊥) → leaving r 0 row ≡ outcome p cs ss row
     write-refused n = go r n ∙ outcome-is r (first-is _ _ (stopped (refusals p cs ss) (room (leb (file-length (length cs) (count p)) (length row))) r e n))
       where
-        go : (r : ℕ) → (r ≡ 0 → ⊥) → left r 0 row ≡ written r (file-of p cs ss) row
+        go : (r : ℕ) → (r ≡ 0 → ⊥) → leaving r 0 row ≡ written r (file-of p cs ss) row
         go zero n = absurd (n refl)
         go (suc r) n = refl
 
@@ -70,7 +69,7 @@ module _ (p : List ℤ) (cs ss : List (List ℕ)) (row : List ℕ) where
       beyond : (k : ℕ) → First (room (leb (file-length (length cs) (count p)) (length row))) k → written k (file-of p cs ss) row ≡ outcome p cs ss row
       beyond k f = outcome-is k (first-is _ _ (onward (refusals p cs ss) (room (leb (file-length (length cs) (count p)) (length row))) k tt (sym e ∙ z) f))
 
-      pub write-full : length row < m → left 5 0 row ≡ outcome p cs ss row
+      pub write-full : length row < m → leaving 5 0 row ≡ outcome p cs ss row
       write-full h = beyond 5 (here (ap not (lt-leb (file-length (length cs) (count p)) (length row) (omega (arith, g)))))
 
       pub accepted-set : Carriable p cs ss
@@ -83,12 +82,12 @@ module _ (p : List ℤ) (cs ss : List (List ℕ)) (row : List ℕ) where
         pub shapes-room : {b : ℕ} {mid : List ℕ} → Put 0 (two (4096 + length cs)) row b mid → Room b (coded-shapes p cs ss) mid
         shapes-room {b} {mid} u =
             let l : length mid ≡ length row = ap length (u .is) ∙ placed-long row 0 (two (4096 + length cs)) (omega (arith, h, g)) in
-            omega (arith, all-room, u .place)
+            omega (arith, all-room, u .behind)
 
         pub write-done : {b c : ℕ} {mid exit : List ℕ} → Put 0 (two (4096 + length cs)) row b mid → Put b (coded-shapes p cs ss) mid c exit
-            → left 0 m exit ≡ outcome p cs ss row
+            → leaving 0 m exit ≡ outcome p cs ss row
         write-done {b} {c} {mid} {exit} u v =
             let w = both-put all-room u v in
             let f : exit ≡ front (file-of p cs ss) row = w .is ∙ placed-front row (two (4096 + length cs) ++ coded-shapes p cs ss) ∙ ap (λ (l : List ℕ). front l row) (sym (file-is p cs ss accepted-set)) in
-            ap₂ (λ (n : ℕ) (l : List ℕ). left 0 n l) (g ∙ sym (file-long p cs ss accepted-set)) f
+            ap₂ (λ (n : ℕ) (l : List ℕ). leaving 0 n l) (g ∙ sym (file-long p cs ss accepted-set)) f
             ∙ beyond 0 (past (ap not (le-leb (file-length (length cs) (count p)) (length row) (omega (arith, g)))) foot)

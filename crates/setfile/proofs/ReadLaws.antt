@@ -10,29 +10,29 @@ use lib.Seq.{drop-drop}
 use mir.Syntax.{w32}
 use mir.Val.{toZ}
 use borrow.Author.Tests.{ltb-false, ne-eqb}
-use Rattle.grid.proofs.LadderLaws.{clear}
+use Rattle.replies.proofs.LadderLaws.{clear}
 use Rattle.setfile.specs.Format.{Entry, Parsed}
 use Rattle.setfile.specs.Format.Parsed.{carries, damaged}
-use Rattle.setfile.specs.Inside.{quad, places, held, fault, walk, and-then, front-entry}
+use Rattle.setfile.specs.inside.Bytes.{quad, decoded, held, fault, walk, and-then, front-entry}
 
-pub places-length : (k : ℕ) (f : List ℕ) → length (places k f) ≡ k
-unfolding places
-places-length zero f = refl
-places-length (suc k) f = ap suc (places-length k (drop 4 f))
+pub decoded-length : (k : ℕ) (f : List ℕ) → length (decoded k f) ≡ k
+unfolding decoded
+decoded-length zero f = refl
+decoded-length (suc k) f = ap suc (decoded-length k (drop 4 f))
 
 -- the next of k coordinates
-pub places-more : (f : List ℕ) (at k i : ℕ) → i < k
-    → places (k - i) (drop (at + 4 * i) f) ≡ toZ w32 (quad (drop (at + 4 * i) f)) ∷ places (k - (i + 1)) (drop (at + 4 * (i + 1)) f)
-unfolding places
-places-more f at k i h =
+pub decoded-more : (f : List ℕ) (at k i : ℕ) → i < k
+    → decoded (k - i) (drop (at + 4 * i) f) ≡ toZ w32 (quad (drop (at + 4 * i) f)) ∷ decoded (k - (i + 1)) (drop (at + 4 * (i + 1)) f)
+unfolding decoded
+decoded-more f at k i h =
     let e : k - i ≡ suc (k - (i + 1)) = omega arith in
     let d : at + 4 * i + 4 ≡ at + 4 * (i + 1) = omega arith in
-    ap (λ (n : ℕ). places n (drop (at + 4 * i) f)) e
-    ∙ ap (λ (g : List ℕ). toZ w32 (quad (drop (at + 4 * i) f)) ∷ places (k - (i + 1)) g) (drop-drop 4 (at + 4 * i) f ∙ ap (λ (n : ℕ). drop n f) d)
+    ap (λ (n : ℕ). decoded n (drop (at + 4 * i) f)) e
+    ∙ ap (λ (g : List ℕ). toZ w32 (quad (drop (at + 4 * i) f)) ∷ decoded (k - (i + 1)) g) (drop-drop 4 (at + 4 * i) f ∙ ap (λ (n : ℕ). drop n f) d)
 
-pub places-none : (k : ℕ) (f : List ℕ) → k ≡ 0 → places k f ≡ []
-unfolding places
-places-none k f e = rw e
+pub decoded-none : (k : ℕ) (f : List ℕ) → k ≡ 0 → decoded k f ≡ []
+unfolding decoded
+decoded-none k f e = rw e
 
 -- the next of n contours
 module _ (f : List ℕ) (n i at : ℕ) (first : Bool) where

@@ -9,45 +9,44 @@ use lib.ListN.{length}
 use lib.IntN.{ℤ}
 use borrow.Author.Tests.{leb-true}
 use Rattle.integers.proofs.Logic.{and-left, and-right}
-use Rattle.grid.specs.Ladder.{first-of}
+use Rattle.replies.specs.Ladder.{first-of, so-far, room}
 use Rattle.grid.specs.Domain.{count}
-use Rattle.grid.specs.Rows.{front}
-use Rattle.grid.proofs.LadderLaws.{first-is}
-use Rattle.grid.proofs.LadderLaws.First.{here, past}
+use Rattle.rows.specs.Rows.{front}
+use Rattle.replies.proofs.LadderLaws.{first-is, clear-of}
+use Rattle.replies.proofs.LadderLaws.First.{here, past}
 use Rattle.buffer.specs.declared.answer.Packed.{Packed}
 use Rattle.buffer.specs.declared.ranges.Span.{Span}
 use Rattle.buffer.specs.Spans.{rows}
 use Rattle.buffer.specs.Sets.{joined, contour-spans, shape-spans}
-use Rattle.buffer.specs.Refusals.{told, room}
-use Rattle.buffer.specs.Answers.{packed, left, enough, stored}
-use Rattle.buffer.proofs.AnswerLaws.{stored-refused, stored-done, clear-of}
-use Rattle.setfile.specs.declared.judging.Judged.{Judged}
+use Rattle.buffer.specs.Answers.{packed, leaving, enough, stored}
+use Rattle.buffer.proofs.AnswerLaws.{stored-refused, stored-done}
+use Rattle.setfile.specs.declared.inner.judging.Judged.{Judged}
 use Rattle.setfile.specs.Format.{contours-of, shapes-of, Parsed, damage, read-contours}
 use Rattle.setfile.specs.Reading.{put, outcome}
-use Rattle.setfile.specs.Inside.{Bytes, walked}
-use Rattle.setfile.specs.InsideReading.{contained, refusals-of, refusals, Readable, Counts, Judgement}
+use Rattle.setfile.specs.inside.Bytes.{Bytes, walked}
+use Rattle.setfile.specs.inside.Reading.{contained, refusals-of, refusals, Readable, Counts, Judgement}
 use Rattle.setfile.proofs.FillLaws.{contours-laid}
 use Rattle.setfile.proofs.ShapeFillLaws.{shapes-laid}
 use Rattle.setfile.proofs.ByteLaws.{parsed-by-bytes}
 
 -- only the number of the first refusal counts, and 5 below it
-roomed : (a c b : Bool) (d : ℕ) → first-of (told (first-of ((a, 2) ∷ told d ++ (c, 3) ∷ [])) ++ room b) ≡ first-of (((a, 2) ∷ told d ++ (c, 3) ∷ []) ++ room b)
+roomed : (a c b : Bool) (d : ℕ) → first-of (so-far (first-of ((a, 2) ∷ so-far d ++ (c, 3) ∷ [])) ++ room b) ≡ first-of (((a, 2) ∷ so-far d ++ (c, 3) ∷ []) ++ room b)
 unfolding first-of
 roomed true c b d = refl
 roomed false true b zero = refl
 roomed false false b zero = refl
 roomed false c b (suc k) =
     let here-it-is : not (eqb (suc k) 0) ≡ true = ap not (eqb·suc-zero k) in
-    ap (λ (n : ℕ). first-of (told n ++ room b)) (sym (first-is ((false, 2) ∷ told (suc k) ++ (c, 3) ∷ []) (suc k) (past refl (here here-it-is))))
-    ∙ sym (first-is (told (suc k) ++ room b) (suc k) (here here-it-is))
-    ∙ first-is (((false, 2) ∷ told (suc k) ++ (c, 3) ∷ []) ++ room b) (suc k) (past refl (here here-it-is))
+    ap (λ (n : ℕ). first-of (so-far n ++ room b)) (sym (first-is ((false, 2) ∷ so-far (suc k) ++ (c, 3) ∷ []) (suc k) (past refl (here here-it-is))))
+    ∙ sym (first-is (so-far (suc k) ++ room b) (suc k) (here here-it-is))
+    ∙ first-is (((false, 2) ∷ so-far (suc k) ++ (c, 3) ∷ []) ++ room b) (suc k) (past refl (here here-it-is))
 
 -- where there is a refusal already, room does not count
-same-room : (k : ℕ) (a b : Bool) → (k ≡ 0 → a ≡ b) → first-of (told k ++ room a) ≡ first-of (told k ++ room b)
-same-room zero a b e = ap (λ (c : Bool). first-of (told 0 ++ room c)) (e refl)
+same-room : (k : ℕ) (a b : Bool) → (k ≡ 0 → a ≡ b) → first-of (so-far k ++ room a) ≡ first-of (so-far k ++ room b)
+same-room zero a b e = ap (λ (c : Bool). first-of (so-far 0 ++ room c)) (e refl)
 same-room (suc k) a b e =
     let stops : not (eqb (suc k) 0) ≡ true = ap not (eqb·suc-zero k) in
-    sym (first-is (told (suc k) ++ room a) (suc k) (here stops)) ∙ first-is (told (suc k) ++ room b) (suc k) (here stops)
+    sym (first-is (so-far (suc k) ++ room a) (suc k) (here stops)) ∙ first-is (so-far (suc k) ++ room b) (suc k) (here stops)
 
 same-fits : {a b c k l m : ℕ} (x y z : ℕ) → a ≡ k → b ≡ l → c ≡ m → (leb a x && leb b y && leb c z) ≡ (leb k x && leb l y && leb m z)
 same-fits x y z e f g = cc
@@ -86,7 +85,7 @@ module _ (f : List ℕ) (out : List ℤ) (cs ss : List (List ℕ)) (j : Judged) 
       let c = judgement .counts z in
       same-fits (length out) (length cs) (length ss) (c .numbers) (c .contours ∙ sym contours-count) (c .shapes ∙ sym shapes-count)
 
-  module _ (bytes : Bytes f) (r : ℕ) (e : r ≡ first-of (told (j .reply) ++ room fits)) where
+  module _ (bytes : Bytes f) (r : ℕ) (e : r ≡ first-of (so-far (j .reply) ++ room fits)) where
     -- as the file is read by its bytes
     by-bytes : stored (refusals f) points contour-ranges shape-ranges out cs ss ≡ outcome f out cs ss
     unfolding points contour-ranges shape-ranges
@@ -99,10 +98,10 @@ module _ (f : List ℕ) (out : List ℤ) (cs ss : List (List ℕ)) (j : Judged) 
     reply-is =
         let b : Bool = enough points contour-ranges shape-ranges out cs ss in
         e ∙ same-room (j .reply) fits b fits-is
-        ∙ ap (λ (k : ℕ). first-of (told k ++ room b)) (judgement .reply)
+        ∙ ap (λ (k : ℕ). first-of (so-far k ++ room b)) (judgement .reply)
         ∙ roomed _ _ b (damage (walked f))
 
-    pub read-refused : (w : Packed) → w ≡ packed r 0 0 0 → (r ≡ 0 → ⊥) → left w out cs ss ≡ outcome f out cs ss
+    pub read-refused : (w : Packed) → w ≡ packed r 0 0 0 → (r ≡ 0 → ⊥) → leaving w out cs ss ≡ outcome f out cs ss
     read-refused w g n = stored-refused points contour-ranges shape-ranges out cs ss (refusals f) _ refl r reply-is w g n ∙ by-bytes
 
     module _ (z : r ≡ 0) where
@@ -127,7 +126,7 @@ module _ (f : List ℕ) (out : List ℤ) (cs ss : List (List ℕ)) (j : Judged) 
 
       pub read-done : (p : List ℤ) (c s : List (List ℕ)) → p ≡ front (joined (contours-of (contained f))) out → c ≡ front (rows (contour-spans (contours-of (contained f)))) cs
           → s ≡ front (rows (shape-spans (shapes-of (contained f)))) ss
-          → left (packed 0 (j .numbers / 2) (j .contours) (j .shapes)) p c s ≡ outcome f out cs ss
+          → leaving (packed 0 (j .numbers / 2) (j .contours) (j .shapes)) p c s ≡ outcome f out cs ss
       unfolding points contour-ranges shape-ranges
       read-done p c s a b d =
           rw (counts .numbers, counts .contours ∙ sym contours-count, counts .shapes ∙ sym shapes-count)

@@ -12,15 +12,15 @@ use lib.IntN.{ℤ}
 use borrow.Author.Tests.{eq-eqb, ne-eqb, lt-ltb, le-ltb, leb-true, leb-false}
 use Rattle.integers.proofs.Logic.{and-left}
 use Rattle.grid.specs.Limits.{most}
-use Rattle.grid.specs.Ladder.{Rung, first-of}
+use Rattle.replies.specs.Ladder.{Rung, first-of}
 use Rattle.grid.specs.Domain.{count, off}
-use Rattle.grid.proofs.LadderLaws.{First, first-is, stopped, onward}
-use Rattle.grid.proofs.LadderLaws.First.{here, past, foot}
+use Rattle.replies.proofs.LadderLaws.{First, first-is, stopped, onward, found}
+use Rattle.replies.proofs.LadderLaws.First.{here, past, foot}
 use Rattle.buffer.specs.declared.ranges.Span.{Span}
 use Rattle.buffer.specs.Spans.{span, spans, sound, size}
 use Rattle.buffer.specs.Refusals.{unsound}
 use Rattle.buffer.specs.Shapes as S
-use Rattle.buffer.proofs.RefusalLaws.{found, accepted}
+use Rattle.buffer.proofs.RefusalLaws.{accepted}
 use Rattle.buffer.proofs.RowLaws.{spans-length}
 use Rattle.setfile.specs.Format.{file-length}
 use Rattle.setfile.specs.Reading.{most-bytes}

@@ -7,11 +7,11 @@ use native.Mathlib.Omega.{arith}
 use lib.Dec.{eqb}
 use lib.ListN.{length, drop}
 use borrow.Author.Tests.{eq-eqb, not-false}
-use Rattle.grid.proofs.LadderLaws.{clear}
+use Rattle.replies.proofs.LadderLaws.{clear}
 use Rattle.setfile.specs.Format.{Entry, Parsed}
 use Rattle.setfile.specs.Format.Parsed.{carries, damaged}
-use Rattle.setfile.specs.Inside.{starts, held, fault, walk, and-then, front-entry}
-use Rattle.setfile.specs.InsideReading.{contained, Readable}
+use Rattle.setfile.specs.inside.Bytes.{starts, held, fault, walk, and-then, front-entry}
+use Rattle.setfile.specs.inside.Reading.{contained, Readable}
 use Rattle.setfile.proofs.ReadLaws.{walk-faulty, walk-more, walk-ends, contour-within}
 
 -- from position at on, behind i of n contours, these are left

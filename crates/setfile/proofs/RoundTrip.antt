@@ -13,18 +13,18 @@ use mir.Syntax.{w32}
 use mir.Val.{SFits, toZ, ofZ}
 use mir.Facts.{toZ-ofZ, ofZ-toZ, fits-ofZ, sfits-toZ}
 use borrow.Author.Tests.{ltb-false, lt-ltb, le-ltb, leb-true, leb-false, le-leb, lt-leb, eqb-true, eq-eqb, not-false}
-use Rattle.grid.specs.Ladder.{first-of}
+use Rattle.replies.specs.Ladder.{first-of}
 use Rattle.grid.specs.Domain.{count}
-use Rattle.grid.proofs.LadderLaws.{clear}
+use Rattle.replies.proofs.LadderLaws.{clear}
 use Rattle.buffer.specs.Sets.{joined, Even}
 use Rattle.setfile.specs.Bits.{digit, bits}
 use Rattle.setfile.specs.Format.{Entry, entry, contours-of, Parsed, begins, points-in, contour-in, is-complete, Come, come-next, complete, contours-damage, unless, contours-in, head-damage, promised, come, parsed, damage, file, read-contours}
 use Rattle.setfile.specs.Format.Parsed.{carries, damaged}
-use Rattle.setfile.specs.Inside.{Bytes, pair, quad, places, starts, held, fault, walk, head-fault, walked, two, four, coded-places, coded-contour, coded-contours, coded, and-then, front-entry, all-there, arrived}
+use Rattle.setfile.specs.inside.Bytes.{Bytes, pair, quad, decoded, starts, held, fault, walk, head-fault, walked, two, four, coded-coordinates, coded-contour, coded-contours, coded, and-then, front-entry, all-there, arrived}
 use Rattle.setfile.specs.Writing.{most-contours, most-points}
 use Rattle.setfile.specs.Promises.{Each, Short, Started, Carried}
-use Rattle.setfile.proofs.ReadLaws.{places-length}
-use Rattle.setfile.proofs.ByteLaws.{dropped, pair-below, in-bytes, promised-by-bytes, come-by-bytes, head-same, coded-places-length, coded-bytes, parsed-by-bytes, file-by-bytes}
+use Rattle.setfile.proofs.ReadLaws.{decoded-length}
+use Rattle.setfile.proofs.ByteLaws.{dropped, pair-below, in-bytes, promised-by-bytes, come-by-bytes, head-same, coded-coordinates-length, coded-bytes, parsed-by-bytes, file-by-bytes}
 
 -- a number in two bytes, or in four, and back
 pair-two : (n : ℕ) (f : List ℕ) → n < 65536 → pair (two n ++ f) ≡ n
@@ -37,7 +37,7 @@ quad-four n f h =
 
 -- reading on, where nothing is wrong
 walk-on : (k : ℕ) (first : Bool) (f : List ℕ) → fault first f ≡ 0
-    → walk (suc k) first f ≡ and-then (entry (starts f) (places (2 * held f) (drop 2 f))) (walk k false (drop (2 + 8 * held f) f))
+    → walk (suc k) first f ≡ and-then (entry (starts f) (decoded (2 * held f) (drop 2 f))) (walk k false (drop (2 + 8 * held f) f))
 unfolding walk
 walk-on k first f e = rw (e, walk)
 
@@ -46,14 +46,14 @@ unfolding walked
 walked-on f e = rw (e, walked)
 
 -- coordinates that were written are read
-places-back : (c : List ℤ) (f : List ℕ) → Each (SFits w32) c → places (length c) (coded-places c ++ f) ≡ c
-unfolding places joined
-places-back [] f h = refl
-places-back (z ∷ c) f h =
+decoded-back : (c : List ℤ) (f : List ℕ) → Each (SFits w32) c → decoded (length c) (coded-coordinates c ++ f) ≡ c
+unfolding decoded joined
+decoded-back [] f h = refl
+decoded-back (z ∷ c) f h =
     let n : ofZ w32 z < 4294967296 = fits-ofZ (h .0) .fits in
     ap₂ (λ (a : ℤ) (l : List ℤ). a ∷ l)
-    (ap (toZ w32) (quad-four (ofZ w32 z) (coded-places c ++ f) n) ∙ toZ-ofZ (h .0))
-    (places-back c f (h .1))
+    (ap (toZ w32) (quad-four (ofZ w32 z) (coded-coordinates c ++ f) n) ∙ toZ-ofZ (h .0))
+    (decoded-back c f (h .1))
 
 starts-two : (b : Bool) (n : ℕ) (f : List ℕ) → n ≤ most-points → starts (two (digit b * 32768 + n) ++ f) ≡ b
 starts-two true n f h = ap (leb 32768) (pair-two (1 * 32768 + n) f (omega arith)) ∙ le-leb 32768 (1 * 32768 + n) (omega arith)
@@ -76,26 +76,26 @@ module _ (e : Entry) (more : List ℕ) (first : Bool) (even : length (e .points)
   whole = coded-contour e ++ more
 
   starts-back : starts whole ≡ e .begins
-  starts-back = starts-two (e .begins) (count (e .points)) (coded-places (e .points) ++ more) short
+  starts-back = starts-two (e .begins) (count (e .points)) (coded-coordinates (e .points) ++ more) short
 
   held-back : held whole ≡ count (e .points)
-  held-back = held-two (e .begins) (count (e .points)) (coded-places (e .points) ++ more) short
+  held-back = held-two (e .begins) (count (e .points)) (coded-coordinates (e .points) ++ more) short
 
   no-fault : (first ≡ true → e .begins ≡ true) → fault first whole ≡ 0
   unfolding first-of
   no-fault h =
-      let n : length (coded-places (e .points) ++ more) ≡ length (coded-places (e .points)) + length more = length-append (coded-places (e .points)) more in
+      let n : length (coded-coordinates (e .points) ++ more) ≡ length (coded-coordinates (e .points)) + length more = length-append (coded-coordinates (e .points)) more in
       let a : ltb (length whole) 2 ≡ false = le-ltb (length whole) 2 (omega arith) in
-      let b : ltb (length whole) (2 + 8 * held whole) ≡ false = le-ltb (length whole) (2 + 8 * held whole) (omega (arith, held-back, coded-places-length (e .points))) in
+      let b : ltb (length whole) (2 + 8 * held whole) ≡ false = le-ltb (length whole) (2 + 8 * held whole) (omega (arith, held-back, coded-coordinates-length (e .points))) in
       rw (a, starts-back, b, begun first (e .begins) h)
 
-  points-back : Each (SFits w32) (e .points) → places (2 * held whole) (drop 2 whole) ≡ e .points
+  points-back : Each (SFits w32) (e .points) → decoded (2 * held whole) (drop 2 whole) ≡ e .points
   points-back h =
       let n : 2 * held whole ≡ length (e .points) = omega (arith, held-back) in
-      ap (λ (k : ℕ). places k (drop 2 whole)) n ∙ places-back (e .points) more h
+      ap (λ (k : ℕ). decoded k (drop 2 whole)) n ∙ decoded-back (e .points) more h
 
   rest-back : drop (2 + 8 * held whole) whole ≡ more
-  rest-back = drop-at (coded-contour e) more (2 + 8 * held whole) (omega (arith, held-back, coded-places-length (e .points)))
+  rest-back = drop-at (coded-contour e) more (2 + 8 * held whole) (omega (arith, held-back, coded-coordinates-length (e .points)))
 
 -- contours that were written are read
 contours-back : (l : List Entry) (first : Bool) → Even (contours-of l) → Short (contours-of l) → (first ≡ true → Started l) → Each (Each (SFits w32)) (contours-of l)
@@ -152,22 +152,22 @@ four-back (a ∷ b ∷ c ∷ d ∷ f) h e =
     (ap₂ (λ (m n : ℕ). m ∷ n ∷ []) (omega (arith, x, i)) (omega (arith, y, j)))
     (ap₂ (λ (m n : ℕ). m ∷ n ∷ []) (omega (arith, z, k)) (omega (arith, l)))
 
-places-coded : (k : ℕ) (f : List ℕ) → Bytes f → 4 * k ≤ length f → coded-places (places k f) ≡ take (4 * k) f
-unfolding places joined
-places-coded zero f h e = refl
-places-coded (suc k) f h e =
+decoded-coded : (k : ℕ) (f : List ℕ) → Bytes f → 4 * k ≤ length f → coded-coordinates (decoded k f) ≡ take (4 * k) f
+unfolding decoded joined
+decoded-coded zero f h e = refl
+decoded-coded (suc k) f h e =
     let n : 4 * suc k ≡ 4 + 4 * k = omega arith in
     let b : ofZ w32 (toZ w32 (quad f)) ≡ quad f = ofZ-toZ {w = w32} (record { fits = quad-below f h (omega arith) }) in
     ap₂ (λ (x y : List ℕ). x ++ y)
     (ap four b ∙ four-back f h (omega arith))
-    (places-coded k (drop 4 f) (dropped 4 f h) (omega (arith, length-drop 4 f)))
+    (decoded-coded k (drop 4 f) (dropped 4 f h) (omega (arith, length-drop 4 f)))
     ∙ sym (ap (λ (m : ℕ). take m f) n ∙ take-add 4 (4 * k) f)
 
-places-fit : (k : ℕ) (f : List ℕ) → Bytes f → 4 * k ≤ length f → Each (SFits w32) (places k f)
-unfolding places
-places-fit zero f h e = tt
-places-fit (suc k) f h e =
-    (sfits-toZ {w = w32} (record { fits = quad-below f h (omega arith) }), places-fit k (drop 4 f) (dropped 4 f h) (omega (arith, length-drop 4 f)))
+decoded-fit : (k : ℕ) (f : List ℕ) → Bytes f → 4 * k ≤ length f → Each (SFits w32) (decoded k f)
+unfolding decoded
+decoded-fit zero f h e = tt
+decoded-fit (suc k) f h e =
+    (sfits-toZ {w = w32} (record { fits = quad-below f h (omega arith) }), decoded-fit k (drop 4 f) (dropped 4 f h) (omega (arith, length-drop 4 f)))
 
 -- one contour that is read
 module _ (f : List ℕ) (h : Bytes f) (e : 2 + 8 * held f ≤ length f) where
@@ -178,15 +178,15 @@ module _ (f : List ℕ) (h : Bytes f) (e : 2 + 8 * held f ≤ length f) where
       go true g = omega (arith, leb-true 32768 (pair f) g, pair-below f h (omega arith))
       go false g = omega (arith, leb-false 32768 (pair f) g)
 
-  count-read : count (places (2 * held f) (drop 2 f)) ≡ held f
-  count-read = let n = places-length (2 * held f) (drop 2 f) in omega (arith, n)
+  count-read : count (decoded (2 * held f) (drop 2 f)) ≡ held f
+  count-read = let n = decoded-length (2 * held f) (drop 2 f) in omega (arith, n)
 
   pub contour-read : coded-contour (front-entry f) ≡ take (2 + 8 * held f) f
   contour-read =
       let n : 4 * (2 * held f) ≡ 8 * held f = omega arith in
       ap₂ (λ (a b : List ℕ). a ++ b)
       (ap (λ (k : ℕ). two (digit (starts f) * 32768 + k)) count-read ∙ ap two two-read ∙ two-back f h (omega arith))
-      (places-coded (2 * held f) (drop 2 f) (dropped 2 f h) (omega (arith, length-drop 2 f)) ∙ ap (λ (k : ℕ). take k (drop 2 f)) n)
+      (decoded-coded (2 * held f) (drop 2 f) (dropped 2 f h) (omega (arith, length-drop 2 f)) ∙ ap (λ (k : ℕ). take k (drop 2 f)) n)
       ∙ sym (take-add 2 (8 * held f) f)
 
 -- contours that have come were written, in front of the rest, and a file can hold them
@@ -210,12 +210,12 @@ arrived-matched (suc k) f h = go (all-there f) refl (arrived-matched k more (dro
     go : (t : Bool) → all-there f ≡ t → Matched k more (arrived k more) → Matched (suc k) f (come-next t (front-entry f) k (arrived k more))
     go true t m =
         let n : 2 + 8 * held f ≤ length f = leb-true (2 + 8 * held f) (length f) t in
-        let p = places-length (2 * held f) (drop 2 f) in
+        let p = decoded-length (2 * held f) (drop 2 f) in
         record {
           number = omega (arith, m .number);
           even = (omega (arith, p), m .even);
           short = (omega (arith, p), m .short);
-          fitting = (places-fit (2 * held f) (drop 2 f) (dropped 2 f h) (omega (arith, length-drop 2 f)), m .fitting);
+          fitting = (decoded-fit (2 * held f) (drop 2 f) (dropped 2 f h) (omega (arith, length-drop 2 f)), m .fitting);
           rest = m .rest;
           same =
               append-assoc (coded-contour (front-entry f)) (coded-contours (arrived k more .contours)) (m .rest)

@@ -6,13 +6,13 @@ use Prim.Native.Nat.{ℕ, suc, _+_, _*_, _-_, _≤_, _<_}
 use native.Mathlib.Omega.{arith}
 use lib.ListN.{length, drop, set, length-map}
 use lib.IntN.{ℤ}
-use Rattle.grid.specs.Rows.{front}
+use Rattle.rows.specs.Rows.{front}
 use Rattle.buffer.specs.Spans.{row, rows, laid}
 use Rattle.buffer.specs.Sets.{shape-spans}
-use Rattle.setfile.specs.declared.filling.Open.{Open}
+use Rattle.setfile.specs.declared.inner.filling.Open.{Open}
 use Rattle.setfile.specs.Format.{Entry, entry, shapes-of, gathered}
-use Rattle.setfile.specs.Inside.{places, starts, held}
-use Rattle.setfile.specs.InsideReading.{contained, Readable, next-open, closed}
+use Rattle.setfile.specs.inside.Bytes.{decoded, starts, held}
+use Rattle.setfile.specs.inside.Reading.{contained, Readable, next-open, closed}
 use Rattle.setfile.proofs.RestLaws.{Rest, Next, next, done, rest-all}
 use Rattle.setfile.proofs.AheadLaws.{Ahead, ahead-one, ahead-none}
 use Rattle.buffer.proofs.SetLaws.{laid-length}
@@ -66,7 +66,7 @@ module _ {f : List ℕ} {n i at : ℕ} (s : Open) {row₀ wanted now : List (Lis
   shapes-more l b e k q = go b (subst (λ (t : Bool). From-here (shapes-made (s .from) i (entry t c ∷ rest))) (sym e) (to-come x l))
     where
       c : List ℤ
-      c = places (2 * held (drop at f)) (drop 2 (drop at f))
+      c = decoded (2 * held (drop at f)) (drop 2 (drop at f))
 
       rest : List Entry
       rest = coming x l .rest
@@ -100,7 +100,7 @@ pub shapes-first : (f : List ℕ) (n : ℕ) (row₀ : List (List ℕ)) → Reada
     → Filling f n row₀ (front (rows (shape-spans (shapes-of (contained f)))) row₀) (shapes-made 0 1) 1 (2 + (2 + 8 * k)) 0 row₀
 shapes-first f n row₀ r h room k q =
     let x : Next f n 0 2 (contained f) = next (rest-all r) h in
-    let c : List ℤ = places (2 * held (drop 2 f)) (drop 2 (drop 2 f)) in
+    let c : List ℤ = decoded (2 * held (drop 2 f)) (drop 2 (drop 2 f)) in
     let all : List (List ℕ) = rows (shape-spans (shapes-of (contained f))) in
     let e : contained f ≡ entry true c ∷ x .rest = x .is ∙ ap (λ (b : Bool). entry b c ∷ x .rest) (x .begun refl) in
     let d : all ≡ shapes-made 0 1 (x .rest) = ap (λ (l : List Entry). rows (shape-spans (shapes-of l))) e ∙ first-shape c (x .rest) in

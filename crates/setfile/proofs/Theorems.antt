@@ -11,21 +11,20 @@ use lib.Seq.{take-at}
 use lib.IntN.{ℤ}
 use borrow.Author.Tests.{ltb-false, lt-ltb, le-ltb, eqb-true, ne-eqb, not-false}
 use Rattle.grid.specs.Limits.{most}
-use Rattle.grid.specs.Ladder.{Rung, first-of}
+use Rattle.replies.specs.Ladder.{Rung, first-of, room}
 use Rattle.grid.specs.Domain.{count}
-use Rattle.grid.specs.Rows.{front}
-use Rattle.grid.proofs.LadderLaws.{Clear, clear, first-is}
-use Rattle.grid.proofs.LadderLaws.First.{here, past}
+use Rattle.rows.specs.Rows.{front}
+use Rattle.replies.proofs.LadderLaws.{Clear, clear, first-is, front-clear, past-clear}
+use Rattle.replies.proofs.LadderLaws.First.{here, past}
 use Rattle.buffer.specs.declared.ranges.Span.{Span}
 use Rattle.buffer.specs.Spans.{spans, row, rows, sound, size, total}
 use Rattle.buffer.specs.Sets.{joined, shapes, contour-spans, shape-spans, Even}
-use Rattle.buffer.specs.Refusals.{room}
-use Rattle.buffer.specs.Answers.{Left, written-points, written-contours, written-shapes, enough, outcome, stored}
+use Rattle.buffer.specs.Answers.{Outcome, written-points, written-contours, written-shapes, enough, outcome, stored}
 use Rattle.buffer.proofs.WrittenLaws.{spans-rows}
 use Rattle.buffer.proofs.Theorems.{packing-then-unpacking-gives-back-every-shape, points-total, the-counts-add-up, what-is-packed-is-sound, packed-shapes-are-sound}
 use Rattle.setfile.specs.Format.{Entry, contours-of, entries, shapes-of, file-length, file, parsed, damage, read-contours}
 use Rattle.setfile.specs.Format.Parsed.{carries}
-use Rattle.setfile.specs.Inside.{Bytes}
+use Rattle.setfile.specs.inside.Bytes.{Bytes}
 use Rattle.setfile.specs.Reading as R
 use Rattle.setfile.specs.Writing as W
 use Rattle.setfile.specs.Promises.{Carried, Carriable, file-of, written-file, points-of, contour-ranges, shape-ranges}
@@ -49,19 +48,6 @@ a-long-contour-makes-the-file-too-long p cs ss even ok over =
     go : (b : Bool) → ltb most (count p) ≡ b → eqb (length p % 2) 1 ≡ false → ltb R.most-bytes (file-length (length cs) (count p)) ≡ true → first-of (W.refusals p cs ss) ≡ 2
     go true g odd long = sym (first-is (W.refusals p cs ss) 2 (past odd (here g)))
     go false g odd long = sym (first-is (W.refusals p cs ss) 2 (past odd (past g (here long))))
-
--- a ladder whose first part is passed
-front-clear : (a b : List Rung) → first-of (a ++ b) ≡ 0 → first-of a ≡ 0
-unfolding first-of
-front-clear [] b e = refl
-front-clear ((true, k) ∷ a) b e = e
-front-clear ((false, k) ∷ a) b e = front-clear a b e
-
-past-clear : (a b : List Rung) → Clear a → first-of (a ++ b) ≡ first-of b
-unfolding first-of
-past-clear [] b h = refl
-past-clear ((false, k) ∷ a) b h = past-clear a b (h .1)
-past-clear ((true, k) ∷ a) b h = absurd (true≢false (h .0))
 
 unrefused : (l : List Rung) → Clear l → (p : List ℤ) (cs ss : List Span) (out : List ℤ) (contours groups : List (List ℕ))
     → stored l p cs ss out contours groups ≡ stored [] p cs ss out contours groups
@@ -100,7 +86,7 @@ module _ (p : List ℤ) (cs ss : List (List ℕ)) (ok : first-of (W.refusals p c
       ∙ rw (read, carried-points p cs ss fit, carried-ranges p cs ss fit, carried-groups p cs ss fit)
 
 -- the same of what writing left
-module _ (p : List ℤ) (cs ss : List (List ℕ)) (row : List ℕ) (o : W.Left) (e : o ≡ W.outcome p cs ss row) (done : o .answer .reply ≡ 0) where
+module _ (p : List ℤ) (cs ss : List (List ℕ)) (row : List ℕ) (o : W.Outcome) (e : o ≡ W.outcome p cs ss row) (done : o .answer .reply ≡ 0) where
   abbrev roomy : List Rung
   roomy = room (leb (file-length (length cs) (count p)) (length row))
 
@@ -112,10 +98,10 @@ module _ (p : List ℤ) (cs ss : List (List ℕ)) (row : List ℕ) (o : W.Left) 
       go : (r : ℕ) → r ≡ first-of (W.refusals p cs ss ++ roomy) → o ≡ W.written r (file-of p cs ss) row
           → R.outcome (written-file o) out contours groups ≡ stored [] p (spans cs) (spans ss) out contours groups
       go zero f g =
-          ap (λ (w : W.Left). R.outcome (written-file w) out contours groups) g
+          ap (λ (w : W.Outcome). R.outcome (written-file w) out contours groups) g
           ∙ ap (λ (l : List ℕ). R.outcome l out contours groups) (take-at (file-of p cs ss) (drop (length (file-of p cs ss)) row) (length (file-of p cs ss)) refl)
           ∙ every-set-a-file-can-carry-is-read-back p cs ss (front-clear (W.refusals p cs ss) roomy (sym f)) out contours groups
-      go (suc r) f g = let z : suc r ≡ 0 = ap (λ (w : W.Left). w .answer .reply) (sym g) ∙ done in absurd (omega arith)
+      go (suc r) f g = let z : suc r ≡ 0 = ap (λ (w : W.Outcome). w .answer .reply) (sym g) ∙ done in absurd (omega arith)
 
 -- the refusals of a file, of which one has the number of its damage
 all-clear : (a : Bool) (n : ℕ) (b : Bool) → first-of ((a, 2) ∷ (not (eqb n 0), n) ∷ (b, 3) ∷ []) ≡ 0 → Clear ((a, 2) ∷ (not (eqb n 0), n) ∷ (b, 3) ∷ [])
@@ -186,13 +172,13 @@ module _ (f : List ℕ) (h : Bytes f) (ok : first-of (R.refusals f) ≡ 0) where
       ap (λ (s : List (List (List ℤ))). file (entries s)) shapes-same ∙ ap file (entries-gathered found (held .started)) ∙ written-back f h found whole
 
 -- the same of what reading left
-record Kept (f : List ℕ) (o : Left) : Type 0 where
+record Kept (f : List ℕ) (o : Outcome) : Type 0 where
   ok : first-of (R.refusals f) ≡ 0
   points : length (points-of f) ≡ 2 * count (points-of f) → written-points o ≡ points-of f
   contours : written-contours o ≡ contour-ranges f
   groups : written-shapes o ≡ shape-ranges f
 
-kept : (f : List ℕ) (out : List ℤ) (contours groups : List (List ℕ)) (o : Left) → o ≡ R.outcome f out contours groups → o .answer .reply ≡ 0 → Kept f o
+kept : (f : List ℕ) (out : List ℤ) (contours groups : List (List ℕ)) (o : Outcome) → o ≡ R.outcome f out contours groups → o .answer .reply ≡ 0 → Kept f o
 unfolding stored
 kept f out contours groups o e done = go (first-of (R.refusals f ++ roomy)) refl e
   where
@@ -215,9 +201,9 @@ kept f out contours groups o e done = go (first-of (R.refusals f ++ roomy)) refl
       contours = ap written-contours h ∙ take-at (rows cs) _ (length cs) (length-map cs row);
       groups = ap written-shapes h ∙ take-at (rows ss) _ (length ss) (length-map ss row);
     }
-    go (suc r) g h = let z : suc r ≡ 0 = ap (λ (w : Left). w .answer .reply) (sym h) ∙ done in absurd (omega arith)
+    go (suc r) g h = let z : suc r ≡ 0 = ap (λ (w : Outcome). w .answer .reply) (sym h) ∙ done in absurd (omega arith)
 
-pub what-is-read-is-written-again : (f : List ℕ) → Bytes f → (out : List ℤ) (contours groups : List (List ℕ)) (o : Left) → o ≡ R.outcome f out contours groups → o .answer .reply ≡ 0
+pub what-is-read-is-written-again : (f : List ℕ) → Bytes f → (out : List ℤ) (contours groups : List (List ℕ)) (o : Outcome) → o ≡ R.outcome f out contours groups → o .answer .reply ≡ 0
     → (bytes : List ℕ) → W.outcome (written-points o) (written-contours o) (written-shapes o) bytes ≡ W.written (first-of (room (leb (length f) (length bytes)))) f bytes
 unfolding W.outcome
 what-is-read-is-written-again f h out contours groups o e done bytes =

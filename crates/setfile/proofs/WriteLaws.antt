@@ -5,65 +5,65 @@ use Prim.Native.Nat.{ℕ, suc, _+_}
 use native.Mathlib.Omega.{arith}
 use lib.ListN.{length, set, length-append}
 use lib.Seq.{sets-eq}
-use Rattle.buffer.specs.Rows.{placed}
-use Rattle.buffer.proofs.PlacedLaws.{placed-none, placed-long, placed-behind}
-use Rattle.setfile.specs.InsideWriting.{Put, Room}
+use Rattle.rows.specs.Rows.{placed}
+use Rattle.rows.proofs.PlacedLaws.{placed-none, placed-long, placed-behind}
+use Rattle.setfile.specs.inside.Writing.{Put, Room}
 
 -- what is left starts with a part of it
 pub record Parted (rest d e : List ℕ) : Type 0 where
   pub is : rest ≡ d ++ e
 
--- what is left to write, from the place that is reached on, makes what is to stand there
-pub record Writing (at : ℕ) (all row₀ : List ℕ) (place : ℕ) (rest row : List ℕ) : Type 0 where
+-- what is left to write, from the position that is reached on, makes what is to stand there
+pub record Writing (at : ℕ) (all row₀ : List ℕ) (reached : ℕ) (rest row : List ℕ) : Type 0 where
   pub long : length row ≡ length row₀
-  pub ends : place + length rest ≡ at + length all
-  pub room : Room place rest row
-  pub is : placed place rest row ≡ placed at all row₀
+  pub ends : reached + length rest ≡ at + length all
+  pub room : Room reached rest row
+  pub is : placed reached rest row ≡ placed at all row₀
 
 pub none-written : (at : ℕ) (all row : List ℕ) → Room at all row → Writing at all row at all row
 none-written at all row h = record { long = refl; ends = refl; room = h; is = refl }
 
-module _ {at : ℕ} {all row₀ : List ℕ} {place : ℕ} {rest row : List ℕ} (w : Writing at all row₀ place rest row) where
+module _ {at : ℕ} {all row₀ : List ℕ} {reached : ℕ} {rest row : List ℕ} (w : Writing at all row₀ reached rest row) where
   -- a part in front of what is left
   module _ {d e : List ℕ} (s : Parted rest d e) where
     split : length rest ≡ length d + length e
     split = ap length (s .is) ∙ length-append d e
 
-    pub part-room : Room place d row
+    pub part-room : Room reached d row
     part-room = omega (arith, w .room, split)
 
-    pub part-written : {b : ℕ} {exit : List ℕ} → Put place d row b exit → Writing at all row₀ b e exit
+    pub part-written : {b : ℕ} {exit : List ℕ} → Put reached d row b exit → Writing at all row₀ b e exit
     part-written {b} {exit} p =
-        let l : length exit ≡ length row = ap length (p .is) ∙ placed-long row place d part-room in
+        let l : length exit ≡ length row = ap length (p .is) ∙ placed-long row reached d part-room in
         record {
           long = l ∙ w .long;
-          ends = omega (arith, p .place, w .ends, split);
-          room = omega (arith, p .place, w .room, split);
+          ends = omega (arith, p .behind, w .ends, split);
+          room = omega (arith, p .behind, w .room, split);
           is =
               ap (placed b e) (p .is)
-              ∙ placed-behind row place d e b part-room (p .place)
-              ∙ ap (λ (k : List ℕ). placed place k row) (sym (s .is))
+              ∙ placed-behind row reached d e b part-room (p .behind)
+              ∙ ap (λ (k : List ℕ). placed reached k row) (sym (s .is))
               ∙ w .is;
         }
 
-  pub all-written : rest ≡ [] → Put at all row₀ place row
+  pub all-written : rest ≡ [] → Put at all row₀ reached row
   all-written s = record {
-    is = sym (placed-none row place) ∙ ap (λ (k : List ℕ). placed place k row) (sym s) ∙ w .is;
-    place = omega (arith, w .ends, ap length s);
+    is = sym (placed-none row reached) ∙ ap (λ (k : List ℕ). placed reached k row) (sym s) ∙ w .is;
+    behind = omega (arith, w .ends, ap length s);
   }
 
 -- two parts, one behind the other
 pub both-put : {at b c : ℕ} {d e row mid exit : List ℕ} → Room at (d ++ e) row → Put at d row b mid → Put b e mid c exit → Put at (d ++ e) row c exit
 both-put {at} {b} {c} {d} {e} {row} {mid} {exit} h p q = record {
-  is = q .is ∙ ap (placed b e) (p .is) ∙ placed-behind row at d e b (omega (arith, h, length-append d e)) (p .place);
-  place = omega (arith, p .place, q .place, length-append d e);
+  is = q .is ∙ ap (placed b e) (p .is) ∙ placed-behind row at d e b (omega (arith, h, length-append d e)) (p .behind);
+  behind = omega (arith, p .behind, q .behind, length-append d e);
 }
 
 -- bytes that are stored one by one
 pub two-stored : (row : List ℕ) (at x y : ℕ) → Room at (x ∷ y ∷ []) row → Put at (x ∷ y ∷ []) row (at + 2) (set (set row at x) (at + 1) y)
 two-stored row at x y h =
     let a : at + 1 ≡ suc at = omega arith in
-    record { is = rw a (sets-eq (x ∷ y ∷ []) row at h); place = refl }
+    record { is = rw a (sets-eq (x ∷ y ∷ []) row at h); behind = refl }
 
 pub four-stored : (row : List ℕ) (at x y u v : ℕ) → Room at (x ∷ y ∷ u ∷ v ∷ []) row
     → Put at (x ∷ y ∷ u ∷ v ∷ []) row (at + 4) (set (set (set (set row at x) (at + 1) y) (at + 2) u) (at + 3) v)
@@ -71,4 +71,4 @@ four-stored row at x y u v h =
     let a : at + 1 ≡ suc at = omega arith in
     let b : at + 2 ≡ suc (suc at) = omega arith in
     let d : at + 3 ≡ suc (suc (suc at)) = omega arith in
-    record { is = rw (a, b, d) (sets-eq (x ∷ y ∷ u ∷ v ∷ []) row at h); place = refl }
+    record { is = rw (a, b, d) (sets-eq (x ∷ y ∷ u ∷ v ∷ []) row at h); behind = refl }

@@ -3,6 +3,4 @@ pub mod Format
 pub mod Reading
 pub mod Writing
 pub mod Promises
-pub mod Inside
-pub mod InsideReading
-pub mod InsideWriting
+pub mod inside

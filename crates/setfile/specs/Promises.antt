@@ -14,7 +14,7 @@ use Rattle.buffer.specs.Spans.{spans, rows, sound, size}
 use Rattle.buffer.specs.Sets.{joined, shapes, contour-spans, shape-spans, Even}
 use Rattle.setfile.specs.Format.{Entry, contours-of, entries, shapes-of, file-length, file, parsed, read-contours}
 use Rattle.setfile.specs.Reading.{most-bytes}
-use Rattle.setfile.specs.Writing.{most-contours, most-points, Left}
+use Rattle.setfile.specs.Writing.{most-contours, most-points, Outcome}
 
 -- something holds of each element
 abbrev pub Each : {A : Type 0} → (A → Type 0) → List A → Type 0
@@ -62,7 +62,7 @@ abbrev pub file-of : List ℤ → List (List ℕ) → List (List ℕ) → List �
 file-of p cs ss = file (entries (shapes p (spans cs) (spans ss)))
 
 -- the file that was written, as far as the answer counts it
-abbrev pub written-file : Left → List ℕ
+abbrev pub written-file : Outcome → List ℕ
 written-file o = take (o .answer .bytes) (o .bytes)
 
 -- the points of the set that is read of a file

@@ -3,11 +3,10 @@ use mathlib.Core.List.{List, [], _∷_, _++_}
 use Prim.Native.Nat.{ℕ}
 use lib.Dec.{ltb}
 use lib.ListN.{length}
-use Rattle.grid.specs.Ladder.{Rung}
+use Rattle.replies.specs.Ladder.{Rung, so-far}
 use Rattle.grid.specs.Domain.{off}
-use Rattle.buffer.specs.Refusals.{told}
 use Rattle.buffer.specs.Sets.{joined, contour-spans, shape-spans}
-use Rattle.buffer.specs.Answers.{Left, stored}
+use Rattle.buffer.specs.Answers.{Outcome, stored}
 use lib.IntN.{ℤ}
 use Rattle.setfile.specs.Format.{Entry, contours-of, shapes-of, parsed, damage, read-contours}
 
@@ -21,13 +20,13 @@ long n = (ltb most-bytes n, 2) ∷ []
 
 -- the refusals of a file, in their order: 2, its damage (10, 9, 11), 3
 abbrev pub refusals : List ℕ → List Rung
-refusals f = long (length f) ++ told (damage (parsed f)) ++ off (joined (contours-of (read-contours (parsed f))))
+refusals f = long (length f) ++ so-far (damage (parsed f)) ++ off (joined (contours-of (read-contours (parsed f))))
 
 -- the set of these contours, in front of the rows
-abbrev pub put : List Rung → List Entry → List ℤ → List (List ℕ) → List (List ℕ) → Left
+abbrev pub put : List Rung → List Entry → List ℤ → List (List ℕ) → List (List ℕ) → Outcome
 put refusals l out contours shapes =
     stored refusals (joined (contours-of l)) (contour-spans (contours-of l)) (shape-spans (shapes-of l)) out contours shapes
 
 -- a file is refused, also for want of room, or its set is written to the front of the rows
-abbrev pub outcome : List ℕ → List ℤ → List (List ℕ) → List (List ℕ) → Left
+abbrev pub outcome : List ℕ → List ℤ → List (List ℕ) → List (List ℕ) → Outcome
 outcome f out contours shapes = put (refusals f) (read-contours (parsed f)) out contours shapes

@@ -5,13 +5,13 @@ use Prim.Native.Nat.{ℕ, zero, suc}
 use lib.Dec.{eqb, ltb, leb}
 use lib.ListN.{length}
 use lib.IntN.{ℤ}
-use Rattle.grid.specs.Ladder.{Rung, first-of}
+use Rattle.replies.specs.Ladder.{Rung, first-of, room}
 use Rattle.grid.specs.Domain.{count, size, off}
-use Rattle.grid.specs.Rows.{front}
+use Rattle.rows.specs.Rows.{front}
 use Rattle.buffer.specs.declared.ranges.Span.{Span}
 use Rattle.buffer.specs.Spans.{spans, sound, size as span-size}
 use Rattle.buffer.specs.Sets.{shapes}
-use Rattle.buffer.specs.Refusals.{unsound, room}
+use Rattle.buffer.specs.Refusals.{unsound}
 use Rattle.setfile.specs.declared.answer.Written.{Written}
 use Rattle.setfile.specs.Format.{entries, file, file-length}
 use Rattle.setfile.specs.Reading.{long}
@@ -46,20 +46,20 @@ refusals p cs ss =
     ++ off p ++ uncarried (spans cs) (spans ss)
 
 -- the answer, and the row of bytes as it is left
-pub record Left : Type 0 where
+pub record Outcome : Type 0 where
   pub answer : Written
   pub bytes : List ℕ
 
-abbrev pub left : ℕ → ℕ → List ℕ → Left
-left reply n bytes = record { answer = record { reply = reply; bytes = n }; bytes = bytes }
+abbrev pub leaving : ℕ → ℕ → List ℕ → Outcome
+leaving reply n bytes = record { answer = record { reply = reply; bytes = n }; bytes = bytes }
 
 -- by the number of the first refusal: refused, and the row as it was, or a file in front of it
-abbrev pub written : ℕ → List ℕ → List ℕ → Left
-written (suc k) f row = left (suc k) 0 row
-written zero f row = left 0 (length f) (front f row)
+abbrev pub written : ℕ → List ℕ → List ℕ → Outcome
+written (suc k) f row = leaving (suc k) 0 row
+written zero f row = leaving 0 (length f) (front f row)
 
 -- a set is refused, also for want of room, or its file is written to the front of the row
-unfoldable pub outcome : List ℤ → List (List ℕ) → List (List ℕ) → List ℕ → Left
+unfoldable pub outcome : List ℤ → List (List ℕ) → List (List ℕ) → List ℕ → Outcome
 outcome p cs ss row =
     written
     (first-of (refusals p cs ss ++ room (leb (file-length (length cs) (count p)) (length row))))

@@ -1,10 +1,6 @@
 // The set file: edition 1, read and written.
 pub mod answer;
-pub mod fields;
-mod filling;
-pub mod head;
-mod judging;
-pub mod putting;
+pub mod inner;
 mod reading;
 mod writing;
 

@@ -1,9 +1,9 @@
 // Reading a file into the rows of a set.
 ghost use mathlib.Core.Path.{_≡_};
-ghost use Rattle.buffer.specs.Answers.{left};
+ghost use Rattle.buffer.specs.Answers.{leaving};
 ghost use Rattle.setfile.specs.Reading.{outcome};
-use crate::filling;
-use crate::judging;
+use crate::inner::filling;
+use crate::inner::judging;
 use buffer::Packed;
 
 // Reads the set that a file carries to the front of the rows, or refuses it and leaves them.
@@ -14,7 +14,7 @@ pub fn read(
     groups: &mut [[usize; 2]],
 ) -> Packed
     ensures { λ r. ⌜
-        left r (now (out .exit)) (now (records .exit)) (now (groups .exit))
+        leaving r (now (out .exit)) (now (records .exit)) (now (groups .exit))
         ≡ outcome (now (bytes .entry)) (now (out .entry)) (now (records .entry)) (now (groups .entry))
         ⌝ }
 {
@@ -22,7 +22,7 @@ pub fn read(
     let room = (file.numbers <= out.len())
         & (file.contours <= records.len())
         & (file.shapes <= groups.len());
-    let first = buffer::refusal::or_room(file.reply, room);
+    let first = replies::or_room(file.reply, room);
     if first != 0 {
         return buffer::answer::refused(first);
     }
@@ -31,7 +31,7 @@ pub fn read(
     filling::contours(bytes, n, records);
     filling::shapes(bytes, n, groups);
     Packed {
-        reply: grid::reply::DONE,
+        reply: replies::DONE,
         points: file.numbers / 2,
         contours: n,
         shapes: file.shapes,

@@ -10,18 +10,19 @@ use Rattle.grid.specs.Domain.{count, Contour}
 use Rattle.ring.specs.declared.Rule.{Rule}
 use Rattle.buffer.specs.Spans.{rows, total, laid}
 use Rattle.buffer.specs.Sets.{joined, Even}
-use Rattle.buffer.specs.Rows.{placed}
-use Rattle.buffer.proofs.PlacedLaws.{placed-none, placed-long, placed-behind, set-placed}
+use Rattle.rows.specs.Rows.{placed}
+use Rattle.rows.proofs.PlacedLaws.{placed-none, placed-long, placed-behind, set-placed}
 use Rattle.buffer.proofs.PackLaws.{count-append}
 use Rattle.buffer.proofs.Theorems.{the-counts-add-up}
-use Rattle.sets.specs.declared.cleaning.Place.{Place}
+use Rattle.sets.specs.declared.inner.contour.Progress.{Progress}
 use Rattle.sets.specs.Fates.{Fate, fate, Stay, and-later, later, ShapeFate, behind, shape-fate}
 use Rattle.sets.specs.Fates.Fate.{stays, gone}
 use Rattle.sets.specs.Fates.ShapeFate.{stands, fallen}
-use Rattle.sets.specs.Inside.{Reached, reached, placing, run, Tested, tested, outline, run-shape, Room}
+use Rattle.sets.specs.inside.Contour.{Reached, reached, placing}
+use Rattle.sets.specs.inside.Shape.{run, Tested, tested, outline, run-shape, Room}
 use Rattle.sets.specs.Promises.{Contours}
 use Rattle.sets.proofs.FateLaws.{Smaller, fate-smaller}
-use Rattle.sets.proofs.PlaceLaws.{joined-more, room-rest}
+use Rattle.sets.proofs.BehindLaws.{same-reached, joined-more, room-rest}
 use Rattle.buffer.proofs.SetLaws.{joined-append}
 use Rattle.sets.proofs.LaidLaws.{points-even, rows-long, rows-laid}
 
@@ -29,31 +30,28 @@ use Rattle.sets.proofs.LaidLaws.{points-even, rows-long, rows-laid}
 abbrev pub after : Stay → Reached → Reached
 after t s =
     reached
-    (record { points = s .place .points + count (joined (t .contours)); contours = s .place .contours + length (t .contours); decisions = s .place .decisions + t .decisions })
-    (placed (2 * s .place .points) (joined (t .contours)) (s .points))
-    (placed (s .place .contours) (rows (laid (s .place .points) (map count (t .contours)))) (s .contours))
+    (record { points = s .progress .points + count (joined (t .contours)); contours = s .progress .contours + length (t .contours); decisions = s .progress .decisions + t .decisions })
+    (placed (2 * s .progress .points) (joined (t .contours)) (s .points))
+    (placed (s .progress .contours) (rows (laid (s .progress .points) (map count (t .contours)))) (s .contours))
 
-pub same-reached : {p q : Place} {a b : List ℤ} {k l : List (List ℕ)} → p ≡ q → a ≡ b → k ≡ l → reached p a k ≡ reached q b l
-same-reached e f g = cc
-
-pub same-place : {a b k l m n : ℕ} → a ≡ b → k ≡ l → m ≡ n → _≡_ {A = Place} (record { points = a; contours = k; decisions = m }) (record { points = b; contours = l; decisions = n })
-same-place e f g = cc
+pub same-progress : {a b k l m n : ℕ} → a ≡ b → k ≡ l → m ≡ n → _≡_ {A = Progress} (record { points = a; contours = k; decisions = m }) (record { points = b; contours = l; decisions = n })
+same-progress e f g = cc
 
 pub after-none : (s : Reached) → s ≡ after (record { contours = []; decisions = 0 }) s
 unfolding joined laid
-after-none s = same-reached (same-place (omega arith) (omega arith) (omega arith)) (sym (placed-none (s .points) (2 * s .place .points))) (sym (placed-none (s .contours) (s .place .contours)))
+after-none s = same-reached (same-progress (omega arith) (omega arith) (omega arith)) (sym (placed-none (s .points) (2 * s .progress .points))) (sym (placed-none (s .contours) (s .progress .contours)))
 
-pub after-first : (c : List ℤ) (w : Fate) → Smaller c w → (s : Reached) → 2 * s .place .points + length c ≤ length (s .points) → s .place .contours < length (s .contours)
+pub after-first : (c : List ℤ) (w : Fate) → Smaller c w → (s : Reached) → 2 * s .progress .points + length c ≤ length (s .points) → s .progress .contours < length (s .contours)
     → (t : Stay) → after t (placing w s) ≡ after (and-later w t) s
 unfolding joined laid
-after-first c (gone k) x s room space t = same-reached (same-place refl refl (omega arith)) refl refl
+after-first c (gone k) x s room space t = same-reached (same-progress refl refl (omega arith)) refl refl
 after-first c (stays d k) x s room space t =
     let j = length-append d (joined (t .contours)) in
     same-reached
-    (same-place (omega (arith, x .1)) (omega arith) (omega arith))
-    (placed-behind (s .points) (2 * s .place .points) d (joined (t .contours)) (2 * (s .place .points + count d)) (omega (arith, x .0)) (omega (arith, x .1)))
-    (ap (placed (s .place .contours + 1) (rows (laid (s .place .points + count d) (map count (t .contours))))) (set-placed (s .contours) (s .place .contours) _ space)
-    ∙ placed-behind (s .contours) (s .place .contours) (_ ∷ []) (rows (laid (s .place .points + count d) (map count (t .contours)))) (s .place .contours + 1) (omega arith) refl)
+    (same-progress (omega (arith, x .1)) (omega arith) (omega arith))
+    (placed-behind (s .points) (2 * s .progress .points) d (joined (t .contours)) (2 * (s .progress .points + count d)) (omega (arith, x .0)) (omega (arith, x .1)))
+    (ap (placed (s .progress .contours + 1) (rows (laid (s .progress .points + count d) (map count (t .contours))))) (set-placed (s .contours) (s .progress .contours) _ space)
+    ∙ placed-behind (s .contours) (s .progress .contours) (_ ∷ []) (rows (laid (s .progress .points + count d) (map count (t .contours)))) (s .progress .contours + 1) (omega arith) refl)
 
 -- ranges laid behind ranges
 pub laid-behind : (row : List (List ℕ)) (k m p q : ℕ) (a b : List ℕ) → k + length a ≤ length row → m ≡ k + length a → q ≡ p + total a
@@ -66,8 +64,8 @@ laid-behind row k m p q a b h e f =
 abbrev pub both : Stay → Stay → Stay
 both u t = record { contours = u .contours ++ t .contours; decisions = u .decisions + t .decisions }
 
-pub after-both : (u t : Stay) (s : Reached) → Even (u .contours) → 2 * s .place .points + length (joined (u .contours)) ≤ length (s .points)
-    → s .place .contours + length (u .contours) ≤ length (s .contours) → after t (after u s) ≡ after (both u t) s
+pub after-both : (u t : Stay) (s : Reached) → Even (u .contours) → 2 * s .progress .points + length (joined (u .contours)) ≤ length (s .points)
+    → s .progress .contours + length (u .contours) ≤ length (s .contours) → after t (after u s) ≡ after (both u t) s
 after-both u t s even room space =
     let a = u .contours in
     let b = t .contours in
@@ -77,29 +75,29 @@ after-both u t s even room space =
     let n : length (a ++ b) ≡ length a + length b = length-append a b in
     let m : length (map count a) ≡ length a = length-map a count in
     same-reached
-    (same-place (omega arith) (omega arith) (omega arith))
-    (placed-behind (s .points) (2 * s .place .points) (joined a) (joined b) (2 * (s .place .points + count (joined a))) room (omega arith) ∙ ap (λ (l : List ℤ). placed (2 * s .place .points) l (s .points)) (sym j))
-    (laid-behind (s .contours) (s .place .contours) (s .place .contours + length a) (s .place .points) (s .place .points + count (joined a)) (map count a) (map count b) (omega arith) (omega arith) (ap (λ (k : ℕ). s .place .points + k) (the-counts-add-up a even))
-    ∙ ap (λ (l : List ℕ). placed (s .place .contours) (rows (laid (s .place .points) l)) (s .contours)) (sym (map-append count a b)))
+    (same-progress (omega arith) (omega arith) (omega arith))
+    (placed-behind (s .points) (2 * s .progress .points) (joined a) (joined b) (2 * (s .progress .points + count (joined a))) room (omega arith) ∙ ap (λ (l : List ℤ). placed (2 * s .progress .points) l (s .points)) (sym j))
+    (laid-behind (s .contours) (s .progress .contours) (s .progress .contours + length a) (s .progress .points) (s .progress .points + count (joined a)) (map count a) (map count b) (omega arith) (omega arith) (ap (λ (k : ℕ). s .progress .points + k) (the-counts-add-up a even))
+    ∙ ap (λ (l : List ℕ). placed (s .progress .contours) (rows (laid (s .progress .points) l)) (s .contours)) (sym (map-append count a b)))
 
-pub placing-long : (c : List ℤ) (w : Fate) → Smaller c w → (s : Reached) → 2 * s .place .points + length c ≤ length (s .points)
+pub placing-long : (c : List ℤ) (w : Fate) → Smaller c w → (s : Reached) → 2 * s .progress .points + length c ≤ length (s .points)
     → (length (placing w s .points) ≡ length (s .points)) × (length (placing w s .contours) ≡ length (s .contours))
 placing-long c (gone k) x s room = (refl, refl)
-placing-long c (stays d k) x s room = (placed-long (s .points) (2 * s .place .points) d (omega (arith, x .0)), length-set (s .contours) (s .place .contours) _)
+placing-long c (stays d k) x s room = (placed-long (s .points) (2 * s .progress .points) d (omega (arith, x .0)), length-set (s .contours) (s .progress .contours) _)
 
 module _ (rule : Rule) where
-  pub room-next : (c : List ℤ) (l : List (List ℤ)) (s : Reached) → Contour c (count c) → Room (c ∷ l) (s .place) (s .points) (s .contours)
-      → let t = placing (fate rule c) s in Room l (t .place) (t .points) (t .contours)
+  pub room-next : (c : List ℤ) (l : List (List ℤ)) (s : Reached) → Contour c (count c) → Room (c ∷ l) (s .progress) (s .points) (s .contours)
+      → let t = placing (fate rule c) s in Room l (t .progress) (t .points) (t .contours)
   room-next c l s k r =
       let b = placing-long c (fate rule c) (fate-smaller rule c k) s (omega (arith, r .room, joined-more c l)) in
-      room-rest rule c l (s .place) (s .points) (s .contours) r k _ _ _ refl (b .0) (b .1)
+      room-rest rule c l (s .progress) (s .points) (s .contours) r k _ _ _ refl (b .0) (b .1)
 
-  first-after : (c : List ℤ) (l : List (List ℤ)) (s : Reached) → Contour c (count c) → Room (c ∷ l) (s .place) (s .points) (s .contours)
+  first-after : (c : List ℤ) (l : List (List ℤ)) (s : Reached) → Contour c (count c) → Room (c ∷ l) (s .progress) (s .points) (s .contours)
       → (t : Stay) → after t (placing (fate rule c) s) ≡ after (and-later (fate rule c) t) s
   first-after c l s k r t =
       after-first c (fate rule c) (fate-smaller rule c k) s (omega (arith, r .room, joined-more c l)) (omega (arith, r .space)) t
 
-  pub run-after : (l : List (List ℤ)) (s : Reached) → Contours l → Room l (s .place) (s .points) (s .contours) → run rule l s ≡ after (later rule l) s
+  pub run-after : (l : List (List ℤ)) (s : Reached) → Contours l → Room l (s .progress) (s .points) (s .contours) → run rule l s ≡ after (later rule l) s
   unfolding run later
   run-after [] s a r = after-none s
   run-after (c ∷ l) s a r = run-after l (placing (fate rule c) s) (a .1) (room-next c l s (a .0) r) ∙ first-after c l s (a .0) r (later rule l)
@@ -109,7 +107,7 @@ module _ (rule : Rule) where
   shaped (stands cs k) s = tested true (after (record { contours = cs; decisions = k }) s)
   shaped (fallen k) s = tested false (placing (gone k) s)
 
-  pub shape-after : (l : List (List ℤ)) (s : Reached) → Contours l → Room l (s .place) (s .points) (s .contours) → run-shape rule l s ≡ shaped (shape-fate rule l) s
+  pub shape-after : (l : List (List ℤ)) (s : Reached) → Contours l → Room l (s .progress) (s .points) (s .contours) → run-shape rule l s ≡ shaped (shape-fate rule l) s
   unfolding run-shape shape-fate
   shape-after [] s a r = ap (tested true) (after-none s)
   shape-after (c ∷ l) s a r = go (fate rule c) refl

@@ -1,10 +1,10 @@
 -- The area of a set, contour by contour.
 use mathlib.Core.Path.{_≡_, refl, sym, _∙_, ap}
 use mathlib.Core.Bool.{Bool, true, false, not}
-use mathlib.Core.List.{List, [], _∷_, _++_}
+use mathlib.Core.List.{List, [], _∷_}
 use Prim.Native.Nat.{ℕ, _+_, _%_, _<_, _≤_, _^_}
 use native.Mathlib.Omega.{arith}
-use lib.Dec.{T, eqb}
+use lib.Dec.{T}
 use lib.ListN.{length, getD, drop}
 use lib.IntN.{ℤ, pos, _+ℤ_, +ℤ-assoc, +ℤ-comm, +ℤ-idl, +ℤ-idr}
 use borrow.Author.Tests.{ne-eqb}
@@ -14,39 +14,17 @@ use Rattle.integers.specs.Modulo.{mod64}
 use Rattle.integers.proofs.Modulo.{mod64-add, wrap-add}
 use Rattle.grid.specs.Points.{points}
 use Rattle.grid.specs.Area.{wrapped, reported}
-use Rattle.grid.specs.Ladder.{Rung, first-of}
-use Rattle.grid.specs.Domain.{count, domain}
-use Rattle.grid.proofs.LadderLaws.{first-is, numbered, onward, clear, cleared}
-use Rattle.grid.proofs.LadderLaws.First.{here, past, foot}
+use Rattle.replies.specs.Ladder.{Rung, first-of, so-far}
+use Rattle.replies.proofs.LadderLaws.{first-is, numbered, onward, so-far-then}
+use Rattle.replies.proofs.LadderLaws.First.{here, past, foot}
 use Rattle.area.specs.declared.answer.Area.{Area}
 use Rattle.area.specs.Answers as A
-use Rattle.area.proofs.AnswerLaws.{reply-is, value-is, answer-refused, answer-half}
+use Rattle.area.proofs.AnswerLaws.{answer-refused, answer-half}
 use Rattle.buffer.specs.Spans.{span, spans}
 use Rattle.buffer.specs.Sets.{contour, contours}
-use Rattle.buffer.specs.Refusals.{told}
 use Rattle.sets.specs.Verdicts.{every}
 use Rattle.sets.specs.Area.{filled, empty, sum, reported-sum, area-refusals, doubled-by, half-by, half-of}
-use Rattle.sets.proofs.RefusalLaws.{told-then}
-use Rattle.sets.proofs.PartLaws.{next-part, no-part, Left, one-passes}
-
--- what a contour in the domain answers
-module _ (row : List ℤ) (r : Area) (e : r ≡ A.doubled row) (z : first-of (domain row) ≡ 0) where
-  pub part-empty : (r .reply ≡ 0 → ⊥) → filled row ≡ false
-  part-empty n = ap not (go (eqb (count row) 0) (λ f. n (reply-is row r e ∙ f)))
-    where
-      go : (b : Bool) → (first-of (domain row ++ (b, 8) ∷ []) ≡ 0 → ⊥) → b ≡ true
-      go true n = refl
-      go false n = absurd (n (sym (first-is (domain row ++ (false, 8) ∷ []) 0 (onward (domain row) _ 0 tt z (past refl foot)))))
-
-  module _ (f : r .reply ≡ 0) where
-    taken : first-of (A.refusals row) ≡ 0
-    taken = sym (reply-is row r e) ∙ f
-
-    pub part-filled : filled row ≡ true
-    part-filled = ap not (clear (A.empty row) tt (cleared (domain row) (A.empty row) tt taken .1) .0)
-
-    pub part-value : r .value ≡ reported (points row)
-    part-value = value-is row r e taken
+use Rattle.sets.proofs.PartLaws.{next-part, no-part, Rest, one-passes}
 
 -- a number's residue goes onto a sum
 added : (s b r : ℕ) (v t : ℤ) → b ≡ mod64 v → r ≡ (s + b) % 2 ^ 64 → mod64 (pos s +ℤ (v +ℤ t)) ≡ mod64 (pos r +ℤ t)
@@ -66,17 +44,17 @@ module _ (set : List (List ℤ)) where
 
   -- it was refused with the number k, or was not
   module _ (k : ℕ) where
-    pub set-refused : (k ≡ 0 → ⊥) → record { reply = k; value = pos 0 } ≡ doubled-by (told k) set
+    pub set-refused : (k ≡ 0 → ⊥) → record { reply = k; value = pos 0 } ≡ doubled-by (so-far k) set
     unfolding doubled-by
-    set-refused n = rw (← first-is (area-refusals (told k) set) k (here (ap not (ne-eqb k 0 n)))) (answer-refused k _ n)
+    set-refused n = rw (← first-is (area-refusals (so-far k) set) k (here (ap not (ne-eqb k 0 n)))) (answer-refused k _ n)
 
-    pub set-taken : k ≡ 0 → doubled-by [] set ≡ doubled-by (told k) set
+    pub set-taken : k ≡ 0 → doubled-by [] set ≡ doubled-by (so-far k) set
     unfolding doubled-by first-of
     set-taken z = rw z
 
-    pub set-doubled : (refusals : List Rung) → T (numbered refusals) → k ≡ first-of refusals → doubled-by (told k) set ≡ doubled-by refusals set
+    pub set-doubled : (refusals : List Rung) → T (numbered refusals) → k ≡ first-of refusals → doubled-by (so-far k) set ≡ doubled-by refusals set
     unfolding doubled-by
-    set-doubled refusals t e = ap (λ (r : ℕ). A.answer r (reported-sum set)) (told-then refusals (empty set) t k _ e refl)
+    set-doubled refusals t e = ap (λ (r : ℕ). A.answer r (reported-sum set)) (so-far-then refusals (empty set) t k _ e refl)
 
   pub set-half : (refusals : List Rung) → half-of (doubled-by refusals set) ≡ half-by refusals set
   unfolding doubled-by half-by
@@ -90,7 +68,7 @@ module _ (p : List ℤ) (cs : List (List ℕ)) where
   pub record Gathered (s i : ℕ) : Type 0 where
     pub within : i ≤ length cs
     pub small : s < 2 ^ 64
-    pub left : Left filled p cs 0 i
+    pub left : Rest filled p cs 0 i
     pub is : mod64 (sum set) ≡ mod64 (pos s +ℤ sum (drop i set))
 
   pub gathered-none : Gathered 0 0

@@ -5,12 +5,13 @@ use mathlib.Core.List.{List, [], _∷_, _++_}
 use Prim.Native.Nat.{ℕ}
 use lib.IntN.{ℤ, pos, negsuc}
 use Rattle.integers.specs.Modulo.{mod64}
-use Rattle.grid.specs.declared.Verdict.{Verdict}
+use Rattle.replies.specs.declared.Verdict.{Verdict}
 use Rattle.grid.specs.Limits.{limit, most, on-grid, all-on-grid}
-use Rattle.grid.specs.Points.{points, bend, reverses}
+use Rattle.grid.specs.Points.{points}
+use Rattle.grid.specs.Edges.{cross, dot}
 use Rattle.grid.specs.Corners.{last, differing, distinct-neighbours, corners-from, corners, some}
 use Rattle.grid.specs.Area.{around, exact, wrapped}
-use Rattle.grid.specs.Ladder.{first-of}
+use Rattle.replies.specs.Ladder.{first-of}
 use Rattle.grid.specs.Cases.{row, W3, W11}
 use Rattle.path.specs.Contains.{crosses, odd, contained}
 use Rattle.clean.specs.Verdicts.{is-simple, no-spike-left, no-spikes}
@@ -48,7 +49,7 @@ of-two :
     (simple (W3 ++ W3) (0 to 3 ∷ 3 to 6 ∷ []) ≡ answered true)
     × (simple (W3 ++ straight) (0 to 3 ∷ 3 to 7 ∷ []) ≡ answered false)
     × (spike-free (W3 ++ straight) (0 to 3 ∷ 3 to 7 ∷ []) ≡ answered true)
-unfolding limit most on-grid all-on-grid points bend reverses last differing distinct-neighbours corners-from corners some first-of sound-from is-simple no-spike-left no-spikes every verdict-by
+unfolding limit most on-grid all-on-grid points cross dot last differing distinct-neighbours corners-from corners some first-of sound-from is-simple no-spike-left no-spikes every verdict-by
 of-two = (refl, refl, refl)
 
 -- points without ranges
@@ -62,14 +63,14 @@ areas :
     × (doubled (W3 ++ W3) (0 to 3 ∷ 3 to 6 ∷ []) ≡ record { reply = 0; value = pos 32 })
     × (half W11 (0 to 3 ∷ []) ≡ record { reply = 0; value = pos 0 })
     × (half (row (0 ∷ 0 ∷ 0 ∷ 3 ∷ 1 ∷ 0 ∷ [])) (0 to 3 ∷ []) ≡ record { reply = 0; value = negsuc 0 })
-unfolding mod64 limit most on-grid all-on-grid points around exact wrapped first-of sound-from every sum doubled-by half-by
+unfolding mod64 limit most on-grid all-on-grid points cross around exact wrapped first-of sound-from every sum doubled-by half-by
 areas = (refl, refl, refl, refl)
 
 -- an empty contour anywhere
 empties :
     (doubled W3 (0 to 3 ∷ 3 to 3 ∷ []) ≡ record { reply = 8; value = pos 0 })
     × (half W3 (0 to 0 ∷ 0 to 3 ∷ []) ≡ record { reply = 8; value = pos 0 })
-unfolding mod64 limit most on-grid all-on-grid points around exact wrapped first-of sound-from every sum doubled-by half-by
+unfolding mod64 limit most on-grid all-on-grid points cross around exact wrapped first-of sound-from every sum doubled-by half-by
 empties = (refl, refl)
 
 -- a shape set whose contour ranges or shape ranges are lost, or run past the contours, is refused; its contours alone are not
@@ -81,7 +82,7 @@ lost :
     × (shapes-doubled W3 (0 to 3 ∷ []) [] ≡ record { reply = 6; value = pos 0 })
     × (shapes-half W3 (0 to 3 ∷ []) (5 to 99 ∷ []) ≡ record { reply = 6; value = pos 0 })
     × (doubled W3 (0 to 3 ∷ []) ≡ record { reply = 0; value = pos 16 })
-unfolding mod64 limit most on-grid all-on-grid points around exact wrapped bend reverses last differing distinct-neighbours corners-from corners some first-of sound-from is-simple no-spike-left no-spikes every verdict-by sum doubled-by half-by
+unfolding mod64 limit most on-grid all-on-grid points around exact wrapped cross dot last differing distinct-neighbours corners-from corners some first-of sound-from is-simple no-spike-left no-spikes every verdict-by sum doubled-by half-by
 lost = (refl, refl, refl, refl, refl, refl, refl)
 
 -- a shape set is judged by its contours: two shapes, an empty one between them; an empty contour anywhere is 8, behind 3
@@ -93,7 +94,7 @@ of-shapes :
     × (shapes-half W11 (0 to 3 ∷ []) (0 to 1 ∷ []) ≡ record { reply = 0; value = pos 0 })
     × (shapes-doubled W3 (0 to 3 ∷ 3 to 3 ∷ []) (0 to 1 ∷ 1 to 2 ∷ []) ≡ record { reply = 8; value = pos 0 })
     × (shapes-half (row (0 ∷ 536870913 ∷ [])) (0 to 1 ∷ 1 to 1 ∷ []) (0 to 2 ∷ []) ≡ record { reply = 3; value = pos 0 })
-unfolding mod64 limit most on-grid all-on-grid points around exact wrapped bend reverses last differing distinct-neighbours corners-from corners some first-of sound-from is-simple no-spike-left no-spikes every verdict-by sum doubled-by half-by
+unfolding mod64 limit most on-grid all-on-grid points around exact wrapped cross dot last differing distinct-neighbours corners-from corners some first-of sound-from is-simple no-spike-left no-spikes every verdict-by sum doubled-by half-by
 of-shapes = (refl, refl, refl, refl, refl, refl, refl)
 
 -- a square with a square hole

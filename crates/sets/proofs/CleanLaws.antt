@@ -1,6 +1,6 @@
 -- What cleaning a shape, and cleaning shapes, comes to.
 use mathlib.Core.Path.{_≡_, refl, sym, _∙_, ap}
-use mathlib.Core.Bool.{Bool, true, false, not, _&&_, true≢false, and-true}
+use mathlib.Core.Bool.{Bool, true, false, not, _&&_, and-true}
 use mathlib.Core.List.{List, [], _++_, map}
 use Prim.Native.Nat.{ℕ, zero, suc, _*_, _≤_, _<_, _^_}
 use native.Mathlib.Omega.{arith}
@@ -8,35 +8,38 @@ use lib.Dec.{leb}
 use lib.IntN.{ℤ}
 use lib.ListN.{length, take, drop, replicate, length-replicate, length-map}
 use lib.Seq.{length-take-le}
-use borrow.Author.Tests.{ltb-false, leb-true, le-leb, not-false}
+use borrow.Author.Tests.{ltb-false, leb-true, le-leb, not-true, not-false}
 use Rattle.integers.proofs.Logic.{and-left, and-right}
-use Rattle.grid.specs.Ladder.{Rung, first-of}
+use Rattle.replies.specs.Ladder.{Rung, first-of, room, so-far}
 use Rattle.grid.specs.Domain.{count}
-use Rattle.grid.proofs.LadderLaws.{clear, cleared}
+use Rattle.replies.proofs.LadderLaws.{clear, cleared, so-far-then}
 use Rattle.ring.specs.declared.Rule.{Rule}
-use Rattle.clean.specs.Outcome.{scratch, zeroed}
+use Rattle.clean.specs.Outcome.{scratch}
+use Rattle.rows.specs.Rows.{zeroed}
 use Rattle.buffer.specs.Spans.{span, spans, rows, laid, sound}
 use Rattle.buffer.specs.Sets.{cut, joined, contour, contours, shapes}
-use Rattle.buffer.specs.Refusals.{room, told, set}
+use Rattle.buffer.specs.Refusals.{set}
 use Rattle.buffer.proofs.SpanLaws.{range-within}
 use Rattle.buffer.proofs.RefusalLaws.{Accepted, accepted}
-use Rattle.buffer.proofs.RowLaws.{placed-front}
+use Rattle.rows.proofs.RowLaws.{placed-front}
 use Rattle.buffer.proofs.Theorems.{a-sound-set's-contours-laid-end-to-end-are-its-points, a-sound-set's-shapes-laid-end-to-end-are-its-contours}
 use Rattle.sets.specs.declared.cleaning.CleanedSet.{CleanedSet}
-use Rattle.sets.specs.declared.cleaning.Tried.{Tried}
-use Rattle.sets.specs.declared.cleaning.Total.{Total}
+use Rattle.sets.specs.declared.inner.contour.Progress.{Progress}
+use Rattle.sets.specs.declared.inner.contour.Tried.{Tried}
+use Rattle.sets.specs.declared.inner.shapes.Total.{Total}
 use Rattle.sets.specs.Fates.{ShapeFate, shape-fate, shapes-fate}
 use Rattle.sets.specs.Fates.ShapeFate.{stands, fallen}
-use Rattle.sets.specs.Outcome.{answer, Lent, Left, lent, left, enough, lacking, outcome, shape-left, shape-outcome, shapes-outcome}
-use Rattle.sets.specs.Inside.{reached, Tested, tested, run-shape, Grouped, grouped, run-shapes, first-place, Zeroed, Scratch, Room, Named, Going, Each}
-use Rattle.sets.proofs.RefusalLaws.{told-then}
-use Rattle.sets.proofs.PlaceLaws.{accepted-named, all-named, all-cut}
+use Rattle.sets.specs.Outcome.{answer, Lent, Outcome, lent, leaving, enough, lacking, outcome, shape-left, shape-outcome, shapes-outcome}
+use Rattle.sets.specs.inside.Contour.{reached, none-yet, Scratch}
+use Rattle.sets.specs.inside.Shape.{Tested, tested, run-shape, Zeroed, Room, Named, Going, shape-answer}
+use Rattle.sets.specs.inside.Shapes.{Grouped, grouped, run-shapes, Each}
+use Rattle.sets.proofs.BehindLaws.{accepted-named, all-named, all-cut}
 use Rattle.sets.proofs.AfterLaws.{shaped, shape-after}
 use Rattle.sets.proofs.ShapesLaws.{among, shapes-after}
 
 -- the parts of an outcome
 pub same-left : {a b : CleanedSet} {n m p q k l : List ℕ} {o u : List ℤ} {c d s t : List (List ℕ)} → a ≡ b → n ≡ m → p ≡ q → k ≡ l → o ≡ u → c ≡ d → s ≡ t
-    → left a (lent n p k o c s) ≡ left b (lent m q l u d t)
+    → leaving a (lent n p k o c s) ≡ leaving b (lent m q l u d t)
 same-left e f g h i j k = cc
 
 -- the scratch of n points, zeroed and put back
@@ -45,20 +48,36 @@ zeroed-back n row row′ h e =
     let m : length {A = ℕ} (replicate n 0) ≡ n = length-replicate n 0 in
     rw (e, length-take-le n row h, m)
 
+-- the scratch is zeroed as long as it was
+pub zeroed-whole : {next prev mark next₁ prev₁ mark₁ next₂ prev₂ mark₂ : List ℕ} → Zeroed next₁ prev₁ mark₁ next₂ prev₂ mark₂
+    → length next₁ ≡ length next → length prev₁ ≡ length prev → length mark₁ ≡ length mark → Zeroed next prev mark next₂ prev₂ mark₂
+zeroed-whole z e f g = record {
+  next-zero = z .next-zero ∙ ap (λ (n : ℕ). replicate n 0) e;
+  prev-zero = z .prev-zero ∙ ap (λ (n : ℕ). replicate n 0) f;
+  mark-zero = z .mark-zero ∙ ap (λ (n : ℕ). replicate n 0) g;
+}
+
+-- the answer of a shape, by whether it stands
+pub answered-fallen : (b : Bool) (at : Progress) (a : CleanedSet) → a ≡ answer 7 0 0 0 (at .decisions) → not b ≡ true → a ≡ shape-answer b at
+answered-fallen b at a e n = e ∙ ap (λ (t : Bool). shape-answer t at) (sym (not-true b n))
+
+pub answered-kept : (b : Bool) (at : Progress) → not b ≡ false → answer 0 (at .points) (at .contours) 1 (at .decisions) ≡ shape-answer b at
+answered-kept b at n = ap (λ (t : Bool). shape-answer t at) (sym (not-false b n))
+
 -- a set and the rows that are lent; its ranges are sound, or not
 module _ (p : List ℤ) (cs ss : List (List ℕ)) (ok : Bool) (l : Lent) where
   abbrev pub rungs : List Rung
   rungs = set p ok ++ lacking p cs ss l
 
   pub first-refusal : (asked : ℕ) (roomy : Bool) (r : ℕ) → asked ≡ first-of (set p ok) → roomy ≡ enough p cs ss l
-      → r ≡ first-of (told asked ++ (scratch (count p) (length (l .next)) (length (l .prev)) (length (l .mark)) ++ room roomy)) → r ≡ first-of rungs
+      → r ≡ first-of (so-far asked ++ (scratch (count p) (length (l .next)) (length (l .prev)) (length (l .mark)) ++ room roomy)) → r ≡ first-of rungs
   first-refusal asked roomy r e f g =
-      told-then (set p ok) _ tt asked r e
-      (g ∙ ap (λ (b : Bool). first-of (told asked ++ (scratch (count p) (length (l .next)) (length (l .prev)) (length (l .mark)) ++ room b))) f)
+      so-far-then (set p ok) _ tt asked r e
+      (g ∙ ap (λ (b : Bool). first-of (so-far asked ++ (scratch (count p) (length (l .next)) (length (l .prev)) (length (l .mark)) ++ room b))) f)
 
-  pub refused : (done : Left) (r : ℕ) → r ≡ first-of rungs → (r ≡ 0 → ⊥) → (a : CleanedSet) → a ≡ answer r 0 0 0 0 → left a l ≡ outcome (first-of rungs) l done
+  pub refused : (done : Outcome) (r : ℕ) → r ≡ first-of rungs → (r ≡ 0 → ⊥) → (a : CleanedSet) → a ≡ answer r 0 0 0 0 → leaving a l ≡ outcome (first-of rungs) l done
   refused done zero e n a f = absurd (n refl)
-  refused done (suc k) e n a f = ap (λ (b : CleanedSet). left b l) f ∙ ap (λ (r : ℕ). outcome r l done) e
+  refused done (suc k) e n a f = ap (λ (b : CleanedSet). leaving b l) f ∙ ap (λ (r : ℕ). outcome r l done) e
 
   module _ (z : first-of rungs ≡ 0) where
     parts : (first-of (set p ok) ≡ 0) × (first-of (lacking p cs ss l) ≡ 0)
@@ -93,8 +112,8 @@ module _ (p : List ℤ) (cs ss : List (List ℕ)) (ok : Bool) (l : Lent) where
 
     pub swept-back : (next′ prev′ mark′ : List ℕ) → Zeroed (take (count p) (l .next)) (take (count p) (l .prev)) (take (count p) (l .mark)) next′ prev′ mark′
         → (a b : CleanedSet) → a ≡ b → (o u : List ℤ) → o ≡ u → (c d : List (List ℕ)) → c ≡ d → (s t : List (List ℕ)) → s ≡ t
-        → left a (lent (next′ ++ drop (count p) (l .next)) (prev′ ++ drop (count p) (l .prev)) (mark′ ++ drop (count p) (l .mark)) o c s)
-        ≡ left b (lent (zeroed (count p) (l .next)) (zeroed (count p) (l .prev)) (zeroed (count p) (l .mark)) u d t)
+        → leaving a (lent (next′ ++ drop (count p) (l .next)) (prev′ ++ drop (count p) (l .prev)) (mark′ ++ drop (count p) (l .mark)) o c s)
+        ≡ leaving b (lent (zeroed (count p) (l .next)) (zeroed (count p) (l .prev)) (zeroed (count p) (l .mark)) u d t)
     swept-back next′ prev′ mark′ y a b e o u f c d g s t h =
         let x = scratch-fits in
         same-left e
@@ -107,7 +126,7 @@ module _ (p : List ℤ) (cs ss : List (List ℕ)) (ok : Bool) (l : Lent) where
       pub set-named : Named p cs
       set-named = accepted-named p cs ok set-accepted s
 
-      pub set-room : length cs * 16 < 2 ^ 64 → Room (contours p (spans cs)) first-place (l .points) (l .contours)
+      pub set-room : length cs * 16 < 2 ^ 64 → Room (contours p (spans cs)) none-yet (l .points) (l .contours)
       unfolding Rattle.grid.specs.Limits.most
       set-room few =
           let a = set-accepted in
@@ -129,12 +148,12 @@ module _ (p : List ℤ) (cs : List (List ℕ)) (l : Lent) where
   shape-rungs = rungs p cs [] contours-sound l
 
   pub shape-first : (asked : ℕ) (roomy : Bool) (r : ℕ) → asked ≡ first-of (set p contours-sound) → roomy ≡ (leb (length p) (length (l .points)) && leb (length cs) (length (l .contours)))
-      → r ≡ first-of (told asked ++ (scratch (count p) (length (l .next)) (length (l .prev)) (length (l .mark)) ++ room roomy)) → r ≡ first-of shape-rungs
+      → r ≡ first-of (so-far asked ++ (scratch (count p) (length (l .next)) (length (l .prev)) (length (l .mark)) ++ room roomy)) → r ≡ first-of shape-rungs
   shape-first asked roomy r e f g =
       let n : leb 0 (length (l .shapes)) ≡ true = le-leb 0 (length (l .shapes)) (omega arith) in
       first-refusal p cs [] contours-sound l asked roomy r e (f ∙ rw n (sym (and-true _))) g
 
-  pub shape-refused : (rule : Rule) (r : ℕ) → r ≡ first-of shape-rungs → (r ≡ 0 → ⊥) → (a : CleanedSet) → a ≡ answer r 0 0 0 0 → left a l ≡ shape-outcome rule p cs l
+  pub shape-refused : (rule : Rule) (r : ℕ) → r ≡ first-of shape-rungs → (r ≡ 0 → ⊥) → (a : CleanedSet) → a ≡ answer r 0 0 0 0 → leaving a l ≡ shape-outcome rule p cs l
   unfolding shape-outcome
   shape-refused rule r e n a f = refused p cs [] contours-sound l _ r e n a f
 
@@ -142,47 +161,41 @@ module _ (p : List ℤ) (cs : List (List ℕ)) (l : Lent) where
     named : Named p cs
     named = set-named p cs [] contours-sound l z (set-accepted p cs [] contours-sound l z .sound)
 
-    shape-room : Room (contours p (spans cs)) first-place (l .points) (l .contours)
+    shape-room : Room (contours p (spans cs)) none-yet (l .points) (l .contours)
     shape-room = set-room p cs [] contours-sound l z (set-accepted p cs [] contours-sound l z .sound) few
 
-    pub shape-going : Going p cs first-place (take (count p) (l .next)) (take (count p) (l .prev)) (take (count p) (l .mark)) (l .points) (l .contours)
+    pub shape-going : Going p cs none-yet (take (count p) (l .next)) (take (count p) (l .prev)) (take (count p) (l .mark)) (l .points) (l .contours)
     shape-going = record { named = named; scratch = part-fits p cs [] contours-sound l z; room = shape-room }
 
     module _ (rule : Rule) (t : Tried) (next′ prev′ mark′ : List ℕ) (out′ : List ℤ) (records′ : List (List ℕ))
-        (e : tested (t .stays) (reached (t .place) out′ records′) ≡ run-shape rule (contours p (spans cs)) (reached first-place (l .points) (l .contours)))
+        (e : tested (t .stays) (reached (t .progress) out′ records′) ≡ run-shape rule (contours p (spans cs)) (reached none-yet (l .points) (l .contours)))
         (s : Zeroed (take (count p) (l .next)) (take (count p) (l .prev)) (take (count p) (l .mark)) next′ prev′ mark′) where
-      abbrev left-so : CleanedSet → Left
-      left-so a = left a (lent (next′ ++ drop (count p) (l .next)) (prev′ ++ drop (count p) (l .prev)) (mark′ ++ drop (count p) (l .mark)) out′ records′ (l .shapes))
+      abbrev left-so : CleanedSet → Outcome
+      left-so a = leaving a (lent (next′ ++ drop (count p) (l .next)) (prev′ ++ drop (count p) (l .prev)) (mark′ ++ drop (count p) (l .mark)) out′ records′ (l .shapes))
 
       done : shape-outcome rule p cs l ≡ shape-left (count p) (shape-fate rule (contours p (spans cs))) l
       unfolding shape-outcome
       done = rw (z, shape-outcome)
 
-      cleaned : tested (t .stays) (reached (t .place) out′ records′) ≡ shaped rule (shape-fate rule (contours p (spans cs))) (reached first-place (l .points) (l .contours))
-      cleaned = e ∙ shape-after rule (contours p (spans cs)) (reached first-place (l .points) (l .contours)) (all-named p cs named) shape-room
+      cleaned : tested (t .stays) (reached (t .progress) out′ records′) ≡ shaped rule (shape-fate rule (contours p (spans cs))) (reached none-yet (l .points) (l .contours))
+      cleaned = e ∙ shape-after rule (contours p (spans cs)) (reached none-yet (l .points) (l .contours)) (all-named p cs named) shape-room
 
-      pub shape-is-fallen : not (t .stays) ≡ true → (a : CleanedSet) → a ≡ answer 7 0 0 0 (t .place .decisions) → left-so a ≡ shape-outcome rule p cs l
-      shape-is-fallen n a f = go (shape-fate rule (contours p (spans cs))) cleaned ∙ sym done
+      pub shape-is-done : (a : CleanedSet) → a ≡ shape-answer (t .stays) (t .progress) → left-so a ≡ shape-outcome rule p cs l
+      shape-is-done a f = go (shape-fate rule (contours p (spans cs))) cleaned ∙ sym done
         where
-          go : (w : ShapeFate) → tested (t .stays) (reached (t .place) out′ records′) ≡ shaped rule w (reached first-place (l .points) (l .contours)) → left-so a ≡ shape-left (count p) w l
-          go (stands ds k) q = absurd (true≢false (sym n ∙ ap (λ (x : Tested). not (x .stands)) q))
+          go : (w : ShapeFate) → tested (t .stays) (reached (t .progress) out′ records′) ≡ shaped rule w (reached none-yet (l .points) (l .contours)) → left-so a ≡ shape-left (count p) w l
           go (fallen k) q =
-              let d : t .place .decisions ≡ k = ap (λ (x : Tested). x .reached .place .decisions) q ∙ omega arith in
-              swept-back p cs [] contours-sound l z next′ prev′ mark′ s _ _ (f ∙ ap (answer 7 0 0 0) d)
+              let d : t .progress .decisions ≡ k = ap (λ (x : Tested). x .reached .progress .decisions) q ∙ omega arith in
+              let e : a ≡ answer 7 0 0 0 k = f ∙ ap (λ (b : Bool). shape-answer b (t .progress)) (ap (λ (x : Tested). x .stands) q) ∙ ap (answer 7 0 0 0) d in
+              swept-back p cs [] contours-sound l z next′ prev′ mark′ s _ _ e
               _ _ (ap (λ (x : Tested). x .reached .points) q) _ _ (ap (λ (x : Tested). x .reached .contours) q) _ _ refl
-
-      pub shape-is-kept : not (t .stays) ≡ false → left-so (answer 0 (t .place .points) (t .place .contours) 1 (t .place .decisions)) ≡ shape-outcome rule p cs l
-      shape-is-kept n = go (shape-fate rule (contours p (spans cs))) cleaned ∙ sym done
-        where
-          go : (w : ShapeFate) → tested (t .stays) (reached (t .place) out′ records′) ≡ shaped rule w (reached first-place (l .points) (l .contours))
-              → left-so (answer 0 (t .place .points) (t .place .contours) 1 (t .place .decisions)) ≡ shape-left (count p) w l
-          go (fallen k) q = absurd (true≢false (sym (ap (λ (x : Tested). not (x .stands)) q) ∙ n))
           go (stands ds k) q =
-              let a : t .place .points ≡ count (joined ds) = ap (λ (x : Tested). x .reached .place .points) q ∙ omega arith in
-              let b : t .place .contours ≡ length ds = ap (λ (x : Tested). x .reached .place .contours) q ∙ omega arith in
-              let d : t .place .decisions ≡ k = ap (λ (x : Tested). x .reached .place .decisions) q ∙ omega arith in
-              let f : _≡_ {A = CleanedSet} (answer 0 (t .place .points) (t .place .contours) 1 (t .place .decisions)) (answer 0 (count (joined ds)) (length ds) 1 k) = cc in
-              swept-back p cs [] contours-sound l z next′ prev′ mark′ s _ _ f
+              let points-are : t .progress .points ≡ count (joined ds) = ap (λ (x : Tested). x .reached .progress .points) q ∙ omega arith in
+              let contours-are : t .progress .contours ≡ length ds = ap (λ (x : Tested). x .reached .progress .contours) q ∙ omega arith in
+              let d : t .progress .decisions ≡ k = ap (λ (x : Tested). x .reached .progress .decisions) q ∙ omega arith in
+              let kept : _≡_ {A = CleanedSet} (answer 0 (t .progress .points) (t .progress .contours) 1 (t .progress .decisions)) (answer 0 (count (joined ds)) (length ds) 1 k) = cc in
+              let e : a ≡ answer 0 (count (joined ds)) (length ds) 1 k = f ∙ ap (λ (b : Bool). shape-answer b (t .progress)) (ap (λ (x : Tested). x .stands) q) ∙ kept in
+              swept-back p cs [] contours-sound l z next′ prev′ mark′ s _ _ e
               _ _ (ap (λ (x : Tested). x .reached .points) q ∙ placed-front (l .points) (joined ds))
               _ _ (ap (λ (x : Tested). x .reached .contours) q ∙ placed-front (l .contours) (rows (laid 0 (map count ds)))) _ _ refl
 
@@ -195,10 +208,10 @@ module _ (p : List ℤ) (cs ss : List (List ℕ)) (l : Lent) where
   shapes-rungs = rungs p cs ss both-sound l
 
   pub shapes-first : (asked : ℕ) (roomy : Bool) (r : ℕ) → asked ≡ first-of (set p both-sound) → roomy ≡ enough p cs ss l
-      → r ≡ first-of (told asked ++ (scratch (count p) (length (l .next)) (length (l .prev)) (length (l .mark)) ++ room roomy)) → r ≡ first-of shapes-rungs
+      → r ≡ first-of (so-far asked ++ (scratch (count p) (length (l .next)) (length (l .prev)) (length (l .mark)) ++ room roomy)) → r ≡ first-of shapes-rungs
   shapes-first = first-refusal p cs ss both-sound l
 
-  pub shapes-refused : (rule : Rule) (r : ℕ) → r ≡ first-of shapes-rungs → (r ≡ 0 → ⊥) → (a : CleanedSet) → a ≡ answer r 0 0 0 0 → left a l ≡ shapes-outcome rule p cs ss l
+  pub shapes-refused : (rule : Rule) (r : ℕ) → r ≡ first-of shapes-rungs → (r ≡ 0 → ⊥) → (a : CleanedSet) → a ≡ answer r 0 0 0 0 → leaving a l ≡ shapes-outcome rule p cs ss l
   unfolding shapes-outcome
   shapes-refused rule r e n a f = refused p cs ss both-sound l _ r e n a f
 
@@ -208,7 +221,7 @@ module _ (p : List ℤ) (cs ss : List (List ℕ)) (l : Lent) where
         let a = set-accepted p cs ss both-sound l z .sound in
         (and-left (sound (spans cs) (count p)) _ a, and-right (sound (spans cs) (count p)) _ a)
 
-    all-room : Room (joined (shapes p (spans cs) (spans ss))) first-place (l .points) (l .contours)
+    all-room : Room (joined (shapes p (spans cs) (spans ss))) none-yet (l .points) (l .contours)
     all-room =
         let n : sound (spans ss) (length (spans cs)) ≡ true = ap (sound (spans ss)) (length-map cs span) ∙ ranges-sound .1 in
         let e = a-sound-set's-shapes-laid-end-to-end-are-its-contours p (spans cs) (spans ss) (set-accepted p cs ss both-sound l z .even) (ranges-sound .0) n in
@@ -218,32 +231,33 @@ module _ (p : List ℤ) (cs ss : List (List ℕ)) (l : Lent) where
     shapes-each = record {
       named = set-named p cs ss both-sound l z (ranges-sound .0);
       scratch = part-fits p cs ss both-sound l z;
-      within = λ k h. let w = range-within ss (length cs) k (ranges-sound .1) h in (w .forward, w .ends);
+      within = λ k h. let w = range-within ss (length cs) k (ranges-sound .1) h in record { forward = w .forward; ends = w .ends };
       room = all-room;
       space = output-fits p cs ss both-sound l z .2;
       narrow = less;
     }
 
     pub shapes-are-kept : (rule : Rule) (t : Total) (next′ prev′ mark′ : List ℕ) (out′ : List ℤ) (records′ groups′ : List (List ℕ))
-        → grouped (t .shapes) (reached (t .place) out′ records′) groups′ ≡ run-shapes rule (shapes p (spans cs) (spans ss)) (grouped 0 (reached first-place (l .points) (l .contours)) (l .shapes))
+        → grouped (t .shapes) (reached (t .progress) out′ records′) groups′ ≡ run-shapes rule (shapes p (spans cs) (spans ss)) (grouped 0 (reached none-yet (l .points) (l .contours)) (l .shapes))
         → Zeroed (take (count p) (l .next)) (take (count p) (l .prev)) (take (count p) (l .mark)) next′ prev′ mark′
-        → left (answer 0 (t .place .points) (t .place .contours) (t .shapes) (t .place .decisions))
+        → (w : CleanedSet) → w ≡ answer 0 (t .progress .points) (t .progress .contours) (t .shapes) (t .progress .decisions)
+        → leaving w
         (lent (next′ ++ drop (count p) (l .next)) (prev′ ++ drop (count p) (l .prev)) (mark′ ++ drop (count p) (l .mark)) out′ records′ groups′)
         ≡ shapes-outcome rule p cs ss l
     unfolding shapes-outcome
-    shapes-are-kept rule t next′ prev′ mark′ out′ records′ groups′ e s =
+    shapes-are-kept rule t next′ prev′ mark′ out′ records′ groups′ e s w so-far =
         let all = shapes p (spans cs) (spans ss) in
         let ds = shapes-fate rule all .shapes in
-        let start = grouped 0 (reached first-place (l .points) (l .contours)) (l .shapes) in
+        let start = grouped 0 (reached none-yet (l .points) (l .contours)) (l .shapes) in
         let n : length all ≡ length ss = length-map (spans ss) (cut (contours p (spans cs))) ∙ length-map ss span in
-        let q : grouped (t .shapes) (reached (t .place) out′ records′) groups′ ≡ among (shapes-fate rule all) start =
+        let q : grouped (t .shapes) (reached (t .progress) out′ records′) groups′ ≡ among (shapes-fate rule all) start =
         e ∙ shapes-after rule all start (all-cut (contours p (spans cs)) (spans ss) (all-named p cs (shapes-each .named))) all-room (omega (arith, shapes-each .space)) in
-        let a : t .place .points ≡ count (joined (joined ds)) = ap (λ (x : Grouped). x .reached .place .points) q ∙ omega arith in
-        let b : t .place .contours ≡ length (joined ds) = ap (λ (x : Grouped). x .reached .place .contours) q ∙ omega arith in
+        let a : t .progress .points ≡ count (joined (joined ds)) = ap (λ (x : Grouped). x .reached .progress .points) q ∙ omega arith in
+        let b : t .progress .contours ≡ length (joined ds) = ap (λ (x : Grouped). x .reached .progress .contours) q ∙ omega arith in
         let c : t .shapes ≡ length ds = ap (λ (x : Grouped). x .count) q ∙ omega arith in
-        let d : t .place .decisions ≡ shapes-fate rule all .decisions = ap (λ (x : Grouped). x .reached .place .decisions) q ∙ omega arith in
-        let f : _≡_ {A = CleanedSet} (answer 0 (t .place .points) (t .place .contours) (t .shapes) (t .place .decisions)) (answer 0 (count (joined (joined ds))) (length (joined ds)) (length ds) (shapes-fate rule all .decisions)) = cc in
-        swept-back p cs ss both-sound l z next′ prev′ mark′ s _ _ f
+        let d : t .progress .decisions ≡ shapes-fate rule all .decisions = ap (λ (x : Grouped). x .reached .progress .decisions) q ∙ omega arith in
+        let f : _≡_ {A = CleanedSet} (answer 0 (t .progress .points) (t .progress .contours) (t .shapes) (t .progress .decisions)) (answer 0 (count (joined (joined ds))) (length (joined ds)) (length ds) (shapes-fate rule all .decisions)) = cc in
+        swept-back p cs ss both-sound l z next′ prev′ mark′ s _ _ (so-far ∙ f)
         _ _ (ap (λ (x : Grouped). x .reached .points) q ∙ placed-front (l .points) (joined (joined ds)))
         _ _ (ap (λ (x : Grouped). x .reached .contours) q ∙ placed-front (l .contours) (rows (laid 0 (map count (joined ds)))))
         _ _ (ap (λ (x : Grouped). x .shapes) q ∙ placed-front (l .shapes) (rows (laid 0 (map length ds))))

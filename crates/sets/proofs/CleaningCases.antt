@@ -4,12 +4,13 @@ use mathlib.Core.List.{List, [], _∷_, _++_}
 use lib.ListN.{replicate}
 use lib.IntN.{ℤ}
 use Rattle.grid.specs.Limits.{limit, most, on-grid, all-on-grid}
-use Rattle.grid.specs.Points.{points, bend, reverses}
+use Rattle.grid.specs.Points.{points}
+use Rattle.grid.specs.Edges.{cross, dot}
 use Rattle.grid.specs.Corners.{last, differing, distinct-neighbours, corners-from, corners, some}
-use Rattle.grid.specs.Ladder.{first-of}
+use Rattle.replies.specs.Ladder.{first-of}
 use Rattle.grid.specs.Cases.{row, W3, W4, W7, W9}
 use Rattle.ring.specs.declared.Rule.the-variants.{Collinear, Spike}
-use Rattle.ring.specs.Walk.{survivors-from, others, successor, predecessor, count, unmark, unmark-about, remove, decide, look, looks, walk}
+use Rattle.ring.specs.Walk.{survivors-from, others, successor, predecessor, occurrences, unmark, unmark-about, remove, decide, look, looks, walk}
 use Rattle.ring.specs.Rule.{goes-at}
 use Rattle.clean.specs.Verdicts.{is-simple, no-spike-left, no-spikes}
 use Rattle.clean.specs.Outcome.{chosen}
@@ -28,12 +29,12 @@ line = row (0 ∷ 0 ∷ 2 ∷ 0 ∷ 4 ∷ 0 ∷ [])
 
 -- the duplicate of W7 stays, after 0 decisions
 w7-stays : fate Spike W7 ≡ stays W7 0
-unfolding limit most on-grid all-on-grid points bend reverses last differing distinct-neighbours corners-from corners some first-of no-spike-left no-spikes fate
+unfolding limit most on-grid all-on-grid points cross dot last differing distinct-neighbours corners-from corners some first-of no-spike-left no-spikes fate
 w7-stays = refl
 
 -- a shape that starts with a line falls with it, whatever follows
 line-falls : shape-fate Collinear (line ∷ W4 ∷ []) ≡ fallen 1
-unfolding survivors-from others successor predecessor count unmark unmark-about remove decide look looks walk goes-at points bend reverses limit most on-grid all-on-grid first-of last differing distinct-neighbours corners-from corners some is-simple chosen fate later shape-fate
+unfolding survivors-from others successor predecessor occurrences unmark unmark-about remove decide look looks walk goes-at points cross dot limit most on-grid all-on-grid first-of last differing distinct-neighbours corners-from corners some is-simple chosen fate later shape-fate
 line-falls = refl
 
 -- the line with W3 behind it, in rows of 9s: 7 leaves every output row as it was, and of the scratch the first six entries are zeroed
@@ -50,7 +51,7 @@ line-and-w3 : shape-outcome Collinear (line ++ W3) ((0 ∷ 3 ∷ []) ∷ (3 ∷ 
         shapes = [];
       };
     }
-unfolding survivors-from others successor predecessor count unmark unmark-about remove decide look looks walk goes-at points bend reverses limit most on-grid all-on-grid first-of last differing distinct-neighbours corners-from corners some is-simple chosen fate later shape-fate shape-outcome laid joined sound-from
+unfolding survivors-from others successor predecessor occurrences unmark unmark-about remove decide look looks walk goes-at points cross dot limit most on-grid all-on-grid first-of last differing distinct-neighbours corners-from corners some is-simple chosen fate later shape-fate shape-outcome laid joined sound-from
 line-and-w3 = refl
 
 -- W4, then the square: the square's range is shifted down
@@ -67,12 +68,12 @@ w4-and-square : shape-outcome Collinear (row (0 ∷ 0 ∷ 2 ∷ 0 ∷ 4 ∷ 0 �
         shapes = [];
       };
     }
-unfolding survivors-from others successor predecessor count unmark unmark-about remove decide look looks walk goes-at points bend reverses limit most on-grid all-on-grid first-of last differing distinct-neighbours corners-from corners some is-simple chosen fate later shape-fate shape-outcome laid joined sound-from
+unfolding survivors-from others successor predecessor occurrences unmark unmark-about remove decide look looks walk goes-at points cross dot limit most on-grid all-on-grid first-of last differing distinct-neighbours corners-from corners some is-simple chosen fate later shape-fate shape-outcome laid joined sound-from
 w4-and-square = refl
 
 -- the same line among shapes is dropped, and its decision counts; an empty shape stays
 fallen-dropped : shapes-fate Collinear ((line ∷ []) ∷ [] ∷ (W4 ∷ []) ∷ []) ≡ record { shapes = [] ∷ (W9 ∷ []) ∷ []; decisions = 7 }
-unfolding survivors-from others successor predecessor count unmark unmark-about remove decide look looks walk goes-at points bend reverses limit most on-grid all-on-grid first-of last differing distinct-neighbours corners-from corners some is-simple chosen fate later shape-fate shapes-fate
+unfolding survivors-from others successor predecessor occurrences unmark unmark-about remove decide look looks walk goes-at points cross dot limit most on-grid all-on-grid first-of last differing distinct-neighbours corners-from corners some is-simple chosen fate later shape-fate shapes-fate
 fallen-dropped = refl
 
 -- an empty shape, then a shape whose only contour is empty: the first stays, the second falls
@@ -82,7 +83,7 @@ empty-stays : shapes-outcome Collinear [] ((0 ∷ 0 ∷ []) ∷ []) ((0 ∷ 0 �
       answer = answer 0 0 0 1 0;
       rows = record { next = []; prev = []; mark = []; points = []; contours = (7 ∷ 7 ∷ []) ∷ []; shapes = (0 ∷ 0 ∷ []) ∷ (7 ∷ 7 ∷ []) ∷ [] };
     }
-unfolding survivors-from others successor predecessor count unmark unmark-about remove decide look looks walk goes-at points bend reverses limit most on-grid all-on-grid first-of last differing distinct-neighbours corners-from corners some is-simple chosen fate later shape-fate shapes-fate shapes-outcome laid joined sound-from
+unfolding survivors-from others successor predecessor occurrences unmark unmark-about remove decide look looks walk goes-at points cross dot limit most on-grid all-on-grid first-of last differing distinct-neighbours corners-from corners some is-simple chosen fate later shape-fate shapes-fate shapes-outcome laid joined sound-from
 empty-stays = refl
 
 -- W4, then a line with a square behind it, then the square: the line's shape falls with one decision, and the last shape's ranges are shifted down
@@ -101,5 +102,5 @@ middle-falls : shapes-outcome Collinear
         shapes = (0 ∷ 1 ∷ []) ∷ (1 ∷ 2 ∷ []) ∷ (7 ∷ 7 ∷ []) ∷ [];
       };
     }
-unfolding survivors-from others successor predecessor count unmark unmark-about remove decide look looks walk goes-at points bend reverses limit most on-grid all-on-grid first-of last differing distinct-neighbours corners-from corners some is-simple chosen fate later shape-fate shapes-fate shapes-outcome laid joined sound-from
+unfolding survivors-from others successor predecessor occurrences unmark unmark-about remove decide look looks walk goes-at points cross dot limit most on-grid all-on-grid first-of last differing distinct-neighbours corners-from corners some is-simple chosen fate later shape-fate shapes-fate shapes-outcome laid joined sound-from
 middle-falls = refl

@@ -1,39 +1,22 @@
 -- A point and the contours of a shape.
-use mathlib.Core.Path.{_≡_, sym, _∙_, ap, ap₂}
+use mathlib.Core.Path.{_≡_, sym, ap}
 use mathlib.Core.Bool.{Bool, true, false, not, _&&_}
 use mathlib.Core.List.{List, []}
 use Prim.Native.Nat.{ℕ, _<_, _≤_}
 use lib.ListN.{length, getD, drop}
 use native.Mathlib.Omega.{arith}
 use lib.IntN.{ℤ}
-use mir.Syntax.{w32}
-use mir.Val.{toZ, ofZ}
-use Rattle.integers.proofs.Logic.{and-left, and-right}
 use Rattle.grid.specs.declared.Point.{Point}
-use Rattle.grid.specs.declared.Verdict.{Verdict}
-use Rattle.grid.specs.Limits.{on-grid}
 use Rattle.grid.specs.Points.{on}
-use Rattle.grid.specs.Ladder.{first-of}
-use Rattle.grid.specs.Domain.{domain}
-use Rattle.grid.proofs.LadderLaws.{first-is, onward, stopped}
-use Rattle.grid.proofs.LadderLaws.First.{here, past, foot}
-use Rattle.grid.proofs.LimitLaws.{on-grid-back}
-use Rattle.grid.proofs.VerdictLaws.{verdict-refused, verdict-given}
-use Rattle.path.specs.Contains as P
+use Rattle.replies.specs.Ladder.{first-of}
+use Rattle.replies.proofs.LadderLaws.{first-is, onward, stopped}
+use Rattle.replies.proofs.LadderLaws.First.{here, past, foot}
+use Rattle.replies.proofs.VerdictLaws.{verdict-refused, verdict-given}
 use Rattle.buffer.specs.Spans.{span, spans}
 use Rattle.buffer.specs.Sets.{contour, contours}
 use Rattle.buffer.specs.Contours.{refusals}
 use Rattle.sets.specs.Contains.{holds, outside-all, inside, shape-refusals, in-shape}
 use Rattle.sets.proofs.PartLaws.{next-part, no-part}
-use Rattle.sets.proofs.PassLaws.{yes-given}
-
--- what a contour in the domain says of a point on the grid, which is passed on as it is
-pub part-holds : (row : List ℤ) (a : Point) (v : Verdict) → first-of (domain row) ≡ 0 → on a ≡ true → v ≡ P.contains row (toZ w32 (ofZ w32 (a .x))) (toZ w32 (ofZ w32 (a .y))) → v .yes ≡ holds a row
-unfolding P.contains
-part-holds row a v z g e =
-    yes-given _ _ v
-    (e ∙ ap₂ (P.contains row) (on-grid-back (a .x) (and-left (on-grid (a .x)) (on-grid (a .y)) g)) (on-grid-back (a .y) (and-right (on-grid (a .x)) (on-grid (a .y)) g)))
-    (sym (first-is (P.refusals a row) 0 (onward (domain row) _ 0 tt z (past (ap not g) foot))))
 
 module _ (a : Point) (p : List ℤ) (cs : List (List ℕ)) where
   -- the first contour and the later ones

@@ -12,15 +12,17 @@ use borrow.Rule.Slice.PartMut.{midOf}
 use Rattle.grid.specs.Domain.{count}
 use Rattle.ring.specs.declared.Rule.{Rule}
 use Rattle.buffer.specs.Spans.{span, spans}
-use Rattle.buffer.specs.Sets.{joined, contour, contours, shapes}
-use Rattle.sets.specs.declared.cleaning.Place.{Place}
-use Rattle.sets.specs.declared.cleaning.Total.{Total}
+use Rattle.buffer.specs.Sets.{cut, joined, contour, contours, shapes}
+use Rattle.sets.specs.declared.inner.contour.Progress.{Progress}
+use Rattle.sets.specs.declared.inner.shapes.Total.{Total}
 use Rattle.sets.specs.Fates.{Fate, fate}
 use Rattle.sets.specs.Fates.Fate.{stays, gone}
-use Rattle.sets.specs.Inside.{Reached, reached, placing, run, outline, run-shape, Grouped, grouped, adding, added, run-shapes, Room, Named, Addable, Each, first-place}
+use Rattle.sets.specs.inside.Contour.{Reached, reached, placing, none-yet}
+use Rattle.sets.specs.inside.Shape.{run, outline, run-shape, Room, Named}
+use Rattle.sets.specs.inside.Shapes.{Grouped, grouped, adding, added, run-shapes, Addable, Each}
 use Rattle.sets.specs.Promises.{Contours}
 use Rattle.sets.proofs.FateLaws.{fate-smaller}
-use Rattle.sets.proofs.PlaceLaws.{joined-more, all-named}
+use Rattle.sets.proofs.BehindLaws.{joined-more, all-named}
 use Rattle.sets.proofs.ShapeLaws.{names-moved}
 use Rattle.buffer.proofs.SetLaws.{joined-append}
 use Rattle.sets.proofs.AfterLaws.{placing-long, room-next}
@@ -29,7 +31,7 @@ pub joined-both : (l k : List (List ℤ)) → length (joined (l ++ k)) ≡ lengt
 joined-both l k = ap length (joined-append l k) ∙ length-append (joined l) (joined k)
 
 -- room for contours in front of others
-pub room-front : (l rest : List (List ℤ)) (at : Place) (out : List ℤ) (records : List (List ℕ)) → Room (l ++ rest) at out records → Room l at out records
+pub room-front : (l rest : List (List ℤ)) (at : Progress) (out : List ℤ) (records : List (List ℕ)) → Room (l ++ rest) at out records → Room l at out records
 room-front l rest at out records r =
     let j = joined-both l rest in
     let n = length-append l rest in
@@ -37,12 +39,12 @@ room-front l rest at out records r =
 
 -- room for the rest, and rows as long as they were
 pub record Leaves (rest : List (List ℤ)) (s t : Reached) : Type 0 where
-  pub room : Room rest (t .place) (t .points) (t .contours)
+  pub room : Room rest (t .progress) (t .points) (t .contours)
   pub points-long : length (t .points) ≡ length (s .points)
   pub contours-long : length (t .contours) ≡ length (s .contours)
 
 module _ (rule : Rule) (rest : List (List ℤ)) where
-  run-leaves : (l : List (List ℤ)) (s : Reached) → Contours l → Room (l ++ rest) (s .place) (s .points) (s .contours) → Leaves rest s (run rule l s)
+  run-leaves : (l : List (List ℤ)) (s : Reached) → Contours l → Room (l ++ rest) (s .progress) (s .points) (s .contours) → Leaves rest s (run rule l s)
   unfolding run
   run-leaves [] s a r = record { room = r; points-long = refl; contours-long = refl }
   run-leaves (c ∷ l) s a r =
@@ -50,7 +52,7 @@ module _ (rule : Rule) (rest : List (List ℤ)) where
       let b = placing-long c (fate rule c) (fate-smaller rule c (a .0)) s (omega (arith, r .room, joined-more c (l ++ rest))) in
       record { room = x .room; points-long = x .points-long ∙ b .0; contours-long = x .contours-long ∙ b .1 }
 
-  pub shape-leaves : (l : List (List ℤ)) (s : Reached) → Contours l → Room (l ++ rest) (s .place) (s .points) (s .contours) → Leaves rest s (run-shape rule l s .reached)
+  pub shape-leaves : (l : List (List ℤ)) (s : Reached) → Contours l → Room (l ++ rest) (s .progress) (s .points) (s .contours) → Leaves rest s (run-shape rule l s .reached)
   unfolding run-shape
   shape-leaves [] s a r = record { room = r; points-long = refl; contours-long = refl }
   shape-leaves (c ∷ l) s a r = go (fate rule c) refl
@@ -61,7 +63,7 @@ module _ (rule : Rule) (rest : List (List ℤ)) where
           let b = placing-long c (fate rule c) (fate-smaller rule c (a .0)) s (omega (arith, r .room, joined-more c (l ++ rest))) in
           subst (λ (v : Fate). Leaves rest s (run rule l (placing v s))) e (record { room = x .room; points-long = x .points-long ∙ b .0; contours-long = x .contours-long ∙ b .1 })
       go (gone k) e =
-          let q : Room (l ++ rest) (placing (gone k) s .place) (s .points) (s .contours) = rw e at (room-next rule c (l ++ rest) s (a .0) r) in
+          let q : Room (l ++ rest) (placing (gone k) s .progress) (s .points) (s .contours) = rw e at (room-next rule c (l ++ rest) s (a .0) r) in
           let j = joined-both l rest in
           let m = length-append l rest in
           record {
@@ -94,9 +96,9 @@ pub record Grouping (rule : Rule) (p : List ℤ) (cs ss : List (List ℕ)) (out�
   pub out-long : length out ≡ length out₀
   pub records-long : length records ≡ length records₀
   pub groups-long : length groups ≡ length groups₀
-  pub room : Room (joined (shapes p (spans cs) (spans (drop i ss)))) (at .place) out records
-  pub is : run-shapes rule (shapes p (spans cs) (spans (drop i ss))) (grouped (at .shapes) (reached (at .place) out records) groups)
-      ≡ run-shapes rule (shapes p (spans cs) (spans ss)) (grouped 0 (reached first-place out₀ records₀) groups₀)
+  pub room : Room (joined (shapes p (spans cs) (spans (drop i ss)))) (at .progress) out records
+  pub is : run-shapes rule (shapes p (spans cs) (spans (drop i ss))) (grouped (at .shapes) (reached (at .progress) out records) groups)
+      ≡ run-shapes rule (shapes p (spans cs) (spans ss)) (grouped 0 (reached none-yet out₀ records₀) groups₀)
 
 pub adding-reached : (b : Bool) (r : Reached) (s : Grouped) → adding b r s .reached ≡ r
 adding-reached true r s = refl
@@ -111,7 +113,7 @@ adding-long true r s = length-set (s .shapes) (s .count) _
 adding-long false r s = refl
 
 pub grouping-none : (rule : Rule) (p : List ℤ) (cs ss : List (List ℕ)) (next prev mark : List ℕ) (out : List ℤ) (records groups : List (List ℕ)) → Each p cs ss next prev mark out records groups
-    → Grouping rule p cs ss out records groups (record { shapes = 0; place = first-place }) out records groups 0
+    → Grouping rule p cs ss out records groups (record { shapes = 0; progress = none-yet }) out records groups 0
 grouping-none rule p cs ss next prev mark out records groups e = record { high = omega arith; low = omega arith; out-long = refl; records-long = refl; groups-long = refl; room = e .room; is = refl }
 
 module _ {rule : Rule} {p : List ℤ} {cs ss : List (List ℕ)} {out₀ : List ℤ} {records₀ groups₀ : List (List ℕ)} {at : Total} {out : List ℤ} {records groups : List (List ℕ)} {i : ℕ}
@@ -128,42 +130,42 @@ module _ {rule : Rule} {p : List ℤ} {cs ss : List (List ℕ)} {out₀ : List �
     part-named = record {
       domain = g .named .domain;
       names = λ j l.
-          let n = length-take-le k (drop a cs) (omega (arith, g .within i h .0, g .within i h .1, length-drop a cs)) in
-          names-moved p cs (midOf a k cs) (a + j) j (getD-take k (drop a cs) j [] (omega arith) ∙ getD-drop a cs j []) l (g .named .names (a + j) (omega (arith, g .within i h .0, g .within i h .1)));
+          let n = length-take-le k (drop a cs) (omega (arith, g .within i h .forward, g .within i h .ends, length-drop a cs)) in
+          names-moved p cs (midOf a k cs) (a + j) j (getD-take k (drop a cs) j [] (omega arith) ∙ getD-drop a cs j []) l (g .named .names (a + j) (omega (arith, g .within i h .forward, g .within i h .ends)));
     }
 
     next-is : shapes p (spans cs) (spans (drop i ss)) ≡ contours p (spans (midOf a k cs)) ∷ shapes p (spans cs) (spans (drop (suc i) ss))
     unfolding a k
     next-is = ap (λ (l : List (List ℕ)). shapes p (spans cs) (spans l)) (drop-cons ss i [] h) ∙ ap (λ (c : List (List ℤ)). c ∷ shapes p (spans cs) (spans (drop (suc i) ss))) (sym (shape-part p cs a k))
 
-    next-room : Room (contours p (spans (midOf a k cs)) ++ joined (shapes p (spans cs) (spans (drop (suc i) ss)))) (at .place) out records
+    next-room : Room (contours p (spans (midOf a k cs)) ++ joined (shapes p (spans cs) (spans (drop (suc i) ss)))) (at .progress) out records
     unfolding joined
     next-room = rw next-is at (x .room)
 
-    pub grouping-addable : (next prev mark : List ℕ) → length next ≡ length next₀ → length prev ≡ length prev₀ → length mark ≡ length mark₀
-        → Addable p (midOf (span (getD ss i []) .start) (span (getD ss i []) .end - span (getD ss i []) .start) cs) at next prev mark out records groups
+    pub grouping-addable : (own : List (List ℕ)) → own ≡ cut cs (span (getD ss i [])) → (next prev mark : List ℕ) → length next ≡ length next₀ → length prev ≡ length prev₀ → length mark ≡ length mark₀
+        → Addable p own at next prev mark out records groups
     unfolding a k
-    grouping-addable next prev mark e f m =
-        record {
+    grouping-addable own q next prev mark e f m =
+        rw q (record {
           going = record {
             named = part-named;
             scratch = record { in-next = omega (arith, g .scratch .in-next); in-prev = omega (arith, g .scratch .in-prev); in-mark = omega (arith, g .scratch .in-mark) };
-            room = room-front _ _ (at .place) out records next-room;
+            room = room-front _ _ (at .progress) out records next-room;
           };
-          space = omega (arith, g .space, x .low, x .groups-long);
-          narrow = omega (arith, g .narrow, x .low);
-        }
+          groupable = record { space = omega (arith, g .space, x .low, x .groups-long); narrow = omega (arith, g .narrow, x .low) };
+        })
 
-    pub grouping-more : (t : Total) (out′ : List ℤ) (records′ groups′ : List (List ℕ))
-        → grouped (t .shapes) (reached (t .place) out′ records′) groups′ ≡ added (run-shape rule (contours p (spans (midOf (span (getD ss i []) .start) (span (getD ss i []) .end - span (getD ss i []) .start) cs))) (reached (at .place) out records)) (grouped (at .shapes) (reached (at .place) out records) groups)
+    pub grouping-more : (own : List (List ℕ)) → own ≡ cut cs (span (getD ss i [])) → (t : Total) (out′ : List ℤ) (records′ groups′ : List (List ℕ))
+        → grouped (t .shapes) (reached (t .progress) out′ records′) groups′ ≡ added (run-shape rule (contours p (spans own)) (reached (at .progress) out records)) (grouped (at .shapes) (reached (at .progress) out records) groups)
         → Grouping rule p cs ss out₀ records₀ groups₀ t out′ records′ groups′ (i + 1)
     unfolding a k run-shapes
-    grouping-more t out′ records′ groups′ e =
-        let s = reached (at .place) out records in
+    grouping-more own own-is t out′ records′ groups′ said =
+        let e = rw own-is at said in
+        let s = reached (at .progress) out records in
         let l = contours p (spans (midOf a k cs)) in
         let u = run-shape rule l s in
         let y = shape-leaves rule (joined (shapes p (spans cs) (spans (drop (suc i) ss)))) l s (all-named p (midOf a k cs) part-named) next-room in
-        let q : reached (t .place) out′ records′ ≡ u .reached = ap (λ (w : Grouped). w .reached) e ∙ adding-reached (u .stands) (u .reached) _ in
+        let q : reached (t .progress) out′ records′ ≡ u .reached = ap (λ (w : Grouped). w .reached) e ∙ adding-reached (u .stands) (u .reached) _ in
         record {
           high = omega arith;
           low = omega (arith, x .low, ap (λ (w : Grouped). w .count) e, adding-few (u .stands) (u .reached) (grouped (at .shapes) s groups));
@@ -174,11 +176,11 @@ module _ {rule : Rule} {p : List ℤ} {cs ss : List (List ℕ)} {out₀ : List �
           is = rw (add-one i) (ap (run-shapes rule (shapes p (spans cs) (spans (drop (suc i) ss)))) e ∙ ap (λ (l : List (List (List ℤ))). run-shapes rule l (grouped (at .shapes) s groups)) (sym next-is) ∙ x .is);
         }
       where
-        leaves-room : {rest : List (List ℤ)} {s t : Reached} → Leaves rest s t → Room rest (t .place) (t .points) (t .contours)
+        leaves-room : {rest : List (List ℤ)} {s t : Reached} → Leaves rest s t → Room rest (t .progress) (t .points) (t .contours)
         leaves-room y = y .room
 
-  pub grouping-all : length ss ≤ i → grouped (at .shapes) (reached (at .place) out records) groups ≡ run-shapes rule (shapes p (spans cs) (spans ss)) (grouped 0 (reached first-place out₀ records₀) groups₀)
+  pub grouping-all : length ss ≤ i → grouped (at .shapes) (reached (at .progress) out records) groups ≡ run-shapes rule (shapes p (spans cs) (spans ss)) (grouped 0 (reached none-yet out₀ records₀) groups₀)
   unfolding run-shapes
   grouping-all h =
       let e : i ≡ length ss = omega (arith, x .high) in
-      ap (λ (l : List (List ℕ)). run-shapes rule (shapes p (spans cs) (spans l)) (grouped (at .shapes) (reached (at .place) out records) groups)) (sym (ap (λ (k : ℕ). drop k ss) e ∙ drop-length ss)) ∙ x .is
+      ap (λ (l : List (List ℕ)). run-shapes rule (shapes p (spans cs) (spans l)) (grouped (at .shapes) (reached (at .progress) out records) groups)) (sym (ap (λ (k : ℕ). drop k ss) e ∙ drop-length ss)) ∙ x .is

@@ -1,37 +1,38 @@
 -- What a contour's fate leaves of it.
 use mathlib.Core.Path.{_≡_, refl, sym, _∙_, ap}
 use mathlib.Core.Bool.{Bool, true, false}
-use mathlib.Core.List.{List}
-use Prim.Native.Nat.{ℕ, _-_, _*_, _≤_}
+use mathlib.Core.List.{List, []}
+use Prim.Native.Nat.{ℕ, _-_, _*_, _<_, _≤_}
 use native.Mathlib.Omega.{arith}
 use lib.IntN.{ℤ}
 use lib.ListN.{length}
 use Rattle.grid.specs.Points.{points}
 use Rattle.grid.specs.Domain.{count, Contour}
 use Rattle.ring.specs.declared.Rule.{Rule}
-use Rattle.ring.specs.Walk.{Stage}
-use Rattle.ring.specs.Walk.Stage.{under-way, kept, collapsed}
+use Rattle.ring.specs.Walk.{Tally, End}
+use Rattle.ring.specs.Walk.End.{kept, collapsed}
 use Rattle.ring.specs.Rule.{goes}
-use Rattle.ring.specs.Promises.{EndedWithin}
 use Rattle.ring.proofs.Listed.{rising-few}
 use Rattle.ring.proofs.Theorems.{ends-in-4n-9, kept-rising}
 use Rattle.clean.specs.declared.cleaning.Cleaned.{Cleaned}
-use Rattle.clean.specs.Outcome.{walked, told as told-walk, written as written-walk, answer}
-use Rattle.clean.specs.Inside.{Settled}
+use Rattle.clean.specs.Outcome.{walked, answer, lent, finished}
+use Rattle.clean.specs.inside.Settling.{Settled}
 use Rattle.clean.proofs.RowLaws.{length-chosen}
-use Rattle.buffer.specs.Rows.{placed}
-use Rattle.buffer.proofs.RowLaws.{placed-front}
+use Rattle.clean.proofs.OutcomeLaws.{contour-count, settled-few}
+use Rattle.clean.proofs.VerdictLaws.{passes-few}
+use Rattle.rows.specs.Rows.{placed}
+use Rattle.rows.proofs.RowLaws.{placed-front}
 use Rattle.sets.specs.Fates.{Fate, walk-fate, fate}
 use Rattle.sets.specs.Fates.Fate.{stays, gone}
-use Rattle.sets.specs.Inside.{told, written, Fated}
-use Rattle.sets.specs.Verdicts.{passes}
+use Rattle.sets.specs.inside.Contour.{answer-of, output-of, Fated}
+use Rattle.clean.specs.Verdicts.{passes}
 
 module _ (rule : Rule) (c out : List ℤ) where
   fate-passing : passes rule (points c) ≡ true → fate rule c ≡ stays c 0
   unfolding fate
   fate-passing e = rw (e, fate)
 
-  fate-walked : passes rule (points c) ≡ false → fate rule c ≡ walk-fate c (walked rule c)
+  fate-walked : passes rule (points c) ≡ false → fate rule c ≡ walk-fate c (walked rule c .end) (walked rule c .tally)
   unfolding fate
   fate-walked e = rw (e, fate)
 
@@ -41,21 +42,24 @@ module _ (rule : Rule) (c out : List ℤ) where
       let g = fate-passing (sym e ∙ t) in
       record { answer = rw g; output = rw g (f ∙ placed-front out c) }
 
-  -- another was walked
+  -- one that does not was walked
   pub fated-walked : (b : Bool) → b ≡ passes rule (points c) → b ≡ false → (r : Cleaned) (exit : List ℤ) → Settled rule c out r exit → Fated rule c out r exit
   fated-walked b e t r exit s =
       let g = fate-walked (sym e ∙ t) in
-      record { answer = rw g (s .answer ∙ tells (walked rule c)); output = rw g (s .output ∙ writes (walked rule c)) }
+      let w = walked rule c in
+      record { answer = rw g (s .answer ∙ tells (w .end) (w .tally)); output = rw g (s .output ∙ writes (w .end) (w .tally)) }
     where
-      tells : (w : Stage) → told-walk w ≡ told (walk-fate c w)
-      tells (kept s k) = ap (λ (n : ℕ). answer 0 n k) (let l = length-chosen c s in omega arith)
-      tells (collapsed k) = refl
-      tells (under-way m p k) = refl
+      tells : (e : End) (k : Tally) → finished c e k (lent [] [] [] out) .answer ≡ answer-of (walk-fate c e k)
+      tells (kept s) k = ap (λ (n : ℕ). answer 0 n (k .decisions)) (let l = length-chosen c s in omega arith)
+      tells collapsed k = refl
 
-      writes : (w : Stage) → written-walk c w out ≡ written (walk-fate c w) out
-      writes (kept s k) = refl
-      writes (collapsed k) = refl
-      writes (under-way m p k) = refl
+      writes : (e : End) (k : Tally) → finished c e k (lent [] [] [] out) .rows .out ≡ output-of (walk-fate c e k) out
+      writes (kept s) k = refl
+      writes collapsed k = refl
+
+  -- under three points it collapses
+  pub fated-few : {n : ℕ} → Contour c n → n < 3 → Fated rule c out (answer 7 0 0) out
+  fated-few k h = fated-walked false (passes-few c rule (omega (arith, contour-count k))) refl _ _ (settled-few rule c out k h)
 
 -- a contour does not grow, keeps an even count of numbers, and takes at most four decisions for each point
 abbrev pub Smaller : List ℤ → Fate → Type 0
@@ -66,14 +70,16 @@ pub fate-smaller : (rule : Rule) (c : List ℤ) → Contour c (count c) → Smal
 unfolding fate
 fate-smaller rule c x = go (passes rule (points c))
   where
-    walks : (w : Stage) → walked rule c ≡ w → EndedWithin (4 * count c - 9) w → Smaller c (walk-fate c w)
-    walks (under-way m p k) e h = absurd h
-    walks (kept s k) e h =
+    few : walked rule c .tally .decisions ≤ 4 * count c - 9
+    few = ends-in-4n-9 (goes rule c) (count c)
+
+    walks : (e : End) → walked rule c .end ≡ e → Smaller c (walk-fate c e (walked rule c .tally))
+    walks (kept s) e =
         let l = length-chosen c s in
         let r = rising-few 0 (count c) s (kept-rising (goes rule c) (count c) e) in
-        (omega (arith, x .even), omega arith, omega (arith, x .even))
-    walks (collapsed k) e h = omega (arith, x .even)
+        (omega (arith, x .even), omega arith, omega (arith, x .even, few))
+    walks collapsed e = omega (arith, x .even, few)
 
-    go : (b : Bool) → Smaller c (elim b [ true ↦ stays c 0 | false ↦ walk-fate c (walked rule c) ])
+    go : (b : Bool) → Smaller c (elim b [ true ↦ stays c 0 | false ↦ walk-fate c (walked rule c .end) (walked rule c .tally) ])
     go true = (omega arith, x .even, omega arith)
-    go false = walks (walked rule c) refl (ends-in-4n-9 (goes rule c) (count c))
+    go false = walks (walked rule c .end) refl

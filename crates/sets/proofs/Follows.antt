@@ -6,15 +6,15 @@ use Prim.Native.Nat.{ℕ, zero, suc, _<_}
 use native.Mathlib.Omega.{arith}
 use lib.ListN.{length, getD}
 use lib.IntN.{ℤ, pos, natAbs}
-use Rattle.grid.specs.Points.{points, bend, reverses}
+use Rattle.grid.specs.Points.{points}
+use Rattle.grid.specs.Edges.{cross, dot}
 use Rattle.grid.specs.Corners.{last, differing, distinct-neighbours, corners-from, corners, some}
 use Rattle.grid.specs.Area.{around, exact}
 use Rattle.grid.specs.Cases.{W9, W10}
 use Rattle.ring.specs.declared.Rule.{Rule}
 use Rattle.ring.specs.declared.Rule.the-variants.{Collinear, Spike}
-use Rattle.ring.proofs.Cases.{true-false}
-use Rattle.clean.specs.Verdicts.{is-simple, no-spike-left, no-spikes}
-use Rattle.sets.specs.Verdicts.{passes}
+use Rattle.ring.proofs.Branches.{true-false}
+use Rattle.clean.specs.Verdicts.{is-simple, no-spike-left, no-spikes, passes}
 use Rattle.sets.specs.Promises.{Contours, AllContours, KeptAs, LaterFollow, Follow, ShapesFollow}
 use Rattle.sets.specs.Promises.LaterFollow.{stays, goes}
 use Rattle.sets.specs.Promises.Follow.{outline}
@@ -68,7 +68,7 @@ module _ (rule : Rule) where
 
   -- W10 has no area, and passes both verdicts
   w10-passes : passes rule (points W10) ≡ true
-  unfolding points bend reverses last differing distinct-neighbours corners-from corners some is-simple no-spike-left no-spikes
+  unfolding points cross dot last differing distinct-neighbours corners-from corners some is-simple no-spike-left no-spikes
   w10-passes = go rule
     where
       go : (rule : Rule) → passes rule (points W10) ≡ true
@@ -86,11 +86,11 @@ module _ (rule : Rule) where
   w10-stands (falls y x) = true-false w10-passes (y .fails)
 
   w10-area : exact (points W10) ≡ pos 0
-  unfolding points around exact
+  unfolding points cross around exact
   w10-area = refl
 
   w9-area : exact (points W9) ≡ pos 32
-  unfolding points around exact
+  unfolding points cross around exact
   w9-area = refl
 
   -- and no hole takes its place

@@ -6,14 +6,15 @@ use native.Mathlib.Omega.{arith}
 use lib.IntN.{ℤ, pos, natAbs}
 use lib.ListN.{getD, replicate}
 use Rattle.grid.specs.Limits.{limit, most, on-grid, all-on-grid}
-use Rattle.grid.specs.Points.{points, bend, reverses}
+use Rattle.grid.specs.Points.{points}
+use Rattle.grid.specs.Edges.{cross, dot}
 use Rattle.grid.specs.Corners.{last, differing, distinct-neighbours, corners-from, corners, some}
-use Rattle.grid.specs.Ladder.{first-of}
+use Rattle.replies.specs.Ladder.{first-of}
 use Rattle.grid.specs.Domain.{count as points-in}
 use Rattle.grid.specs.Cases.{W3, W6}
 use Rattle.ring.specs.declared.Rule.{Rule}
 use Rattle.ring.specs.declared.Rule.the-variants.{Collinear, Spike}
-use Rattle.ring.specs.Walk.{survivors-from, others, successor, predecessor, count, unmark, unmark-about, remove, decide, look, looks, walk}
+use Rattle.ring.specs.Walk.{survivors-from, others, successor, predecessor, occurrences, unmark, unmark-about, remove, decide, look, looks, walk}
 use Rattle.ring.specs.Rule.{goes-at}
 use Rattle.clean.specs.Verdicts.{is-simple, no-spike-left, no-spikes}
 use Rattle.clean.specs.Outcome.{chosen}
@@ -23,7 +24,7 @@ use Rattle.buffer.specs.Contours.{refusals}
 use Rattle.sets.specs.Fates.{Fate, fate, later, ShapeFate, behind, shape-fate}
 use Rattle.sets.specs.Fates.Fate.{stays, gone}
 use Rattle.sets.specs.Fates.ShapeFate.{stands}
-use Rattle.sets.specs.Outcome.{Lent, Left, lacking, shape-left, shape-outcome}
+use Rattle.sets.specs.Outcome.{Lent, Outcome, lacking, shape-left, shape-outcome}
 
 -- the first contour cleaned and the rest copied, with the decisions of a cleaning of all
 abbrev pub first-alone : Rule → List (List ℤ) → ShapeFate
@@ -31,7 +32,7 @@ first-alone rule [] = stands [] 0
 first-alone rule (c ∷ l) = behind (fate rule c) (record { contours = l; decisions = later rule l .decisions })
 
 -- what such a program answers, and leaves in the rows
-abbrev pub idle : Rule → List ℤ → List (List ℕ) → Lent → Left
+abbrev pub idle : Rule → List ℤ → List (List ℕ) → Lent → Outcome
 idle rule p cs l = shape-left (points-in p) (first-alone rule (contours p (spans cs))) l
 
 -- the calls that no rung refuses
@@ -68,12 +69,12 @@ taken = refl
 
 -- W3 needs no cleaning, and of W6 the spike goes: its fourth point is 0,4 once it is cleaned, and 4,8 where it is copied
 spike-gone : (rule : Rule) → getD (shape-outcome rule p cs rows .rows .points) 12 (pos 0) ≡ pos 0
-unfolding limit most on-grid all-on-grid first-of sound-from points bend reverses last differing distinct-neighbours corners-from corners some survivors-from others successor predecessor count unmark unmark-about remove decide look looks walk goes-at is-simple no-spike-left no-spikes chosen fate later shape-fate laid joined shape-outcome
+unfolding limit most on-grid all-on-grid first-of sound-from points cross dot last differing distinct-neighbours corners-from corners some survivors-from others successor predecessor occurrences unmark unmark-about remove decide look looks walk goes-at is-simple no-spike-left no-spikes chosen fate later shape-fate laid joined shape-outcome
 spike-gone Collinear = refl
 spike-gone Spike = refl
 
 spike-copied : (rule : Rule) → getD (idle rule p cs rows .rows .points) 12 (pos 0) ≡ pos 4
-unfolding points bend reverses last differing distinct-neighbours corners-from corners some is-simple no-spike-left no-spikes fate joined
+unfolding points cross dot last differing distinct-neighbours corners-from corners some is-simple no-spike-left no-spikes fate joined
 spike-copied Collinear = refl
 spike-copied Spike = refl
 

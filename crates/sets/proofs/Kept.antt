@@ -3,7 +3,7 @@ use mathlib.Core.Path.{_≡_, refl, _∙_, ap, subst, sym}
 use mathlib.Core.Logic.{⊎-elim}
 use mathlib.Core.Bool.{Bool, true, false, _&&_}
 use mathlib.Core.List.{List, [], _∷_, _++_, map}
-use Prim.Native.Nat.{_-_, _*_, ℕ}
+use Prim.Native.Nat.{_*_, ℕ}
 use native.Mathlib.Omega.{arith}
 use lib.ListN.{length, take, drop, length-map, length-replicate}
 use lib.IntN.{ℤ, pos}
@@ -12,19 +12,18 @@ use Rattle.grid.specs.Points.{points}
 use Rattle.grid.specs.Area.{exact}
 use Rattle.grid.specs.Domain.{count, Contour}
 use Rattle.grid.proofs.RowLaws.{points-count}
-use Rattle.grid.specs.Rows.{front}
-use Rattle.grid.specs.Ladder.{first-of}
-use Rattle.grid.proofs.LadderLaws.{cleared}
+use Rattle.rows.specs.Rows.{front}
+use Rattle.replies.specs.Ladder.{first-of}
+use Rattle.replies.proofs.LadderLaws.{cleared}
 use Rattle.area.proofs.Removal.{few-points}
 use Rattle.ring.specs.declared.Rule.{Rule}
-use Rattle.ring.specs.Walk.{Stage, survivors, fresh}
-use Rattle.ring.specs.Walk.Stage.{under-way, kept, collapsed}
+use Rattle.ring.specs.Walk.{End, survivors, fresh}
+use Rattle.ring.specs.Walk.End.{kept, collapsed}
 use Rattle.ring.specs.Rule.{goes-at, goes}
-use Rattle.ring.specs.Promises.{EndedWithin}
-use Rattle.ring.proofs.Cases.{less?, true-false}
+use Rattle.ring.proofs.Branches.{less?, true-false}
 use Rattle.ring.proofs.Listed.{survivors-rise}
 use Rattle.ring.proofs.RuleLaws.{goes-cross}
-use Rattle.ring.proofs.Theorems.{ends-in-4n-9, kept-rising}
+use Rattle.ring.proofs.Theorems.{kept-rising}
 use Rattle.clean.specs.Outcome.{walked, chosen}
 use Rattle.clean.proofs.RowLaws.{length-chosen}
 use Rattle.clean.proofs.Picked.{points-chosen}
@@ -45,12 +44,12 @@ use Rattle.sets.specs.Promises.{Contours, AllContours, Collapses, Outlin
 use Rattle.sets.specs.Promises.LaterFollow.{no-more, stays as contour-stays, goes as contour-goes}
 use Rattle.sets.specs.Promises.Follow.{empty, outline}
 use Rattle.sets.specs.Promises.ShapesFollow.{no-shapes, falls, stands as shape-stands}
-use Rattle.sets.specs.Verdicts.{passes}
-use Rattle.sets.specs.Outcome.{Lent, Left, lacking, shape-left, shape-outcome, shapes-left, shapes-outcome}
+use Rattle.clean.specs.Verdicts.{passes}
+use Rattle.sets.specs.Outcome.{Lent, Outcome, lacking, shape-left, shape-outcome, shapes-left, shapes-outcome}
 use Rattle.buffer.proofs.SetLaws.{laid-length}
 use Rattle.sets.proofs.Untouched.{answered, seven-is-done, shapes-answered}
 use Rattle.sets.proofs.LaidLaws.{even-append, points-even}
-use Rattle.sets.proofs.PlaceLaws.{accepted-named, all-named, all-cut}
+use Rattle.sets.proofs.BehindLaws.{accepted-named, all-named, all-cut}
 
 -- what becomes of a contour of the domain: it stays and is kept, or is gone and collapses
 abbrev pub Right : Rule → List ℤ → Fate → Type 0
@@ -65,10 +64,9 @@ module _ (rule : Rule) where
       chosen-even : (s : List ℕ) → length (chosen c s) ≡ 2 * count (chosen c s)
       chosen-even s = omega (arith, length-chosen c s)
 
-      walk-right : passes rule (points c) ≡ false → (w : Stage) → walked rule c ≡ w → Right rule c (walk-fate c w)
-      walk-right f (under-way m p k) e = absurd (subst (EndedWithin (4 * count c - 9)) e (ends-in-4n-9 (goes rule c) (count c)))
-      walk-right f (collapsed k) e = record { fails = f; decisions = k; ends = e }
-      walk-right f (kept s k) e = (
+      walk-right : passes rule (points c) ≡ false → (w : End) → walked rule c .end ≡ w → Right rule c (walk-fate c w (walked rule c .tally))
+      walk-right f collapsed e = record { fails = f; ends = e }
+      walk-right f (kept s) e = (
         record {
           stands = λ x. let z : _≡_ {A = ℕ} 0 1 = cc (x .ends) in omega arith;
           positions = s;
@@ -76,12 +74,12 @@ module _ (rule : Rule) where
           is = refl;
           same-area = ap exact (points-chosen c s) ∙ kept-area (goes-at rule) (goes-cross rule) c h e;
           copied = λ t. true-false t f;
-          cleaned = λ f. (k, e);
+          cleaned = λ f. e;
         },
         chosen-even s,
       )
 
-      go : (b : Bool) → passes rule (points c) ≡ b → Right rule c (elim b [ true ↦ stays c 0 | false ↦ walk-fate c (walked rule c) ])
+      go : (b : Bool) → passes rule (points c) ≡ b → Right rule c (elim b [ true ↦ stays c 0 | false ↦ walk-fate c (walked rule c .end) (walked rule c .tally) ])
       go true t = (
         record {
           stands = λ x. true-false t (x .fails);
@@ -94,7 +92,7 @@ module _ (rule : Rule) where
         },
         h .even,
       )
-      go false f = walk-right f (walked rule c) refl
+      go false f = walk-right f (walked rule c .end) refl
 
   -- a contour of the domain that collapses has no area; so one with an area is lost only behind an outline that collapses
   pub what-collapses-has-no-area : (c : List ℤ) → Contour c (count c) → Collapses rule c → exact (points c) ≡ pos 0
@@ -177,7 +175,7 @@ ranges-back : (p : ℕ) (sizes : List ℕ) (n : ℕ) → length sizes ≡ n → 
 ranges-back p sizes n e records = ap (λ (k : ℕ). spans (take k (front (rows (laid p sizes)) records))) (sym (laid-length p sizes ∙ e)) ∙ rows-front (laid p sizes) records
 
 -- One shape, of a call that is not refused; o is whatever the contract allows.
-module _ (rule : Rule) (p : List ℤ) (cs : List (List ℕ)) (l : Lent) (o : Left) (is : o ≡ shape-outcome rule p cs l) where
+module _ (rule : Rule) (p : List ℤ) (cs : List (List ℕ)) (l : Lent) (o : Outcome) (is : o ≡ shape-outcome rule p cs l) where
   becomes-right : first-of (contour-refusals p cs ++ lacking p cs [] l) ≡ 0 → ShapeRight rule (contours p (spans cs)) (shape-fate rule (contours p (spans cs)))
   becomes-right z = shape-is-right rule (contours p (spans cs)) (contours-of-a-set p cs (cleared (contour-refusals p cs) (lacking p cs [] l) tt z .0))
 
@@ -188,7 +186,7 @@ module _ (rule : Rule) (p : List ℤ) (cs : List (List ℕ)) (l : Lent) (o : Lef
       go (shape-fate rule (contours p (spans cs))) (becomes-right (u .0)) (u .1)
     where
       go : (f : ShapeFate) → ShapeRight rule (contours p (spans cs)) f → o ≡ shape-left (count p) f l → OutlineCollapses rule (contours p (spans cs))
-      go (stands t k) r e = let z : _≡_ {A = ℕ} 0 7 = sym (ap (λ (w : Left). w .answer .reply) e) ∙ seven in absurd (omega arith)
+      go (stands t k) r e = let z : _≡_ {A = ℕ} 0 7 = sym (ap (λ (w : Outcome). w .answer .reply) e) ∙ seven in absurd (omega arith)
       go (fallen k) r e = r
 
   module _ (ok : o .answer .reply ≡ 0) where
@@ -210,7 +208,7 @@ module _ (rule : Rule) (p : List ℤ) (cs : List (List ℕ)) (l : Lent) (o : Lef
           rw (f, ranges-are) (packing-then-unpacking-gives-back-every-contour t even)
 
       ranges-sound : sound (spans kept-ranges) (o .answer .points) ≡ true
-      ranges-sound = rw (ranges-are, ap (λ (w : Left). w .answer .points) e) (what-is-packed-is-sound t even)
+      ranges-sound = rw (ranges-are, ap (λ (w : Outcome). w .answer .points) e) (what-is-packed-is-sound t even)
 
     right : Follow rule (contours p (spans cs)) kept-contours × (sound (spans kept-ranges) (o .answer .points) ≡ true)
     right =
@@ -219,7 +217,7 @@ module _ (rule : Rule) (p : List ℤ) (cs : List (List ℕ)) (l : Lent) (o : Lef
       where
         go : (f : ShapeFate) → ShapeRight rule (contours p (spans cs)) f → o ≡ shape-left (count p) f l
             → Follow rule (contours p (spans cs)) kept-contours × (sound (spans kept-ranges) (o .answer .points) ≡ true)
-        go (fallen k) r e = let z : _≡_ {A = ℕ} 7 0 = sym (ap (λ (w : Left). w .answer .reply) e) ∙ ok in absurd (omega arith)
+        go (fallen k) r e = let z : _≡_ {A = ℕ} 7 0 = sym (ap (λ (w : Outcome). w .answer .reply) e) ∙ ok in absurd (omega arith)
         go (stands t k) r e = (subst (Follow rule (contours p (spans cs))) (sym (unpacked t k (r .1) e)) (r .0), ranges-sound t k (r .1) e)
 
     -- they follow those of the shape, its outline first
@@ -239,7 +237,7 @@ module _ (rule : Rule) (p : List ℤ) (cs : List (List ℕ)) (l : Lent) (o : Lef
     a-cleaned-shape's-ranges-are-sound = right .1
 
 -- Shapes that were cleaned; o is whatever the contract allows.
-module _ (rule : Rule) (p : List ℤ) (cs ss : List (List ℕ)) (l : Lent) (o : Left) (is : o ≡ shapes-outcome rule p cs ss l) (ok : o .answer .reply ≡ 0) where
+module _ (rule : Rule) (p : List ℤ) (cs ss : List (List ℕ)) (l : Lent) (o : Outcome) (is : o ≡ shapes-outcome rule p cs ss l) (ok : o .answer .reply ≡ 0) where
   abbrev pub written-points : List ℤ
   written-points = take (2 * o .answer .points) (o .rows .points)
 
@@ -279,8 +277,8 @@ module _ (rule : Rule) (p : List ℤ) (cs ss : List (List ℕ)) (l : Lent) (o : 
   -- and their ranges are sound
   pub a-cleaned-shape-set's-contour-ranges-are-sound : sound (spans written-contours) (o .answer .points) ≡ true
   a-cleaned-shape-set's-contour-ranges-are-sound =
-      rw (contours-written, ap (λ (w : Left). w .answer .points) (cleaned .1)) (the-contour-ranges-written-are-sound rule (shapes p (spans cs) (spans ss)) in-domain)
+      rw (contours-written, ap (λ (w : Outcome). w .answer .points) (cleaned .1)) (the-contour-ranges-written-are-sound rule (shapes p (spans cs) (spans ss)) in-domain)
 
   pub a-cleaned-shape-set's-shape-ranges-are-sound : sound (spans written-shapes) (o .answer .contours) ≡ true
   a-cleaned-shape-set's-shape-ranges-are-sound =
-      rw (shapes-written, ap (λ (w : Left). w .answer .contours) (cleaned .1)) (the-shape-ranges-written-are-sound rule (shapes p (spans cs) (spans ss)))
+      rw (shapes-written, ap (λ (w : Outcome). w .answer .contours) (cleaned .1)) (the-shape-ranges-written-are-sound rule (shapes p (spans cs) (spans ss)))

@@ -1,11 +1,10 @@
 pub mod RefusalLaws
 pub mod Untouched
 pub mod PartLaws
-pub mod PassLaws
 pub mod ContainsLaws
 pub mod AreaLaws
 pub mod FateLaws
-pub mod PlaceLaws
+pub mod BehindLaws
 pub mod LaterLaws
 pub mod ShapeLaws
 pub mod LaidLaws

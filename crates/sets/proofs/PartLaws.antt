@@ -8,10 +8,11 @@ use native.Mathlib.Numerals.{add-one}
 use lib.ListN.{length, getD, drop, length-map, drop-of-length-le}
 use lib.Seq.{drop-cons}
 use lib.IntN.{ℤ}
-use Rattle.grid.specs.Ladder.{first-of}
+use Rattle.replies.specs.Ladder.{first-of}
 use Rattle.grid.specs.Domain.{count, domain}
 use Rattle.buffer.specs.Spans.{span, spans, sound}
-use Rattle.buffer.specs.Sets.{contour, contours, Names}
+use Rattle.buffer.specs.Sets.{contour, contours}
+use Rattle.buffer.specs.inside.Ranges.{Names}
 use Rattle.buffer.specs.Contours.{refusals}
 use Rattle.buffer.proofs.PartLaws.{contours-at, contour-named, part-contour}
 use Rattle.grid.proofs.DomainLaws.{contour-clear}
@@ -40,10 +41,10 @@ module _ (p : List ℤ) (cs : List (List ℕ)) (k : ℕ) where
 
 -- a loop that asks contour after contour from number n on: those from number i on decide
 module _ (test : List ℤ → Bool) (p : List ℤ) (cs : List (List ℕ)) (n i : ℕ) where
-  abbrev pub Left : Type 0
-  Left = every test (drop n (contours p (spans cs))) ≡ every test (drop i (contours p (spans cs)))
+  abbrev pub Rest : Type 0
+  Rest = every test (drop n (contours p (spans cs))) ≡ every test (drop i (contours p (spans cs)))
 
-  module _ (l : Left) where
+  module _ (l : Rest) where
     module _ (h : i < length cs) where
       pub one-fails : test (contour p (span (getD cs i []))) ≡ false → every test (drop n (contours p (spans cs))) ≡ false
       unfolding every

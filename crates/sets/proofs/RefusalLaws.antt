@@ -8,21 +8,13 @@ use lib.Dec.{T, eqb·suc-zero}
 use lib.IntN.{ℤ}
 use borrow.Author.Tests.{not-false}
 use Rattle.integers.proofs.Logic.{and-left}
-use Rattle.grid.specs.Ladder.{Rung, first-of}
+use Rattle.replies.specs.Ladder.{Rung, first-of, so-far}
 use Rattle.grid.specs.Domain.{count}
-use Rattle.grid.proofs.LadderLaws.{first-is, numbered, clear, stopped, onward}
-use Rattle.grid.proofs.LadderLaws.First.{here, past, foot}
+use Rattle.replies.proofs.LadderLaws.{first-is, numbered, clear, stopped, onward, found}
+use Rattle.replies.proofs.LadderLaws.First.{here, past, foot}
 use Rattle.buffer.specs.Spans.{spans, sound}
-use Rattle.buffer.specs.Refusals.{told}
 use Rattle.buffer.specs.Contours.{refusals as contour-refusals}
 use Rattle.buffer.specs.Shapes.{refusals as shape-refusals}
-use Rattle.buffer.proofs.RefusalLaws.{found}
-
--- a ladder of which only the number is left, and the rungs below it
-pub told-then : (l b : List Rung) → T (numbered l) → (asked r : ℕ) → asked ≡ first-of l → r ≡ first-of (told asked ++ b) → r ≡ first-of (l ++ b)
-unfolding first-of
-told-then l b t zero r e f = f ∙ first-is _ _ (onward l b _ t (sym e) (found b _ refl))
-told-then l b t (suc k) r e f = f ∙ sym (first-is (told (suc k) ++ b) (suc k) (here (ap not (eqb·suc-zero k)))) ∙ first-is _ _ (stopped l b (suc k) e (λ z. omega arith))
 
 -- a shape set that no call refuses is a contour set that none refuses
 pub contours-taken : (p : List ℤ) (cs ss : List (List ℕ)) → first-of (shape-refusals p cs ss) ≡ 0 → first-of (contour-refusals p cs) ≡ 0

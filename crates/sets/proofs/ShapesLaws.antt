@@ -9,14 +9,18 @@ use Rattle.grid.specs.Domain.{count}
 use Rattle.ring.specs.declared.Rule.{Rule}
 use Rattle.buffer.specs.Spans.{rows, laid}
 use Rattle.buffer.specs.Sets.{joined}
-use Rattle.buffer.specs.Rows.{placed}
+use Rattle.rows.specs.Rows.{placed}
 use Rattle.sets.specs.Fates.{ShapeFate, Shapes, shape-fate, and-others, shapes-fate}
 use Rattle.sets.specs.Fates.ShapeFate.{stands, fallen}
-use Rattle.sets.specs.Inside.{Reached, Tested, run-shape, Grouped, grouped, added, run-shapes, Room}
+use Rattle.sets.specs.inside.Contour.{Reached}
+use Rattle.sets.specs.inside.Shape.{Tested, run-shape, Room}
+use Rattle.sets.specs.inside.Shapes.{Grouped, grouped, added, run-shapes}
 use Rattle.sets.specs.Promises.{AllContours}
 use Rattle.sets.proofs.LaidLaws.{points-even}
-use Rattle.buffer.proofs.PlacedLaws.{placed-none, set-placed}
-use Rattle.sets.proofs.AfterLaws.{laid-behind, after, after-none, after-both, same-reached, same-place, shaped, shape-after}
+use Rattle.rows.proofs.PlacedLaws.{placed-none, set-placed}
+use Rattle.sets.proofs.BehindLaws.{same-reached}
+use Rattle.sets.proofs.AfterLaws.{laid-behind, after, after-none, after-both, same-progress, shaped, shape-after}
+use Rattle.sets.proofs.ShapeLaws.{same-grouped}
 use Rattle.sets.proofs.EachLaws.{Leaves, room-front, shape-leaves, adding-reached, adding-few, adding-long}
 use Rattle.sets.proofs.Kept.{ShapeRight, shape-is-right}
 
@@ -25,33 +29,30 @@ abbrev pub among : Shapes → Grouped → Grouped
 among t s =
     grouped (s .count + length (t .shapes))
     (after (record { contours = joined (t .shapes); decisions = t .decisions }) (s .reached))
-    (placed (s .count) (rows (laid (s .reached .place .contours) (map length (t .shapes)))) (s .shapes))
-
-same-grouped : {a b : ℕ} {r t : Reached} {k l : List (List ℕ)} → a ≡ b → r ≡ t → k ≡ l → grouped a r k ≡ grouped b t l
-same-grouped e f g = cc
+    (placed (s .count) (rows (laid (s .reached .progress .contours) (map length (t .shapes)))) (s .shapes))
 
 module _ (rule : Rule) where
   -- a shape's fate, and those that stay behind it
   among-first : (c rest : List (List ℤ)) (w : ShapeFate) → ShapeRight rule c w → (s : Grouped) → Leaves rest (s .reached) (shaped rule w (s .reached) .reached) → s .count + 1 ≤ length (s .shapes)
       → (t : Shapes) → among t (added (shaped rule w (s .reached)) s) ≡ among (and-others w t) s
   unfolding joined laid
-  among-first c rest (fallen k) x s y h t = same-grouped refl (same-reached (same-place refl refl (omega arith)) refl refl) refl
+  among-first c rest (fallen k) x s y h t = same-grouped refl (same-reached (same-progress refl refl (omega arith)) refl refl) refl
   among-first c rest (stands ds k) x s y h t =
       let e = points-even ds (x .1) in
       same-grouped (omega arith)
       (after-both (record { contours = ds; decisions = k }) (record { contours = joined (t .shapes); decisions = t .decisions }) (s .reached) (x .1)
       (omega (arith, y .room .room, y .points-long)) (omega (arith, y .room .space, y .contours-long)))
-      (ap (placed (s .count + 1) (rows (laid (s .reached .place .contours + length ds) (map length (t .shapes))))) (set-placed (s .shapes) (s .count) _ (omega arith))
-      ∙ laid-behind (s .shapes) (s .count) (s .count + 1) (s .reached .place .contours) (s .reached .place .contours + length ds) (length ds ∷ []) (map length (t .shapes)) h refl (omega arith))
+      (ap (placed (s .count + 1) (rows (laid (s .reached .progress .contours + length ds) (map length (t .shapes))))) (set-placed (s .shapes) (s .count) _ (omega arith))
+      ∙ laid-behind (s .shapes) (s .count) (s .count + 1) (s .reached .progress .contours) (s .reached .progress .contours + length ds) (length ds ∷ []) (map length (t .shapes)) h refl (omega arith))
 
-  pub shapes-after : (l : List (List (List ℤ))) (s : Grouped) → AllContours l → Room (joined l) (s .reached .place) (s .reached .points) (s .reached .contours) → s .count + length l ≤ length (s .shapes)
+  pub shapes-after : (l : List (List (List ℤ))) (s : Grouped) → AllContours l → Room (joined l) (s .reached .progress) (s .reached .points) (s .reached .contours) → s .count + length l ≤ length (s .shapes)
       → run-shapes rule l s ≡ among (shapes-fate rule l) s
   unfolding run-shapes shapes-fate joined laid
   shapes-after [] s a r h = same-grouped (omega arith) (after-none (s .reached)) (sym (placed-none (s .shapes) (s .count)))
   shapes-after (c ∷ l) s a r h =
       let u = run-shape rule c (s .reached) in
       let y : Leaves (joined l) (s .reached) (u .reached) = shape-leaves rule (joined l) c (s .reached) (a .0) r in
-      let e : u ≡ shaped rule (shape-fate rule c) (s .reached) = shape-after rule c (s .reached) (a .0) (room-front c (joined l) (s .reached .place) (s .reached .points) (s .reached .contours) r) in
+      let e : u ≡ shaped rule (shape-fate rule c) (s .reached) = shape-after rule c (s .reached) (a .0) (room-front c (joined l) (s .reached .progress) (s .reached .points) (s .reached .contours) r) in
       shapes-after l (added u s) (a .1)
       (rw (adding-reached (u .stands) (u .reached) s) (y .room))
       (omega (arith, adding-few (u .stands) (u .reached) s, adding-long (u .stands) (u .reached) s))

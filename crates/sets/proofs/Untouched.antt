@@ -6,9 +6,9 @@ use mathlib.Core.List.{List, [], _++_}
 use Prim.Native.Nat.{ℕ, zero, suc}
 use native.Mathlib.Omega.{arith}
 use lib.IntN.{ℤ}
-use Rattle.grid.specs.Ladder.{Rung, first-of}
+use Rattle.replies.specs.Ladder.{Rung, first-of}
 use Rattle.grid.specs.Domain.{count}
-use Rattle.grid.proofs.LadderLaws.{within, first-within}
+use Rattle.replies.proofs.LadderLaws.{within, first-within}
 use Rattle.ring.specs.declared.Rule.{Rule}
 use Rattle.clean.specs.Promises.{Zeroed}
 use Rattle.clean.proofs.RowLaws.{zeroed-is}
@@ -18,13 +18,13 @@ use Rattle.buffer.specs.Contours.{refusals as contour-refusals}
 use Rattle.buffer.specs.Shapes.{refusals as shape-refusals}
 use Rattle.sets.specs.Fates.{ShapeFate, shape-fate, shapes-fate}
 use Rattle.sets.specs.Fates.ShapeFate.{stands, fallen}
-use Rattle.sets.specs.Outcome.{Lent, Left, swept, lacking, outcome, shape-left, shape-outcome, shapes-left, shapes-outcome}
+use Rattle.sets.specs.Outcome.{Lent, Outcome, swept, lacking, outcome, shape-left, shape-outcome, shapes-left, shapes-outcome}
 
-reply-of : {o u : Left} → o ≡ u → o .answer .reply ≡ u .answer .reply
-reply-of e = ap (λ (w : Left). w .answer .reply) e
+reply-of : {o u : Outcome} → o ≡ u → o .answer .reply ≡ u .answer .reply
+reply-of e = ap (λ (w : Outcome). w .answer .reply) e
 
 -- a call was not refused, or its reply is neither 0 nor 7 and every row is as it was
-pub ended : (rungs : List Rung) → within 6 rungs ≡ true → (l : Lent) (done o : Left) → o ≡ outcome (first-of rungs) l done
+pub ended : (rungs : List Rung) → within 6 rungs ≡ true → (l : Lent) (done o : Outcome) → o ≡ outcome (first-of rungs) l done
     → ((first-of rungs ≡ 0) × (o ≡ done)) ⊎ ((o .answer .reply ≡ 0 → ⊥) × (o .answer .reply ≡ 7 → ⊥) × (o .rows ≡ l))
 ended rungs t l done o e = go (first-of rungs) refl e
   where
@@ -33,11 +33,11 @@ ended rungs t l done o e = go (first-of rungs) refl e
     go (suc k) f e = inr (
       (λ z. let y : _≡_ {A = ℕ} (suc k) 0 = sym (reply-of e) ∙ z in omega arith),
       (λ z. let y : suc k ≡ 7 = sym (reply-of e) ∙ z in omega (arith, f, first-within 6 rungs t)),
-      ap (λ (w : Left). w .rows) e,
+      ap (λ (w : Outcome). w .rows) e,
     )
 
 -- One shape, whatever the call; o is what the contract allows.
-module _ (rule : Rule) (p : List ℤ) (cs : List (List ℕ)) (l : Lent) (o : Left) (is : o ≡ shape-outcome rule p cs l) where
+module _ (rule : Rule) (p : List ℤ) (cs : List (List ℕ)) (l : Lent) (o : Outcome) (is : o ≡ shape-outcome rule p cs l) where
   abbrev Done : Type 0
   Done = (first-of (contour-refusals p cs ++ lacking p cs [] l) ≡ 0) × (o ≡ shape-left (count p) (shape-fate rule (contours p (spans cs))) l)
 
@@ -67,7 +67,7 @@ module _ (rule : Rule) (p : List ℤ) (cs : List (List ℕ)) (l : Lent) (o : Lef
       where
         go : (f : ShapeFate) → o ≡ shape-left (count p) f l → o .rows ≡ swept (count p) l
         go (stands t k) e = let z : _≡_ {A = ℕ} 0 7 = sym (reply-of e) ∙ seven in absurd (omega arith)
-        go (fallen k) e = ap (λ (w : Left). w .rows) e
+        go (fallen k) e = ap (λ (w : Outcome). w .rows) e
 
     -- 7 leaves every output row as it was
     pub a-collapsed-shape-leaves-every-output-row-as-it-was : (o .rows .points ≡ l .points) × (o .rows .contours ≡ l .contours) × (o .rows .shapes ≡ l .shapes)
@@ -79,7 +79,7 @@ module _ (rule : Rule) (p : List ℤ) (cs : List (List ℕ)) (l : Lent) (o : Lef
     a-collapsed-shape-leaves-the-scratch-zeroed = rw collapsed-rows (zeroed-is (count p) (l .next), zeroed-is (count p) (l .prev), zeroed-is (count p) (l .mark))
 
 -- Shapes, whatever the call; o is what the contract allows.
-module _ (rule : Rule) (p : List ℤ) (cs ss : List (List ℕ)) (l : Lent) (o : Left) (is : o ≡ shapes-outcome rule p cs ss l) where
+module _ (rule : Rule) (p : List ℤ) (cs ss : List (List ℕ)) (l : Lent) (o : Outcome) (is : o ≡ shapes-outcome rule p cs ss l) where
   abbrev ShapesDone : Type 0
   ShapesDone = (first-of (shape-refusals p cs ss ++ lacking p cs ss l) ≡ 0) × (o ≡ shapes-left (count p) (shapes-fate rule (shapes p (spans cs) (spans ss))) l)
 

@@ -6,7 +6,7 @@ use lib.Dec.{eqb}
 use lib.IntN.{ℤ, pos, _+ℤ_}
 use Rattle.grid.specs.Points.{points}
 use Rattle.grid.specs.Area.{wrapped, reported, halved}
-use Rattle.grid.specs.Ladder.{Rung, first-of}
+use Rattle.replies.specs.Ladder.{Rung, first-of}
 use Rattle.grid.specs.Domain.{count}
 use Rattle.area.specs.declared.answer.Area.{Area}
 use Rattle.area.specs.Answers.{answer}

@@ -1,14 +1,13 @@
 -- Whether a shape contains a point.
-use mathlib.Core.Path.{_≡_}
-use mathlib.Core.Bool.{Bool, true, false, not, _&&_}
+use mathlib.Core.Bool.{Bool, false, not, _&&_}
 use mathlib.Core.List.{List, [], _∷_, _++_}
 use Prim.Native.Nat.{ℕ}
 use lib.IntN.{ℤ}
 use Rattle.grid.specs.declared.Point.{Point}
-use Rattle.grid.specs.declared.Verdict.{Verdict}
+use Rattle.replies.specs.declared.Verdict.{Verdict}
 use Rattle.grid.specs.Points.{on, points}
-use Rattle.grid.specs.Ladder.{Rung, first-of}
-use Rattle.grid.specs.Verdicts.{verdict}
+use Rattle.replies.specs.Ladder.{Rung, first-of}
+use Rattle.replies.specs.Verdicts.{verdict}
 use Rattle.path.specs.Contains.{contained}
 use Rattle.buffer.specs.Spans.{spans}
 use Rattle.buffer.specs.Sets.{contours}
@@ -37,8 +36,3 @@ unfoldable pub in-shape : List ℤ → List (List ℕ) → ℤ → ℤ → Verdi
 in-shape p ranges x y =
     let a : Point = record { x = x; y = y } in
     verdict (first-of (shape-refusals a p ranges)) (inside a (contours p (spans ranges)))
-
--- a set that no call refuses, and a point on the grid, as the inner functions ask for them
-pub record Asked (p : List ℤ) (ranges : List (List ℕ)) (a : Point) : Type 0 where
-  pub taken : first-of (refusals p ranges) ≡ 0
-  pub on-grid : on a ≡ true

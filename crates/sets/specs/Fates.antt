@@ -5,25 +5,24 @@ use Prim.Native.Nat.{ℕ, _+_}
 use lib.IntN.{ℤ}
 use Rattle.grid.specs.Points.{points}
 use Rattle.ring.specs.declared.Rule.{Rule}
-use Rattle.ring.specs.Walk.{Stage}
-use Rattle.ring.specs.Walk.Stage.{under-way, kept, collapsed}
+use Rattle.ring.specs.Walk.{Tally, End}
+use Rattle.ring.specs.Walk.End.{kept, collapsed}
 use Rattle.clean.specs.Outcome.{chosen, walked}
-use Rattle.sets.specs.Verdicts.{passes}
+use Rattle.clean.specs.Verdicts.{passes}
 
 -- a contour stays, as these numbers, or is gone; after so many decisions
 pub data Fate : Type 0 where
   stays : List ℤ → ℕ → Fate
   gone : ℕ → Fate
 
--- the end of a walk, as a fate; it does end
-abbrev pub walk-fate : List ℤ → Stage → Fate
-walk-fate c (kept s k) = stays (chosen c s) k
-walk-fate c (collapsed k) = gone k
-walk-fate c (under-way m p k) = gone k
+-- the end of a walk, as a fate
+abbrev pub walk-fate : List ℤ → End → Tally → Fate
+walk-fate c (kept s) t = stays (chosen c s) (t .decisions)
+walk-fate c collapsed t = gone (t .decisions)
 
 -- a contour that already passes its verdict is copied and adds 0 decisions; another is walked
 unfoldable pub fate : Rule → List ℤ → Fate
-fate rule c = elim (passes rule (points c)) [ true ↦ stays c 0 | false ↦ walk-fate c (walked rule c) ]
+fate rule c = elim (passes rule (points c)) [ true ↦ stays c 0 | false ↦ walk-fate c (walked rule c .end) (walked rule c .tally) ]
 
 -- contours that stay, and the decisions of all that were walked
 pub record Stay : Type 0 where

@@ -3,5 +3,5 @@ pub mod Area
 pub mod Contains
 pub mod Fates
 pub mod Outcome
-pub mod Inside
+pub mod inside
 pub mod Promises

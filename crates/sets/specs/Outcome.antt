@@ -5,14 +5,13 @@ use Prim.Native.Nat.{ℕ, zero, suc}
 use lib.ListN.{length}
 use lib.IntN.{ℤ}
 use lib.Dec.{leb}
-use Rattle.grid.specs.Ladder.{Rung, first-of}
+use Rattle.replies.specs.Ladder.{Rung, first-of, room}
 use Rattle.grid.specs.Domain.{count}
-use Rattle.grid.specs.Rows.{front}
+use Rattle.rows.specs.Rows.{front, zeroed}
 use Rattle.ring.specs.declared.Rule.{Rule}
-use Rattle.clean.specs.Outcome.{scratch, zeroed}
+use Rattle.clean.specs.Outcome.{scratch}
 use Rattle.buffer.specs.Spans.{spans, rows}
 use Rattle.buffer.specs.Sets.{joined, contours, shapes, contour-spans, shape-spans}
-use Rattle.buffer.specs.Refusals.{room}
 use Rattle.buffer.specs.Contours.{refusals as contour-refusals}
 use Rattle.buffer.specs.Shapes.{refusals as shape-refusals}
 use Rattle.sets.specs.declared.cleaning.CleanedSet.{CleanedSet}
@@ -32,15 +31,15 @@ pub record Lent : Type 0 where
   pub shapes : List (List ℕ)
 
 -- the answer of a call, and the lent rows as it leaves them
-pub record Left : Type 0 where
+pub record Outcome : Type 0 where
   pub answer : CleanedSet
   pub rows : Lent
 
 abbrev pub lent : List ℕ → List ℕ → List ℕ → List ℤ → List (List ℕ) → List (List ℕ) → Lent
 lent next prev mark points contours shapes = record { next = next; prev = prev; mark = mark; points = points; contours = contours; shapes = shapes }
 
-abbrev pub left : CleanedSet → Lent → Left
-left answer rows = record { answer = answer; rows = rows }
+abbrev pub leaving : CleanedSet → Lent → Outcome
+leaving answer rows = record { answer = answer; rows = rows }
 
 -- the same rows with the scratch zeroed, n points being the whole input
 abbrev pub swept : ℕ → Lent → Lent
@@ -63,27 +62,27 @@ abbrev pub lacking : List ℤ → List (List ℕ) → List (List ℕ) → Lent �
 lacking p cs ss l = scratch (count p) (length (l .next)) (length (l .prev)) (length (l .mark)) ++ room (enough p cs ss l)
 
 -- by the number of the first refusal: refused, and all rows as they were, or done
-abbrev pub outcome : ℕ → Lent → Left → Left
-outcome (suc k) l done = left (answer (suc k) 0 0 0 0) l
+abbrev pub outcome : ℕ → Lent → Outcome → Outcome
+outcome (suc k) l done = leaving (answer (suc k) 0 0 0 0) l
 outcome zero l done = done
 
 -- a cleaned shape: kept in front of the rows, or collapsed with its first contour
-abbrev pub shape-left : ℕ → ShapeFate → Lent → Left
+abbrev pub shape-left : ℕ → ShapeFate → Lent → Outcome
 shape-left n (stands cs k) l = record { answer = answer 0 (count (joined cs)) (length cs) 1 k; rows = swept n (with-contours cs l) }
 shape-left n (fallen k) l = record { answer = answer 7 0 0 0 k; rows = swept n l }
 
 -- cleaning one shape: the contours of a contour set
-unfoldable pub shape-outcome : Rule → List ℤ → List (List ℕ) → Lent → Left
+unfoldable pub shape-outcome : Rule → List ℤ → List (List ℕ) → Lent → Outcome
 shape-outcome rule p cs l =
     outcome (first-of (contour-refusals p cs ++ lacking p cs [] l)) l
     (shape-left (count p) (shape-fate rule (contours p (spans cs))) l)
 
 -- cleaned shapes, in front of the rows
-abbrev pub shapes-left : ℕ → Shapes → Lent → Left
+abbrev pub shapes-left : ℕ → Shapes → Lent → Outcome
 shapes-left n ss l = record { answer = answer 0 (count (joined (joined (ss .shapes)))) (length (joined (ss .shapes))) (length (ss .shapes)) (ss .decisions); rows = swept n (with-shapes (ss .shapes) l) }
 
 -- cleaning shapes: those of a shape set
-unfoldable pub shapes-outcome : Rule → List ℤ → List (List ℕ) → List (List ℕ) → Lent → Left
+unfoldable pub shapes-outcome : Rule → List ℤ → List (List ℕ) → List (List ℕ) → Lent → Outcome
 shapes-outcome rule p cs ss l =
     outcome (first-of (shape-refusals p cs ss ++ lacking p cs ss l)) l
     (shapes-left (count p) (shapes-fate rule (shapes p (spans cs) (spans ss))) l)

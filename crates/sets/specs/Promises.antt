@@ -8,10 +8,10 @@ use Rattle.grid.specs.Points.{points}
 use Rattle.grid.specs.Area.{exact}
 use Rattle.grid.specs.Domain.{count, Contour}
 use Rattle.ring.specs.declared.Rule.{Rule}
-use Rattle.ring.specs.Walk.Stage.{kept, collapsed}
+use Rattle.ring.specs.Walk.End.{kept, collapsed}
 use Rattle.ring.specs.Promises.{Rising}
 use Rattle.clean.specs.Outcome.{walked, chosen}
-use Rattle.sets.specs.Verdicts.{passes}
+use Rattle.clean.specs.Verdicts.{passes}
 
 -- contours of the domain
 abbrev pub Contours : List (List ℤ) → Type 0
@@ -27,8 +27,7 @@ module _ (rule : Rule) where
   -- a contour collapses: it fails its verdict, and its walk ends in a collapse
   pub record Collapses (c : List ℤ) : Type 0 where
     pub fails : passes rule (points c) ≡ false
-    pub decisions : ℕ
-    pub ends : walked rule c ≡ collapsed decisions
+    pub ends : walked rule c .end ≡ collapsed
 
   -- the first contour of a shape collapses
   abbrev pub OutlineCollapses : List (List ℤ) → Type 0
@@ -43,7 +42,7 @@ module _ (rule : Rule) where
     pub is : d ≡ chosen c positions
     pub same-area : exact (points d) ≡ exact (points c)
     pub copied : passes rule (points c) ≡ true → d ≡ c
-    pub cleaned : passes rule (points c) ≡ false → (k : ℕ) × (walked rule c ≡ kept positions k)
+    pub cleaned : passes rule (points c) ≡ false → walked rule c .end ≡ kept positions
 
   -- contours behind an outline, before and after a cleaning: each stays in its turn, or goes, which those do that collapse
   pub data LaterFollow : List (List ℤ) → List (List ℤ) → Type 0 where

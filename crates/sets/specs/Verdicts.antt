@@ -3,23 +3,17 @@ use mathlib.Core.Bool.{Bool, true, _&&_}
 use mathlib.Core.List.{List, [], _∷_}
 use Prim.Native.Nat.{ℕ}
 use lib.IntN.{ℤ}
-use Rattle.grid.specs.declared.Point.{Point}
-use Rattle.grid.specs.declared.Verdict.{Verdict}
+use Rattle.replies.specs.declared.Verdict.{Verdict}
 use Rattle.grid.specs.Points.{points}
-use Rattle.grid.specs.Ladder.{Rung, first-of}
-use Rattle.grid.specs.Verdicts.{verdict}
+use Rattle.replies.specs.Ladder.{Rung, first-of}
+use Rattle.replies.specs.Verdicts.{verdict}
 use Rattle.ring.specs.declared.Rule.{Rule}
 use Rattle.ring.specs.declared.Rule.the-variants.{Collinear, Spike}
-use Rattle.clean.specs.Verdicts.{is-simple, no-spikes}
+use Rattle.clean.specs.Verdicts.{passes}
 use Rattle.buffer.specs.Spans.{spans}
 use Rattle.buffer.specs.Sets.{contours}
 use Rattle.buffer.specs.Contours.{refusals as contour-refusals}
 use Rattle.buffer.specs.Shapes.{refusals as shape-refusals}
-
--- the verdict that goes with a rule
-abbrev pub passes : Rule → List Point → Bool
-passes Collinear l = is-simple l
-passes Spike l = no-spikes l
 
 -- every contour passes a test; those of a set of none do
 unfoldable pub every : (List ℤ → Bool) → List (List ℤ) → Bool

@@ -1,7 +1,7 @@
 // The doubled and the halved area of a contour set.
 ghost use mathlib.Core.Path.{_≡_};
 ghost use Rattle.sets.specs.Area.{doubled, half};
-use crate::sums;
+use crate::inner::sums;
 use area::Area;
 
 // The doubled area: the sum of the contours' own.

@@ -1,12 +1,11 @@
 // Questions about contour sets and shape sets, and the cleaning of shapes.
 pub mod areas;
 mod cleaning;
+mod containing;
 pub mod despike;
-mod inside;
-mod passing;
+pub mod inner;
 pub mod shapes;
 pub mod simple;
-mod sums;
 
 pub use cleaning::CleanedSet;
-pub use inside::in_shape;
+pub use containing::in_shape;

@@ -5,10 +5,10 @@ ghost use Rattle.buffer.specs.Sets.{contours as contours-of};
 ghost use Rattle.buffer.specs.Shapes.{refusals};
 ghost use Rattle.sets.specs.Verdicts.{verdict-by, shapes-simple, shapes-spike-free};
 ghost use Rattle.sets.specs.Area.{shapes-doubled, shapes-half};
-use crate::passing;
-use crate::sums;
+use crate::inner::passing;
+use crate::inner::sums;
 use area::Area;
-use grid::Verdict;
+use replies::Verdict;
 use ring::Rule;
 
 // Whether every contour passes the verdict that goes with a rule.
@@ -31,7 +31,9 @@ pub fn is_simple(points: &[i32], contours: &[[usize; 2]], shapes: &[[usize; 2]])
 
 // Whether no contour of the set has spikes.
 pub fn has_no_spikes(points: &[i32], contours: &[[usize; 2]], shapes: &[[usize; 2]]) -> Verdict
-    ensures { λ r. ⌜ r ≡ shapes-spike-free (now (points .entry)) (now (contours .entry)) (now (shapes .entry)) ⌝ }
+    ensures { λ r. ⌜
+        r ≡ shapes-spike-free (now (points .entry)) (now (contours .entry)) (now (shapes .entry))
+        ⌝ }
 {
     verdict(Rule::Spike, points, contours, shapes)
 }

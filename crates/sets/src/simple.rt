@@ -3,11 +3,11 @@ ghost use mathlib.Core.Path.{_≡_};
 ghost use Rattle.sets.specs.Verdicts.{simple as simple-verdict};
 ghost use mathlib.Core.List.{[]};
 ghost use Rattle.ring.specs.declared.Rule as R;
-ghost use Rattle.sets.specs.Outcome.{lent, left, shape-outcome, shapes-outcome};
+ghost use Rattle.sets.specs.Outcome.{lent, leaving, shape-outcome, shapes-outcome};
 use crate::cleaning;
 use crate::cleaning::CleanedSet;
-use crate::passing;
-use grid::Verdict;
+use crate::inner::passing;
+use replies::Verdict;
 use ring::Rule;
 
 // Whether every contour of the set is simple.
@@ -28,7 +28,7 @@ pub fn simplified_shape(
     records: &mut [[usize; 2]],
 ) -> CleanedSet
     ensures { λ r. ⌜
-        left r
+        leaving r
         (lent (now (next .exit)) (now (prev .exit)) (now (mark .exit))
         (now (out .exit)) (now (records .exit)) [])
         ≡ shape-outcome R.Rule.Collinear (now (points .entry)) (now (ranges .entry))
@@ -61,7 +61,7 @@ pub fn simplified_shapes(
     groups: &mut [[usize; 2]],
 ) -> CleanedSet
     ensures { λ r. ⌜
-        left r
+        leaving r
         (lent (now (next .exit)) (now (prev .exit)) (now (mark .exit))
         (now (out .exit)) (now (records .exit)) (now (groups .exit)))
         ≡ shapes-outcome R.Rule.Collinear (now (points .entry)) (now (contours .entry)) (now (shapes .entry))

@@ -6,7 +6,7 @@ ghost use Rattle.sets.specs.Contains.{in-shape};
 ghost use Rattle.sets.specs.Verdicts.{simple, spike-free};
 use area::Area;
 use buffer::ranges::Span;
-use grid::Verdict;
+use replies::Verdict;
 
 // Whether the ranges name parts from 0 to the count, one behind the other.
 #[no_mangle]

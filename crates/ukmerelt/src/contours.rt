@@ -6,10 +6,10 @@ ghost use Rattle.path.specs.Convex.{convex};
 ghost use Rattle.path.specs.Clockwise.{clockwise};
 ghost use Rattle.path.specs.Contains.{contains};
 ghost use Rattle.clean.specs.Verdicts.{simple, spike-free};
-ghost use Rattle.clean.specs.Outcome.{left, outcome};
+ghost use Rattle.clean.specs.Outcome.{lent, leaving, outcome};
 use area::Area;
 use clean::Cleaned;
-use grid::Verdict;
+use replies::Verdict;
 
 // The doubled area: counter-clockwise is positive.
 #[no_mangle]
@@ -76,7 +76,11 @@ pub extern "C" fn ukm_simplified(
     mark: &mut [u8],
     out: &mut [i32],
 ) -> Cleaned
-    ensures { λ r. ⌜ left r (now (next .exit)) (now (prev .exit)) (now (mark .exit)) (now (out .exit)) ≡ outcome R.Rule.Collinear (now (points .entry)) (now (next .entry)) (now (prev .entry)) (now (mark .entry)) (now (out .entry)) ⌝ }
+    ensures { λ r. ⌜
+        leaving r (lent (now (next .exit)) (now (prev .exit)) (now (mark .exit)) (now (out .exit)))
+        ≡ outcome R.Rule.Collinear (now (points .entry))
+        (lent (now (next .entry)) (now (prev .entry)) (now (mark .entry)) (now (out .entry)))
+        ⌝ }
 {
     clean::simple::simplified(points, next, prev, mark, out)
 }
@@ -90,7 +94,11 @@ pub extern "C" fn ukm_despiked(
     mark: &mut [u8],
     out: &mut [i32],
 ) -> Cleaned
-    ensures { λ r. ⌜ left r (now (next .exit)) (now (prev .exit)) (now (mark .exit)) (now (out .exit)) ≡ outcome R.Rule.Spike (now (points .entry)) (now (next .entry)) (now (prev .entry)) (now (mark .entry)) (now (out .entry)) ⌝ }
+    ensures { λ r. ⌜
+        leaving r (lent (now (next .exit)) (now (prev .exit)) (now (mark .exit)) (now (out .exit)))
+        ≡ outcome R.Rule.Spike (now (points .entry))
+        (lent (now (next .entry)) (now (prev .entry)) (now (mark .entry)) (now (out .entry)))
+        ⌝ }
 {
     clean::despike::despiked(points, next, prev, mark, out)
 }

@@ -1,9 +1,9 @@
 // Drawings in millimetres: brought onto the grid as a contour set, and given back from one.
 ghost use mathlib.Core.Path.{_≡_};
 ghost use mathlib.Core.List.{[]};
-ghost use Rattle.buffer.specs.Answers.{left};
+ghost use Rattle.buffer.specs.Answers.{leaving};
 ghost use Rattle.drawing.specs.Importing.{outcome as import-outcome};
-ghost use Rattle.drawing.specs.Exporting.{left as drawn-left, outcome as export-outcome};
+ghost use Rattle.drawing.specs.Exporting.{leaving as drawn-left, outcome as export-outcome};
 use buffer::Packed;
 use drawing::Drawn;
 
@@ -16,7 +16,7 @@ pub extern "C" fn ukm_import_mm(
     records: &mut [[usize; 2]],
 ) -> Packed
     ensures { λ r. ⌜
-        left r (now (out .exit)) (now (records .exit)) []
+        leaving r (now (out .exit)) (now (records .exit)) []
         ≡ import-outcome (now (kinds .entry)) (now (floats .entry)) (now (out .entry)) (now (records .entry))
         ⌝ }
 {

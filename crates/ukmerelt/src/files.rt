@@ -1,9 +1,9 @@
 // The set file: read into a shape set's rows, written from them, and salvaged where it is damaged.
 ghost use mathlib.Core.Path.{_≡_};
-ghost use Rattle.buffer.specs.Answers.{left};
+ghost use Rattle.buffer.specs.Answers.{leaving};
 ghost use Rattle.setfile.specs.Reading.{outcome as read-outcome};
-ghost use Rattle.setfile.specs.Writing.{left as written-left, outcome as write-outcome};
-ghost use Rattle.salvage.specs.Outcome.{left as salvage-left, outcome as salvage-outcome};
+ghost use Rattle.setfile.specs.Writing.{leaving as written-left, outcome as write-outcome};
+ghost use Rattle.salvage.specs.Outcome.{leaving as salvage-left, outcome as salvage-outcome};
 use buffer::Packed;
 use salvage::Salvaged;
 use setfile::Written;
@@ -17,7 +17,7 @@ pub extern "C" fn ukm_read_set(
     groups: &mut [[usize; 2]],
 ) -> Packed
     ensures { λ r. ⌜
-        left r (now (out .exit)) (now (records .exit)) (now (groups .exit))
+        leaving r (now (out .exit)) (now (records .exit)) (now (groups .exit))
         ≡ read-outcome (now (bytes .entry)) (now (out .entry)) (now (records .entry)) (now (groups .entry))
         ⌝ }
 {

@@ -1,8 +1,8 @@
 // The functions that programs in C and Rust call, each with the contract of the one that it hands its arguments to.
-mod contour_sets;
-mod contours;
-mod drawings;
-mod files;
-mod packing;
-mod shape_sets;
-mod shapes;
+pub mod contour_sets;
+pub mod contours;
+pub mod drawings;
+pub mod files;
+pub mod packing;
+pub mod shape_sets;
+pub mod shapes;

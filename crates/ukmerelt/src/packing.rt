@@ -1,7 +1,7 @@
 // Sets written in front of lent rows: packed, or enlarged by one.
 ghost use mathlib.Core.Path.{_≡_};
 ghost use mathlib.Core.List.{[]};
-ghost use Rattle.buffer.specs.Answers.{left};
+ghost use Rattle.buffer.specs.Answers.{leaving};
 ghost use Rattle.buffer.specs.Contours.{with-one-more as with-one-contour-more};
 ghost use Rattle.buffer.specs.Shapes.{with-contour, with-shape, with-shapes, with-one-more};
 use buffer::Packed;
@@ -15,7 +15,7 @@ pub extern "C" fn ukm_pack_contour(
     groups: &mut [[usize; 2]],
 ) -> Packed
     ensures { λ r. ⌜
-        left r (now (out .exit)) (now (records .exit)) (now (groups .exit))
+        leaving r (now (out .exit)) (now (records .exit)) (now (groups .exit))
         ≡ with-contour (now (contour .entry)) (now (out .entry)) (now (records .entry)) (now (groups .entry))
         ⌝ }
 {
@@ -32,8 +32,9 @@ pub extern "C" fn ukm_pack_shape(
     groups: &mut [[usize; 2]],
 ) -> Packed
     ensures { λ r. ⌜
-        left r (now (out .exit)) (now (records .exit)) (now (groups .exit))
-        ≡ with-shape (now (points .entry)) (now (ranges .entry)) (now (out .entry)) (now (records .entry)) (now (groups .entry))
+        leaving r (now (out .exit)) (now (records .exit)) (now (groups .exit))
+        ≡ with-shape (now (points .entry)) (now (ranges .entry)) (now (out .entry))
+        (now (records .entry)) (now (groups .entry))
         ⌝ }
 {
     buffer::shapes::set_with_shape(points, ranges, out, records, groups)
@@ -50,7 +51,7 @@ pub extern "C" fn ukm_pack_shapes(
     groups: &mut [[usize; 2]],
 ) -> Packed
     ensures { λ r. ⌜
-        left r (now (out .exit)) (now (records .exit)) (now (groups .exit))
+        leaving r (now (out .exit)) (now (records .exit)) (now (groups .exit))
         ≡ with-shapes (now (points .entry)) (now (contours .entry)) (now (shapes .entry))
         (now (out .entry)) (now (records .entry)) (now (groups .entry))
         ⌝ }
@@ -68,7 +69,7 @@ pub extern "C" fn ukm_add_contour(
     records: &mut [[usize; 2]],
 ) -> Packed
     ensures { λ r. ⌜
-        left r (now (out .exit)) (now (records .exit)) []
+        leaving r (now (out .exit)) (now (records .exit)) []
         ≡ with-one-contour-more (now (points .entry)) (now (ranges .entry)) (now (contour .entry))
         (now (out .entry)) (now (records .entry))
         ⌝ }
@@ -89,8 +90,9 @@ pub extern "C" fn ukm_add_shape(
     groups: &mut [[usize; 2]],
 ) -> Packed
     ensures { λ r. ⌜
-        left r (now (out .exit)) (now (records .exit)) (now (groups .exit))
-        ≡ with-one-more (now (points .entry)) (now (contours .entry)) (now (shapes .entry)) (now (more .entry)) (now (ranges .entry))
+        leaving r (now (out .exit)) (now (records .exit)) (now (groups .exit))
+        ≡ with-one-more (now (points .entry)) (now (contours .entry)) (now (shapes .entry))
+        (now (more .entry)) (now (ranges .entry))
         (now (out .entry)) (now (records .entry)) (now (groups .entry))
         ⌝ }
 {

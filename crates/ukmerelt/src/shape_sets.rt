@@ -3,7 +3,7 @@ ghost use mathlib.Core.Path.{_≡_};
 ghost use Rattle.sets.specs.Area.{shapes-doubled, shapes-half};
 ghost use Rattle.sets.specs.Verdicts.{shapes-simple, shapes-spike-free};
 use area::Area;
-use grid::Verdict;
+use replies::Verdict;
 
 // Whether every contour of the set is simple.
 #[no_mangle]
@@ -24,7 +24,9 @@ pub extern "C" fn ukm_shapes_has_no_spikes(
     contours: &[[usize; 2]],
     shapes: &[[usize; 2]],
 ) -> Verdict
-    ensures { λ r. ⌜ r ≡ shapes-spike-free (now (points .entry)) (now (contours .entry)) (now (shapes .entry)) ⌝ }
+    ensures { λ r. ⌜
+        r ≡ shapes-spike-free (now (points .entry)) (now (contours .entry)) (now (shapes .entry))
+        ⌝ }
 {
     sets::shapes::has_no_spikes(points, contours, shapes)
 }

@@ -2,7 +2,7 @@
 ghost use mathlib.Core.Path.{_≡_};
 ghost use mathlib.Core.List.{[]};
 ghost use Rattle.ring.specs.declared.Rule as R;
-ghost use Rattle.sets.specs.Outcome.{lent, left, shape-outcome, shapes-outcome};
+ghost use Rattle.sets.specs.Outcome.{lent, leaving, shape-outcome, shapes-outcome};
 use sets::CleanedSet;
 
 // The shape without its collinear points.
@@ -17,7 +17,7 @@ pub extern "C" fn ukm_simplified_shape(
     records: &mut [[usize; 2]],
 ) -> CleanedSet
     ensures { λ r. ⌜
-        left r
+        leaving r
         (lent (now (next .exit)) (now (prev .exit)) (now (mark .exit))
         (now (out .exit)) (now (records .exit)) [])
         ≡ shape-outcome R.Rule.Collinear (now (points .entry)) (now (ranges .entry))
@@ -40,7 +40,7 @@ pub extern "C" fn ukm_despiked_shape(
     records: &mut [[usize; 2]],
 ) -> CleanedSet
     ensures { λ r. ⌜
-        left r
+        leaving r
         (lent (now (next .exit)) (now (prev .exit)) (now (mark .exit))
         (now (out .exit)) (now (records .exit)) [])
         ≡ shape-outcome R.Rule.Spike (now (points .entry)) (now (ranges .entry))
@@ -65,7 +65,7 @@ pub extern "C" fn ukm_simplified_shapes(
     groups: &mut [[usize; 2]],
 ) -> CleanedSet
     ensures { λ r. ⌜
-        left r
+        leaving r
         (lent (now (next .exit)) (now (prev .exit)) (now (mark .exit))
         (now (out .exit)) (now (records .exit)) (now (groups .exit)))
         ≡ shapes-outcome R.Rule.Collinear (now (points .entry)) (now (contours .entry)) (now (shapes .entry))
@@ -100,7 +100,7 @@ pub extern "C" fn ukm_despiked_shapes(
     groups: &mut [[usize; 2]],
 ) -> CleanedSet
     ensures { λ r. ⌜
-        left r
+        leaving r
         (lent (now (next .exit)) (now (prev .exit)) (now (mark .exit))
         (now (out .exit)) (now (records .exit)) (now (groups .exit)))
         ≡ shapes-outcome R.Rule.Spike (now (points .entry)) (now (contours .entry)) (now (shapes .entry))

@@ -2,14 +2,14 @@
 
 use super::long::{length, set_of};
 use crate::tally::Tally;
-use cases::drawings::back::{any_export, around};
-use cases::drawings::case::LONGEST_IN;
-use cases::drawings::command::{Drawing, CLOSE, LINE, MOVE};
-use cases::drawings::exact::Bits;
-use cases::drawings::faults::any_import;
-use cases::drawings::floats::{any, on_grid};
-use cases::drawings::sound::{beside, import, need};
-use cases::rng::Rng;
+use lists::drawings::back::{any_export, around};
+use lists::drawings::case::LONGEST_IN;
+use lists::drawings::faults::any_import;
+use lists::drawings::floats::{any, on_grid};
+use lists::drawings::sound::{beside, import, need};
+use lists::rng::Rng;
+use requests::drawing::{Drawing, CLOSE, LINE, MOVE};
+use requests::exact::Bits;
 
 pub fn imported(tally: &mut Tally, rng: &mut Rng) {
     tally.compare(&any_import(rng));

@@ -1,9 +1,9 @@
 //! Every contour of a few points with few coordinates.
 
 use crate::tally::Tally;
-use cases::case::Case;
-use cases::point::{Point, LIMIT};
-use cases::tiny::square;
+use lists::contours::case::Case;
+use lists::contours::tiny::square;
+use lists::point::{Point, LIMIT};
 
 /// Asked in turn about the points in the grid and around it.
 pub fn on_three_by_three(tally: &mut Tally) {

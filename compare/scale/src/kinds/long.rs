@@ -2,21 +2,22 @@
 
 use super::short::{any_contour, PACKINGS};
 use crate::tally::Tally;
-use cases::case::{Case, Kind};
-use cases::cleaning::case::{self, Form};
-use cases::cleaning::lent::{asked, point_for};
-use cases::damaged::OFF_GRID;
-use cases::files::writings::beside;
-use cases::point::{Point, LIMIT, MOST_POINTS};
-use cases::rng::Rng;
-use cases::sets::flat::Set;
-use cases::sets::packing::Form as Packing;
-use cases::sets::{chosen, rows};
-use cases::shapes::{
+use lists::cleaning::case::{self, Form};
+use lists::cleaning::lent::{asked, point_for};
+use lists::contours::asked;
+use lists::contours::case::{Case, Kind};
+use lists::contours::damaged::OFF_GRID;
+use lists::contours::unclean::{returning, stroll};
+use lists::files::writings::beside;
+use lists::point::{Point, LIMIT, MOST_POINTS};
+use lists::rng::Rng;
+use lists::sets::flat::Set;
+use lists::sets::packing::Form as Packing;
+use lists::sets::{chosen, rows};
+use lists::shapes::{
     at_ends, convex, flat, scattered, star, there_and_back, turned, with_repeats, with_spike,
 };
-use cases::unclean::{returning, stroll};
-use cases::{asked, cleaning, scratch};
+use lists::{cleaning, scratch};
 
 /// A count of points: around a power of two, around the most, or any.
 pub fn length(rng: &mut Rng) -> usize {

@@ -1,12 +1,12 @@
 //! Random files to be mended.
 
 use crate::tally::Tally;
-use cases::damaged::OFF_GRID;
-use cases::files::damaged::damaged_file;
-use cases::files::mendings::{damaged, file_of, mending, offsets, Contour};
-use cases::files::sound::random_file;
-use cases::point::LIMIT;
-use cases::rng::Rng;
+use lists::contours::damaged::OFF_GRID;
+use lists::files::damaged::damaged_file;
+use lists::files::mendings::{damaged, file_of, mending, offsets, Contour};
+use lists::files::sound::random_file;
+use lists::point::LIMIT;
+use lists::rng::Rng;
 
 /// The most bytes and the most contours of a file.
 const MOST_BYTES: usize = 65_536;

@@ -9,8 +9,8 @@ mod short;
 
 use crate::input::Input;
 use crate::tally::Tally;
-use cases::once;
-use cases::rng::Rng;
+use lists::once;
+use lists::rng::Rng;
 
 pub struct Kind {
     pub name: &'static str,
@@ -52,11 +52,11 @@ pub const KINDS: [Kind; 25] = [
     Kind::new("the list of sets", All(short::list_of_sets)),
     Kind::new(
         "the list of sets judged and cleaned",
-        All(|tally| each(tally, once(cases::cleaning::list()))),
+        All(|tally| each(tally, once(lists::cleaning::list()))),
     ),
     Kind::new(
         "the list of files",
-        All(|tally| each(tally, once(cases::files::list()))),
+        All(|tally| each(tally, once(lists::files::list()))),
     ),
     Kind::new(
         "all contours of up to 6 points on 3 by 3",
@@ -113,7 +113,7 @@ pub const KINDS: [Kind; 25] = [
     Kind::new("rows of ranges, sound and damaged", OneFor(10, ranges::any)),
     Kind::new(
         "the list of drawings",
-        All(|tally| each(tally, once(cases::drawings::list()))),
+        All(|tally| each(tally, once(lists::drawings::list()))),
     ),
     Kind::new(
         "drawings, sound and damaged, rows around the need",

@@ -2,9 +2,9 @@
 
 use crate::ranges::Ranges;
 use crate::tally::Tally;
-use cases::rng::Rng;
-use cases::sets::flat::Record;
-use cases::sets::small::rows_up_to;
+use lists::rng::Rng;
+use lists::sets::flat::Record;
+use lists::sets::small::rows_up_to;
 
 const MAX: usize = usize::MAX;
 

@@ -2,30 +2,31 @@
 
 use super::each;
 use crate::tally::Tally;
-use cases::case::{self, Case};
-use cases::cleaning::case::Form;
-use cases::cleaning::lent::{asked, in_turn, point_for};
-use cases::cleaning::random::on_grid;
-use cases::files::damaged::{damaged_file, rows};
-use cases::files::sound::{around, need, random_file, reading};
-use cases::files::writings::beside;
-use cases::lent::around_a_need;
-use cases::point::Point;
-use cases::rng::Rng;
-use cases::sets::case::Kind;
-use cases::sets::chosen;
-use cases::sets::flat::Set;
-use cases::sets::packing::Form as Packing;
-use cases::sets::random::{set, spoil};
-use cases::sets::rows::Lengths;
-use cases::{asked, damaged, once, random, sets, unclean};
+use lists::cleaning::case::Form;
+use lists::cleaning::lent::{asked, in_turn, point_for};
+use lists::cleaning::random::on_grid;
+use lists::contours::case::{self, Case};
+use lists::contours::lent::around_a_need;
+use lists::contours::{asked, damaged, random, unclean};
+use lists::files::damaged::{damaged_file, rows};
+use lists::files::sound::{around, need, random_file, reading};
+use lists::files::writings::beside;
+use lists::point::Point;
+use lists::rng::Rng;
+use lists::sets::case::Kind;
+use lists::sets::chosen;
+use lists::sets::flat::Set;
+use lists::sets::packing::Form as Packing;
+use lists::sets::random::{set, spoil};
+use lists::sets::rows::Lengths;
+use lists::{once, sets};
 
 /// The forms of packing that the library has: it packs into shape sets.
 pub const PACKINGS: [usize; 5] = [3, 4, 5, 6, 7];
 
 /// All but the second call after a cleaning, which only Rattle has.
 pub fn list_of_contours(tally: &mut Tally) {
-    let mut list = cases::list();
+    let mut list = lists::contours::list();
     list.retain(|case| !matches!(case.kind, case::Kind::Kept(_)));
     each(tally, list);
 }

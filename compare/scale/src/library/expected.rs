@@ -1,7 +1,7 @@
 //! What the library must answer, by the original's reply.
 
 use super::answer::{Area, Verdict};
-use cases::reply::Reply;
+use requests::reply::Reply;
 
 /// A refusal has nothing else to say.
 impl From<Reply<bool>> for Verdict {

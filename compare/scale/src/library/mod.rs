@@ -7,12 +7,12 @@ mod lent;
 mod raw;
 
 use answer::{Area, Cleaned, CleanedSet, Drawn, Packed, Salvaged, Verdict, Written};
-use cases::cleaner::Cleaner;
-use cases::drawings::exact::Bits;
-use cases::point::Point;
-use cases::sets::flat::Record;
-use cases::{scratch, sets};
 pub use lent::Lent;
+use lists::cleaner::Cleaner;
+use lists::point::Point;
+use lists::sets::flat::Record;
+use lists::{scratch, sets};
+use requests::exact::Bits;
 
 /// A start and an end.
 type Range = Record;

@@ -4,7 +4,7 @@ use mathlib.Core.Path.{_∙_, ap}
 use Prim.Native.Nat.{ℕ, _+_, _%_, _^_}
 use mir.Facts.{toZ-ofZ}
 use Rattle.grid.specs.Limits.{limit}
-use Rattle.grid.specs.Inside.{raised}
+use Rattle.grid.specs.inside.Rows.{raised}
 use Rattle.grid.proofs.raised.Statement.{statement}
 use Rattle.grid.proofs.raised.Tie as tie
 

@@ -9,7 +9,7 @@ use lib.IntN.{pos}
 use lib.ListN.{length, drop, getD}
 use mir.Facts.{toZ-ofZ}
 use Rattle.grid.specs.Limits.{limit, all-on-grid}
-use Rattle.grid.specs.Inside.{raised}
+use Rattle.grid.specs.inside.Rows.{raised}
 use Rattle.grid.proofs.LimitLaws.{raised-on-grid, all-on-grid-more, all-on-grid-none}
 use Rattle.grid.proofs.raised_bits.Statement.{statement}
 use Rattle.grid.proofs.raised_bits.Tie as tie

@@ -8,9 +8,10 @@ use mir.Val.{toZ, ofZ}
 use mir.Facts.{toZ-ofZ}
 use Rattle.grid.specs.declared.Point.{Point}
 use Rattle.grid.specs.Points.{on, points}
+use Rattle.grid.specs.Domain.{count}
 use Rattle.grid.proofs.DomainLaws.{in-domain}
 use Rattle.path.specs.Contains.{contained}
-use Rattle.path.proofs.ContainsLaws.{contains-refused, contains-off, contains-given, nothing-contained}
+use Rattle.path.proofs.ContainsLaws.{contains-refused, contains-off, contains-given}
 use Rattle.path.proofs.contains_point.Statement.{statement}
 use Rattle.path.proofs.contains_point.Tie as tie
 
@@ -36,18 +37,29 @@ returns-2 c =
     let d = c .before .before in
     contains-off _ _ _ (sym (d .before .domain .ensures) ∙ d .if1 .left) (sym (told (c .before)) ∙ not-true _ (c .if2 .taken))
 
+parity-of-four-requires : tie.Need-parity-of-four-requires
+parity-of-four-requires c κs =
+    let t = c .before .before in
+    let d = t .before in
+    let row = d .before .before .args .points .now in
+    let four : count row ≡ 4 = omega (arith, c .if3 .taken) in (
+      rw four at (in-domain row (sym (d .before .domain .ensures) ∙ d .if1 .left)),
+      sym (t .point-on-grid .ensures) ∙ not-false _ (c .before .if2 .left),
+    )
+
 returns-3 : tie.Need-returns-3
 returns-3 c =
-    let d = c .before .before .before in
-    contains-given _ _ _ (sym (d .before .domain .ensures) ∙ d .if1 .left) _ (sym (told (c .before .before)) ∙ not-false _ (c .before .if2 .left)) (nothing-contained _ _ (c .if3 .taken))
+    let t = c .before .before .before in
+    let d = t .before in
+    let s = d .before .before in
+    contains-given _ _ _ (sym (d .before .domain .ensures) ∙ d .if1 .left) _ (sym (told t) ∙ not-false _ (c .before .before .if2 .left))
+    (c .parity-of-four .ensures ∙ ap (λ (p : Point). contained p (points (s .args .points .now))) (asked s))
 
-parity-requires : tie.Need-parity-requires
-parity-requires c κs =
-    let d = c .before .before .before in (
-      in-domain _ (sym (d .before .domain .ensures) ∙ d .if1 .left),
-      omega (arith, c .if3 .left),
-      sym (c .before .before .point-on-grid .ensures) ∙ not-false _ (c .before .if2 .left),
-    )
+holds-requires : tie.Need-holds-requires
+holds-requires c κs =
+    let t = c .before .before in
+    let d = t .before in
+    (sym (d .before .domain .ensures) ∙ d .if1 .left, sym (t .point-on-grid .ensures) ∙ not-false _ (c .before .if2 .left))
 
 returns-4 : tie.Need-returns-4
 returns-4 c =
@@ -55,7 +67,7 @@ returns-4 c =
     let d = t .before in
     let s = d .before .before in
     contains-given _ _ _ (sym (d .before .domain .ensures) ∙ d .if1 .left) _ (sym (told t) ∙ not-false _ (c .before .before .if2 .left))
-    (c .parity .ensures ∙ ap (λ (p : Point). contained p (points (s .args .points .now))) (asked s))
+    (c .holds .ensures ∙ ap (λ (p : Point). contained p (points (s .args .points .now))) (asked s))
 
 pub contains-point-spec : {M : Type 1} → statement M
 contains-point-spec =
@@ -65,6 +77,7 @@ contains-point-spec =
     returns
     point-on-grid-requires
     returns-2
+    parity-of-four-requires
     returns-3
-    parity-requires
+    holds-requires
     returns-4)

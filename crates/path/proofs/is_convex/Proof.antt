@@ -5,7 +5,7 @@ use native.Mathlib.Omega.{arith}
 use Rattle.grid.specs.Points.{at}
 use Rattle.grid.proofs.DomainLaws.{in-domain}
 use Rattle.grid.proofs.AlongLaws.{nothing-left}
-use Rattle.grid.proofs.VerdictLaws.{verdict-refused, verdict-given}
+use Rattle.replies.proofs.VerdictLaws.{verdict-refused, verdict-given}
 use Rattle.path.specs.Convex.{convex}
 use Rattle.path.proofs.ConvexLaws.{convex-few, convex-many, convex-nothing}
 use Rattle.path.proofs.is_convex.Statement.{statement}

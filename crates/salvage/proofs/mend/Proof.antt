@@ -1,7 +1,7 @@
 -- `salvage::mend` meets its contract: refused, or the sifted contours under their head.
 use borrow.Author.Needs.{needs}
 use mathlib.Core.Path.{refl, sym, _∙_}
-use Rattle.setfile.specs.Inside.{Bytes}
+use Rattle.setfile.specs.inside.Bytes.{Bytes}
 use Rattle.salvage.proofs.MendLaws.{mend-refused, roomy, missing-few, dropped-few, head-room, mend-done}
 use Rattle.salvage.proofs.mend.Statement.{statement}
 use Rattle.salvage.proofs.mend.Tie as tie

@@ -1,6 +1,6 @@
 -- `buffer::contours::contour` meets its contract.
 use mathlib.Core.Path.{_∙_}
-use Rattle.buffer.specs.Parts.{part}
+use Rattle.rows.specs.Parts.{part}
 use Rattle.buffer.proofs.PartLaws.{contour-refused, contour-absent, contour-there, contour-named}
 use borrow.Author.Needs.{needs}
 use Rattle.buffer.proofs.contours.contour.Statement.{statement}

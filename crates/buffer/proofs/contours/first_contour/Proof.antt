@@ -1,6 +1,6 @@
 -- `buffer::contours::first_contour` meets its contract.
 use mathlib.Core.Path.{_∙_}
-use Rattle.buffer.specs.Parts.{part}
+use Rattle.rows.specs.Parts.{part}
 use Rattle.buffer.proofs.PartLaws.{first-there, first-refused, first-loose}
 use borrow.Author.Needs.{needs}
 use Rattle.buffer.proofs.contours.first_contour.Statement.{statement}

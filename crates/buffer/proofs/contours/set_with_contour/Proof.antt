@@ -13,11 +13,11 @@ use Rattle.buffer.proofs.contours.set_with_contour.Tie as tie
 domain-requires : tie.Need-domain-requires
 domain-requires c κs = search needs
 
-slice-aggregate-pack : tie.Need-slice-aggregate-pack
-slice-aggregate-pack c = search needs
+slice-aggregate-contours : tie.Need-slice-aggregate-contours
+slice-aggregate-contours c = search needs
 
-pack-requires : tie.Need-pack-requires
-pack-requires c κs = λ z. one-movable _ 0 (omega arith)
+contours-requires : tie.Need-contours-requires
+contours-requires c κs = λ z. one-movable _ 0 (omega arith)
 
 same-length : tie.Need-same-length
 same-length c = search needs
@@ -28,11 +28,11 @@ same-length-2 c = search needs
 returns : tie.Need-returns
 returns c =
     let s = c .before .before .before .before .before .before .before .args in
-    c .before .before .pack .ensures
+    c .before .before .contours .ensures
     ∙ stored-told (s .contour .now) (whole (s .contour .now) ∷ []) [] (s .out .now)
     (s .records .now) [] (domain (s .contour .now)) tt _ (c .before .before .before .before .before .before .domain .ensures)
 
 pub set-with-contour-spec : {M : Type 1} → statement M
 set-with-contour-spec =
     tie.close
-    (tie.spec domain-requires slice-aggregate-pack pack-requires same-length same-length-2 returns)
+    (tie.spec domain-requires slice-aggregate-contours contours-requires same-length same-length-2 returns)

@@ -12,8 +12,8 @@ use Rattle.buffer.proofs.contours.set_with_shapes.Tie as tie
 refused-requires : tie.Need-refused-requires
 refused-requires c κs = search needs
 
-pack-requires : tie.Need-pack-requires
-pack-requires c κs =
+contours-requires : tie.Need-contours-requires
+contours-requires c κs =
     let s = c .before .before .before .args in
     λ z. contours-movable (s .points .now) (s .contours .now) (s .shapes .now) _ (c .before .before .refused .ensures) z
 
@@ -26,10 +26,10 @@ same-length-2 c = search needs
 returns : tie.Need-returns
 returns c =
     let s = c .before .before .before .before .before .before .args in
-    c .before .before .pack .ensures
+    c .before .before .contours .ensures
     ∙ stored-told (s .points .now) (spans (s .contours .now)) [] (s .out .now)
     (s .records .now) [] (S.refusals (s .points .now) (s .contours .now) (s .shapes .now)) tt _ (c .before .before .before .before .before .refused .ensures)
 
 pub set-with-shapes-spec : {M : Type 1} → statement M
 set-with-shapes-spec =
-    tie.close (tie.spec refused-requires pack-requires same-length same-length-2 returns)
+    tie.close (tie.spec refused-requires contours-requires same-length same-length-2 returns)

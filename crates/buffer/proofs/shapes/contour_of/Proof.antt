@@ -1,6 +1,6 @@
 -- `buffer::shapes::contour_of` meets its contract.
 use mathlib.Core.Path.{_∙_}
-use Rattle.buffer.specs.Parts.{part}
+use Rattle.rows.specs.Parts.{part}
 use Rattle.buffer.proofs.PartLaws.{not-inside, inside}
 use borrow.Author.Needs.{needs}
 use Rattle.buffer.proofs.shapes.contour_of.Statement.{statement}

@@ -7,12 +7,12 @@ use Rattle.buffer.proofs.shapes.contours_count.Tie as tie
 refused-requires : tie.Need-refused-requires
 refused-requires c κs = search needs
 
-count-requires : tie.Need-count-requires
-count-requires c κs = search needs
+how-many-requires : tie.Need-how-many-requires
+how-many-requires c κs = search needs
 
 returns : tie.Need-returns
 unfolding contours-count
 returns c = cc
 
 pub contours-count-spec : {M : Type 1} → statement M
-contours-count-spec = tie.close (tie.spec refused-requires count-requires returns)
+contours-count-spec = tie.close (tie.spec refused-requires how-many-requires returns)

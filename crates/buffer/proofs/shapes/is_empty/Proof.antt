@@ -7,12 +7,12 @@ use Rattle.buffer.proofs.shapes.is_empty.Tie as tie
 refused-requires : tie.Need-refused-requires
 refused-requires c κs = search needs
 
-verdict-requires : tie.Need-verdict-requires
-verdict-requires c κs = search needs
+answered-requires : tie.Need-answered-requires
+answered-requires c κs = search needs
 
 returns : tie.Need-returns
 unfolding is-empty
 returns c = cc
 
 pub is-empty-spec : {M : Type 1} → statement M
-is-empty-spec = tie.close (tie.spec refused-requires verdict-requires returns)
+is-empty-spec = tie.close (tie.spec refused-requires answered-requires returns)

@@ -7,12 +7,12 @@ use Rattle.buffer.proofs.shapes.points_count.Tie as tie
 refused-requires : tie.Need-refused-requires
 refused-requires c κs = search needs
 
-count-requires : tie.Need-count-requires
-count-requires c κs = search needs
+how-many-requires : tie.Need-how-many-requires
+how-many-requires c κs = search needs
 
 returns : tie.Need-returns
 unfolding points-count
 returns c = cc
 
 pub points-count-spec : {M : Type 1} → statement M
-points-count-spec = tie.close (tie.spec refused-requires count-requires returns)
+points-count-spec = tie.close (tie.spec refused-requires how-many-requires returns)

@@ -13,14 +13,14 @@ use Rattle.buffer.proofs.shapes.set_with_contour.Tie as tie
 domain-requires : tie.Need-domain-requires
 domain-requires c κs = search needs
 
-slice-aggregate-pack : tie.Need-slice-aggregate-pack
-slice-aggregate-pack c = search needs
+slice-aggregate-shapes : tie.Need-slice-aggregate-shapes
+slice-aggregate-shapes c = search needs
 
-slice-aggregate-pack-2 : tie.Need-slice-aggregate-pack-2
-slice-aggregate-pack-2 c = search needs
+slice-aggregate-shapes-2 : tie.Need-slice-aggregate-shapes-2
+slice-aggregate-shapes-2 c = search needs
 
-pack-requires : tie.Need-pack-requires
-pack-requires c κs = λ z. (one-movable _ 0 (omega arith), one-movable 1 0 (omega arith))
+shapes-requires : tie.Need-shapes-requires
+shapes-requires c κs = λ z. (one-movable _ 0 (omega arith), one-movable 1 0 (omega arith))
 
 same-length : tie.Need-same-length
 same-length c = search needs
@@ -35,7 +35,7 @@ returns : tie.Need-returns
 returns c =
     let s = c .before .before .before .before .before .before .before .before .before .before .args in
     let one = whole (s .contour .now) ∷ [] in
-    c .before .before .before .pack .ensures
+    c .before .before .before .shapes .ensures
     ∙ stored-told (s .contour .now) one (every one ∷ []) (s .out .now)
     (s .records .now) (s .groups .now) (domain (s .contour .now)) tt _ (c .before .before .before .before .before .before .before .before .before .domain .ensures)
 
@@ -44,9 +44,9 @@ set-with-contour-spec =
     tie.close
     (tie.spec
     domain-requires
-    slice-aggregate-pack
-    slice-aggregate-pack-2
-    pack-requires
+    slice-aggregate-shapes
+    slice-aggregate-shapes-2
+    shapes-requires
     same-length
     same-length-2
     same-length-3

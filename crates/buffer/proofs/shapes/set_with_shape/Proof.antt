@@ -15,11 +15,11 @@ use Rattle.buffer.proofs.shapes.set_with_shape.Tie as tie
 refused-requires : tie.Need-refused-requires
 refused-requires c κs = search needs
 
-slice-aggregate-pack : tie.Need-slice-aggregate-pack
-slice-aggregate-pack c = search needs
+slice-aggregate-shapes : tie.Need-slice-aggregate-shapes
+slice-aggregate-shapes c = search needs
 
-pack-requires : tie.Need-pack-requires
-pack-requires c κs =
+shapes-requires : tie.Need-shapes-requires
+shapes-requires c κs =
     let s = c .before .before .before .before .before .args in
     λ z. (shape-movable (s .points .now) (s .ranges .now) _ (c .before .before .before .before .refused .ensures) z, one-movable _ 0 (omega arith))
 
@@ -35,7 +35,7 @@ same-length-3 c = search needs
 returns : tie.Need-returns
 returns c =
     let s = c .before .before .before .before .before .before .before .before .before .args in
-    c .before .before .before .pack .ensures
+    c .before .before .before .shapes .ensures
     ∙ stored-told (s .points .now) (spans (s .ranges .now)) (every (s .ranges .now) ∷ []) (s .out .now)
     (s .records .now) (s .groups .now) (C.refusals (s .points .now) (s .ranges .now)) tt _ (c .before .before .before .before .before .before .before .before .refused .ensures)
 
@@ -44,8 +44,8 @@ set-with-shape-spec =
     tie.close
     (tie.spec
     refused-requires
-    slice-aggregate-pack
-    pack-requires
+    slice-aggregate-shapes
+    shapes-requires
     same-length
     same-length-2
     same-length-3

@@ -12,8 +12,8 @@ use Rattle.buffer.proofs.shapes.set_with_shapes.Tie as tie
 refused-requires : tie.Need-refused-requires
 refused-requires c κs = search needs
 
-pack-requires : tie.Need-pack-requires
-pack-requires c κs =
+shapes-requires : tie.Need-shapes-requires
+shapes-requires c κs =
     let s = c .before .before .before .before .args in
     λ z. (
       contours-movable (s .points .now) (s .contours .now) (s .shapes .now) _ (c .before .before .before .refused .ensures) z,
@@ -32,11 +32,11 @@ same-length-3 c = search needs
 returns : tie.Need-returns
 returns c =
     let s = c .before .before .before .before .before .before .before .before .args in
-    c .before .before .before .pack .ensures
+    c .before .before .before .shapes .ensures
     ∙ stored-told (s .points .now) (spans (s .contours .now)) (spans (s .shapes .now)) (s .out .now)
     (s .records .now) (s .groups .now) (S.refusals (s .points .now) (s .contours .now) (s .shapes .now)) tt _ (c .before .before .before .before .before .before .before .refused .ensures)
 
 pub set-with-shapes-spec : {M : Type 1} → statement M
 set-with-shapes-spec =
     tie.close
-    (tie.spec refused-requires pack-requires same-length same-length-2 same-length-3 returns)
+    (tie.spec refused-requires shapes-requires same-length same-length-2 same-length-3 returns)

@@ -4,10 +4,10 @@ use borrow.Author.Tests.{lt-ltb, le-ltb}
 use mathlib.Core.Path.{sym, _∙_}
 use mathlib.Core.List.{List, _++_}
 use Prim.Native.Nat.{ℕ}
-use Rattle.grid.specs.Ladder.{Rung}
+use Rattle.replies.specs.Ladder.{Rung}
 use Rattle.grid.specs.Domain.{domain}
-use Rattle.grid.proofs.LadderLaws.{First, first-is, stopped, onward}
-use Rattle.grid.proofs.LadderLaws.First.{here, past, foot}
+use Rattle.replies.proofs.LadderLaws.{First, first-is, stopped, onward}
+use Rattle.replies.proofs.LadderLaws.First.{here, past, foot}
 use Rattle.clean.proofs.cleaning.refusal.Statement.{statement}
 use Rattle.clean.proofs.cleaning.refusal.Tie as tie
 

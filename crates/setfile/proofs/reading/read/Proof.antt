@@ -1,6 +1,6 @@
 -- `setfile::reading::read` meets its contract.
 use borrow.Author.Needs.{needs}
-use Rattle.setfile.specs.Inside.{Bytes}
+use Rattle.setfile.specs.inside.Bytes.{Bytes}
 use Rattle.setfile.proofs.ReadingLaws.{Accepted, accepted, read-refused, read-done}
 use Rattle.setfile.proofs.reading.read.Statement.{statement}
 use Rattle.setfile.proofs.reading.read.Tie as tie

@@ -2,8 +2,8 @@
 use borrow.Author.Tests.{eq-eqb, ne-eqb, lt-ltb, le-ltb}
 use mathlib.Core.Path.{ap}
 use mathlib.Core.Bool.{not}
-use Rattle.grid.proofs.LadderLaws.{first-is}
-use Rattle.grid.proofs.LadderLaws.First.{here, past, foot}
+use Rattle.replies.proofs.LadderLaws.{first-is}
+use Rattle.replies.proofs.LadderLaws.First.{here, past, foot}
 use Rattle.sets.proofs.cleaning.or_lacking.Statement.{statement}
 use Rattle.sets.proofs.cleaning.or_lacking.Tie as tie
 

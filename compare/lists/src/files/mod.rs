@@ -1,0 +1,101 @@
+//! Set files, read and mended, and sets to be written: their cases, the list of them, and
+//! the answers by the reader, the writer and the salvage of `requests`.
+
+mod answers;
+mod case;
+pub mod damaged;
+mod large;
+mod listing;
+mod mend;
+pub mod mendings;
+pub mod sound;
+mod text;
+pub mod writings;
+
+pub use answers::{answer, Reading, Writing};
+pub use case::Case;
+pub use listing::write_listings;
+pub use mend::{Lent, Mending};
+
+/// How many contours a file has, if it is read.
+pub fn contours_read(file: &[u8]) -> Option<usize> {
+    let shapes = requests::edition::read(file).ok()?;
+    Some(shapes.concat().len())
+}
+
+/// Every case, in the order of the list: files to be read, then sets to be written, then
+/// files to be mended.
+pub fn list() -> Vec<Case> {
+    [readings(), writings(), mendings()].concat()
+}
+
+fn readings() -> Vec<Case> {
+    [
+        sound::small(),
+        sound::coordinates(),
+        sound::random(),
+        sound::rows(),
+        damaged::cut_and_longer(),
+        damaged::bits(),
+        damaged::editions(),
+        damaged::counts(),
+        damaged::beginnings(),
+        damaged::off_in_one_place(),
+        damaged::random(),
+        large::readings(),
+    ]
+    .concat()
+}
+
+fn writings() -> Vec<Case> {
+    [
+        writings::small(),
+        writings::ranges(),
+        writings::off_in_one_place(),
+        writings::random(),
+        writings::rows(),
+        large::writings(),
+    ]
+    .concat()
+}
+
+fn mendings() -> Vec<Case> {
+    [
+        mendings::files(&readings()),
+        mendings::rows(),
+        mendings::random(),
+    ]
+    .concat()
+}
+
+#[cfg(test)]
+mod tests {
+    use super::{answer, list, Case};
+    use std::collections::BTreeSet;
+
+    /// The replies to the cases of one kind.
+    fn replies(kind: char) -> Vec<u8> {
+        let of_it = |case: &Case| case.to_string().starts_with(kind);
+        let reply = |case| answer(&case).split(' ').next().unwrap().parse().unwrap();
+        let met: BTreeSet<u8> = list().into_iter().filter(of_it).map(reply).collect();
+        met.into_iter().collect()
+    }
+
+    #[test]
+    fn every_reply_that_is_due_is_met() {
+        assert_eq!(replies('r'), [0, 2, 3, 5, 9, 10, 11]);
+        assert_eq!(replies('f'), [0, 1, 2, 3, 5, 6, 12]);
+        assert_eq!(replies('m'), [0, 2, 5, 9, 10]);
+    }
+
+    #[test]
+    fn what_is_read_is_written_as_it_was() {
+        for case in list() {
+            if let Case::Reading { file, .. } = case {
+                if let Ok(shapes) = requests::edition::read(&file) {
+                    assert_eq!(requests::edition::write(&shapes), file);
+                }
+            }
+        }
+    }
+}

@@ -1,0 +1,114 @@
+//! Sets to be written, into rows as long as needed, longer and shorter.
+
+use super::case::{Case, MOST_FILE};
+use crate::contours::damaged::OFF_GRID;
+use crate::line::Row;
+use crate::rng::Rng;
+use crate::sets::flat::Set;
+use crate::sets::random;
+use crate::sets::ranges::{contour_ranges, shape_ranges};
+use crate::sets::small::{rows_up_to, set};
+use requests::edition::need;
+
+pub fn writing(room: usize, set: &Set) -> Case {
+    let set = set.clone();
+    Case::Writing { room, set }
+}
+
+/// So many bytes more than needed, or less.
+pub fn beside(set: &Set, more: isize) -> Case {
+    let need = need(set.contours.len(), set.points.all().len() / 2);
+    writing(need.saturating_add_signed(more).min(MOST_FILE), set)
+}
+
+/// Each set with exactly the room it needs, and every third also with less and with more.
+fn in_turn(sets: &[Set]) -> Vec<Case> {
+    let mut cases = vec![];
+    for (turn, set) in sets.iter().enumerate() {
+        cases.push(beside(set, 0));
+        if turn % 3 == 0 {
+            cases.extend([beside(set, -1), beside(set, 3)]);
+        }
+    }
+    cases
+}
+
+/// All sets of up to two shapes, and of three of which some are empty.
+pub fn small() -> Vec<Case> {
+    let two = rows_up_to(2, &rows_up_to(2, &[0, 1, 3]));
+    let three = rows_up_to(3, &[vec![], vec![0], vec![2], vec![3, 0]]);
+    let sets: Vec<Set> = [two, three]
+        .concat()
+        .iter()
+        .map(|sizes| set(sizes))
+        .collect();
+    in_turn(&sets)
+}
+
+/// Ranges of every kind, of contours and of shapes.
+pub fn ranges() -> Vec<Case> {
+    in_turn(&[contour_ranges(), shape_ranges()].concat())
+}
+
+/// A set of which one number is off the grid, in each place in turn: sound, with an empty
+/// shape, unsound, and of an odd count.
+pub fn off_in_one_place() -> Vec<Case> {
+    let mut sets = vec![];
+    let sound = set(&[vec![3, 0], vec![2], vec![1]]);
+    for place in 0..sound.points.numbers.len() {
+        for off in OFF_GRID {
+            let mut set = sound.clone();
+            set.points.numbers[place] = off;
+            sets.push(set);
+        }
+        let mut set = sets[sets.len() - 1 - place % OFF_GRID.len()].clone();
+        let contours = set.contours.len();
+        set.shapes.push([contours, contours]);
+        sets.push(set.clone());
+        set.contours[place % 3][1] += 1;
+        sets.push(set.clone());
+        set.points.numbers.push(1);
+        sets.push(set);
+    }
+    in_turn(&sets)
+}
+
+/// Random sets, sound and with damages.
+pub fn random() -> Vec<Case> {
+    let rng = &mut Rng::new(603);
+    let sound: Vec<Set> = (0..100).map(|_| random::set(rng)).collect();
+    let damaged: Vec<Set> = (0..150)
+        .map(|_| random::spoil(random::set(rng), rng))
+        .collect();
+    in_turn(&[sound, damaged].concat())
+}
+
+/// Chosen sets with every choice of the row; points without ranges, and contours without shapes.
+pub fn rows() -> Vec<Case> {
+    let mut sets = [
+        &[][..],
+        &[vec![]],
+        &[vec![0]],
+        &[vec![1]],
+        &[vec![2, 0], vec![3]],
+        &[vec![2, 0], vec![], vec![3]],
+    ]
+    .map(set)
+    .to_vec();
+    let loose = Set {
+        points: Row::wound(&[5, 6], 1),
+        ..Set::default()
+    };
+    let shapeless = Set {
+        contours: vec![[0, 1]],
+        ..loose.clone()
+    };
+    sets.extend([loose, shapeless]);
+    let mut cases = vec![];
+    for set in sets {
+        for more in [0, -1, -2, -8, 1, 2, 9, isize::MIN, isize::MAX] {
+            cases.push(beside(&set, more));
+        }
+    }
+    cases
+}

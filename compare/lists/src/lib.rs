@@ -1,0 +1,80 @@
+//! The list of cases, and the answers to it: those of the Rust original, and where it has
+//! none those of `requests`.
+
+mod checksum;
+pub mod cleaner;
+pub mod cleaning;
+pub mod contours;
+pub mod counted;
+pub mod drawings;
+pub mod files;
+pub mod line;
+pub mod point;
+pub mod rng;
+pub mod scratch;
+pub mod sets;
+pub mod shapes;
+
+use std::collections::HashSet;
+use std::fmt::Display;
+use std::str::FromStr;
+
+/// The first line of the answers.
+pub const HEADER: &str = "case answers";
+
+/// Every line of the list.
+pub fn list() -> Vec<String> {
+    [
+        lines(contours::list()),
+        lines(once(sets::list())),
+        lines(once(cleaning::list())),
+        lines(once(files::list())),
+        lines(once(drawings::list())),
+    ]
+    .concat()
+}
+
+/// The cases in their order, each of them once.
+pub fn once<C: Display>(mut cases: Vec<C>) -> Vec<C> {
+    let mut seen = HashSet::new();
+    cases.retain(|case| seen.insert(case.to_string()));
+    cases
+}
+
+fn lines<C: Display>(cases: Vec<C>) -> Vec<String> {
+    cases.iter().map(C::to_string).collect()
+}
+
+/// What is answered to a line, whose first letter is its kind.
+pub fn answer(line: &str) -> Result<String, String> {
+    match line.chars().next() {
+        Some('c' | 'w' | 'k') => answered(line, contours::answer),
+        Some('s' | 'p') => answered(line, sets::answer),
+        Some('q' | 'W') => answered(line, cleaning::answer),
+        Some('r' | 'f' | 'm') => answered(line, files::answer),
+        Some('i' | 'e') => answered(line, drawings::answer),
+        _ => Err(line::NO_KIND.into()),
+    }
+}
+
+fn answered<C>(line: &str, answer: fn(&C) -> String) -> Result<String, String>
+where
+    C: FromStr<Err = String>,
+{
+    Ok(answer(&line.parse()?))
+}
+
+#[cfg(test)]
+mod tests {
+    use super::{cleaning, contours, drawings, files, sets};
+    use crate::line::tests::read_as_written;
+
+    #[test]
+    fn every_case_of_the_lists_is_read_as_it_was_written() {
+        read_as_written(contours::list());
+        read_as_written(sets::list());
+        read_as_written(cleaning::list());
+        read_as_written(files::list());
+        read_as_written(drawings::list());
+    }
+}

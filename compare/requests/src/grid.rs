@@ -1,0 +1,9 @@
+//! The grid and its points, an x and a y.
+
+pub type Point = [i32; 2];
+
+/// The largest coordinate of the grid; the smallest is its negative.
+pub const LIMIT: i32 = 536_870_912;
+
+/// The most points of a contour.
+pub const MOST_POINTS: usize = 65_536;

@@ -1,0 +1,12 @@
+//! What the original does not have, written from the sentences of documents 01 and 02 alone:
+//! the replies, whether ranges are sound, the set file, what is sound of a damaged one, and
+//! drawings in millimetres.
+
+mod bits;
+pub mod drawing;
+pub mod edition;
+pub mod exact;
+pub mod grid;
+pub mod ranges;
+pub mod reply;
+pub mod salvage;

@@ -1,0 +1,45 @@
+-- `account::inner::lines::put_reason` meets its contract.
+use mathlib.Core.Path.{ap}
+use native.Mathlib.Omega.{arith}
+use borrow.Author.Needs.{needs}
+use lib.ListN.{length}
+use Rattle.account.proofs.LineLaws.{why-off, why-none}
+use Rattle.account.proofs.inner.lines.put_reason.Statement.{statement}
+use Rattle.account.proofs.inner.lines.put_reason.Tie as tie
+
+slice-aggregate-put : tie.Need-slice-aggregate-put
+slice-aggregate-put c = search needs
+
+put-requires : tie.Need-put-requires
+put-requires c κs = omega (arith, c .before .before .before .before .pre, ap length (why-off (c .before .before .before .before .args .reason) (c .before .before .if1 .taken)))
+
+same-length : tie.Need-same-length
+same-length c = search needs
+
+returns : tie.Need-returns
+returns c = rw (why-off (c .before .before .before .before .before .before .before .args .reason) (c .before .before .before .before .before .if1 .taken)) (c .before .before .put .ensures)
+
+slice-aggregate-put-2 : tie.Need-slice-aggregate-put-2
+slice-aggregate-put-2 c = search needs
+
+put-requires-2 : tie.Need-put-requires-2
+put-requires-2 c κs = omega (arith, c .before .before .before .before .pre, ap length (why-none (c .before .before .before .before .args .reason) (c .before .before .if1 .left)))
+
+same-length-2 : tie.Need-same-length-2
+same-length-2 c = search needs
+
+returns-2 : tie.Need-returns-2
+returns-2 c = rw (why-none (c .before .before .before .before .before .before .before .args .reason) (c .before .before .before .before .before .if1 .left)) (c .before .before .put2 .ensures)
+
+pub put-reason-spec : {M : Type 1} → statement M
+put-reason-spec =
+    tie.close
+    (tie.spec
+    slice-aggregate-put
+    put-requires
+    same-length
+    returns
+    slice-aggregate-put-2
+    put-requires-2
+    same-length-2
+    returns-2)

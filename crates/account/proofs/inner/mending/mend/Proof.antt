@@ -1,0 +1,92 @@
+-- `account::inner::mending::mend` meets its contract: what salvaging the file answered says what is written, and what is said.
+use mathlib.Core.Path.{_≡_, sym}
+use Prim.Native.Nat.{ℕ, _≤_}
+use native.Mathlib.Omega.{arith}
+use borrow.Author.Needs.{needs}
+use lib.ListN.{length, replicate, length-replicate}
+use lib.Seq.{length-take-le}
+use Rattle.account.proofs.AccountLaws.{account-length, account-refused, told-refused, dropped-in, listed-numbers, lines-room, counts-room, told-done}
+use Rattle.account.proofs.inner.mending.mend.Statement.{statement}
+use Rattle.account.proofs.inner.mending.mend.Tie as tie
+
+-- the list has an entry for each contour that a file can promise
+list-long : 4095 ≤ length (replicate 4095 (replicate {A = ℕ} 2 0))
+list-long = omega (arith, length-replicate 4095 (replicate {A = ℕ} 2 0))
+
+slice-aggregate-mend : tie.Need-slice-aggregate-mend
+slice-aggregate-mend c = search needs
+
+mend-requires : tie.Need-mend-requires
+mend-requires c κs = search needs
+
+slice-aggregate-put-line : tie.Need-slice-aggregate-put-line
+slice-aggregate-put-line c = search needs
+
+cast-put-line : tie.Need-cast-put-line
+cast-put-line c = search needs
+
+put-line-requires : tie.Need-put-line-requires
+put-line-requires c κs =
+    let s = c .before .before .before .before .before .before .before .before .before .before .before .before .before .before in
+    let e = account-refused (s .args .bytes .now) (s .args .out .now) _ (s .pre .0) list-long (c .before .before .before .before .before .before .before .before .mend .ensures) (c .before .before .before .if1 .taken) in
+    omega (arith, s .pre .1, rw e at (account-length (s .args .bytes .now)))
+
+same-length : tie.Need-same-length
+same-length c = search needs
+
+same-length-2 : tie.Need-same-length-2
+same-length-2 c = search needs
+
+returns : tie.Need-returns
+returns c =
+    let s = c .before .before .before .before .before .before .before .before .before .before .before .before .before .before .before .before .before in
+    told-refused (s .args .bytes .now) (s .args .out .now) _ (s .pre .0) list-long (c .before .before .before .before .before .before .before .before .before .before .before .mend .ensures) (c .before .before .before .before .before .before .if1 .taken) (c .before .before .put-line .ensures)
+
+array-share-prefix-list : tie.Need-array-share-prefix-list
+array-share-prefix-list c = let s = c .before .before .before .before .before .before .before .before .before .before .before in dropped-in (s .args .bytes .now) (s .args .out .now) _ (s .pre .0) list-long (c .before .before .before .before .before .mend .ensures) (c .if1 .left)
+
+slice-aggregate-put : tie.Need-slice-aggregate-put
+slice-aggregate-put c = let s = c .before .before .before .before .before .before .before .before .before .before .before .before in sym (length-take-le _ _ (dropped-in (s .args .bytes .now) (s .args .out .now) _ (s .pre .0) list-long (c .before .before .before .before .before .before .mend .ensures) (c .before .if1 .left)))
+
+put-requires : tie.Need-put-requires
+put-requires c κs =
+    let s = c .before .before .before .before .before .before .before .before .before .before .before .before .before in (
+      listed-numbers (s .args .bytes .now) (s .args .out .now) _ (s .pre .0) list-long (c .before .before .before .before .before .before .before .mend .ensures) (c .before .before .if1 .left),
+      lines-room (s .args .bytes .now) (s .args .out .now) _ (s .pre .0) list-long (c .before .before .before .before .before .before .before .mend .ensures) (c .before .before .if1 .left) (s .args .text .now) (s .pre .1),
+    )
+
+put-counts-requires : tie.Need-put-counts-requires
+put-counts-requires c κs =
+    let s = c .before .before .before .before .before .before .before .before .before .before .before .before .before .before .before .before .before in
+    counts-room (s .args .bytes .now) (s .args .out .now) _ (s .pre .0) list-long (c .before .before .before .before .before .before .before .before .before .before .before .mend .ensures) (c .before .before .before .before .before .before .if1 .left) (s .args .text .now) (s .pre .1) (c .before .before .before .put .ensures)
+
+same-length-3 : tie.Need-same-length-3
+same-length-3 c = search needs
+
+same-length-4 : tie.Need-same-length-4
+same-length-4 c = search needs
+
+returns-2 : tie.Need-returns-2
+returns-2 c =
+    let s = c .before .before .before .before .before .before .before .before .before .before .before .before .before .before .before .before .before .before .before .before in
+    told-done (s .args .bytes .now) (s .args .out .now) _ (s .pre .0) list-long (c .before .before .before .before .before .before .before .before .before .before .before .before .before .before .mend .ensures) (c .before .before .before .before .before .before .before .before .before .if1 .left) (s .args .text .now) (s .pre .1) (c .before .before .before .before .before .before .put .ensures) (c .before .before .put-counts .ensures)
+
+pub mend-spec : {M : Type 1} → statement M
+mend-spec =
+    tie.close
+    (tie.spec
+    slice-aggregate-mend
+    mend-requires
+    slice-aggregate-put-line
+    cast-put-line
+    put-line-requires
+    same-length
+    same-length-2
+    returns
+    array-share-prefix-list
+    slice-aggregate-put
+    put-requires
+    put-counts-requires
+    same-length-3
+    same-length-4
+    returns-2)

@@ -1,0 +1,4 @@
+// What the calls on sets share and ask of each other.
+pub mod joining;
+pub mod packing;
+pub mod parts;

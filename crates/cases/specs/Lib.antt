@@ -1,2 +1,0 @@
-pub mod Buffer
-pub mod Reading

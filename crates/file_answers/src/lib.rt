@@ -1,0 +1,3 @@
+// What the library answers to a case of files or of drawings.
+pub mod drawings;
+pub mod files;

@@ -1,0 +1,75 @@
+-- What C and Rust call hands on.
+use Rattle.ukmerelt.proofs as ukmerelt
+use Rattle.promises.specs.Exports.{NoExportTraps, EveryExportHandsOn}
+
+pub no-export-traps : NoExportTraps
+no-export-traps = record {
+  ukm-area-two = record { is-proved = ukmerelt.contours.ukm_area_two.Met.met; asks-nothing = λ κs a. tt };
+  ukm-area = record { is-proved = ukmerelt.contours.ukm_area.Met.met; asks-nothing = λ κs a. tt };
+  ukm-is-convex = record { is-proved = ukmerelt.contours.ukm_is_convex.Met.met; asks-nothing = λ κs a. tt };
+  ukm-is-clockwise = record { is-proved = ukmerelt.contours.ukm_is_clockwise.Met.met; asks-nothing = λ κs a. tt };
+  ukm-contains = record { is-proved = ukmerelt.contours.ukm_contains.Met.met; asks-nothing = λ κs a. tt };
+  ukm-is-simple = record { is-proved = ukmerelt.contours.ukm_is_simple.Met.met; asks-nothing = λ κs a. tt };
+  ukm-has-no-spikes = record { is-proved = ukmerelt.contours.ukm_has_no_spikes.Met.met; asks-nothing = λ κs a. tt };
+  ukm-simplified = record { is-proved = ukmerelt.contours.ukm_simplified.Met.met; asks-nothing = λ κs a. tt };
+  ukm-despiked = record { is-proved = ukmerelt.contours.ukm_despiked.Met.met; asks-nothing = λ κs a. tt };
+  ukm-set-is-simple = record { is-proved = ukmerelt.contour_sets.ukm_set_is_simple.Met.met; asks-nothing = λ κs a. tt };
+  ukm-set-has-no-spikes = record { is-proved = ukmerelt.contour_sets.ukm_set_has_no_spikes.Met.met; asks-nothing = λ κs a. tt };
+  ukm-set-area-two = record { is-proved = ukmerelt.contour_sets.ukm_set_area_two.Met.met; asks-nothing = λ κs a. tt };
+  ukm-set-area = record { is-proved = ukmerelt.contour_sets.ukm_set_area.Met.met; asks-nothing = λ κs a. tt };
+  ukm-in-shape = record { is-proved = ukmerelt.contour_sets.ukm_in_shape.Met.met; asks-nothing = λ κs a. tt };
+  ukm-shapes-is-simple = record { is-proved = ukmerelt.shape_sets.ukm_shapes_is_simple.Met.met; asks-nothing = λ κs a. tt };
+  ukm-shapes-has-no-spikes = record { is-proved = ukmerelt.shape_sets.ukm_shapes_has_no_spikes.Met.met; asks-nothing = λ κs a. tt };
+  ukm-shapes-area-two = record { is-proved = ukmerelt.shape_sets.ukm_shapes_area_two.Met.met; asks-nothing = λ κs a. tt };
+  ukm-shapes-area = record { is-proved = ukmerelt.shape_sets.ukm_shapes_area.Met.met; asks-nothing = λ κs a. tt };
+  ukm-simplified-shape = record { is-proved = ukmerelt.shapes.ukm_simplified_shape.Met.met; asks-nothing = λ κs a. tt };
+  ukm-despiked-shape = record { is-proved = ukmerelt.shapes.ukm_despiked_shape.Met.met; asks-nothing = λ κs a. tt };
+  ukm-simplified-shapes = record { is-proved = ukmerelt.shapes.ukm_simplified_shapes.Met.met; asks-nothing = λ κs a. tt };
+  ukm-despiked-shapes = record { is-proved = ukmerelt.shapes.ukm_despiked_shapes.Met.met; asks-nothing = λ κs a. tt };
+  ukm-pack-contour = record { is-proved = ukmerelt.packing.ukm_pack_contour.Met.met; asks-nothing = λ κs a. tt };
+  ukm-pack-shape = record { is-proved = ukmerelt.packing.ukm_pack_shape.Met.met; asks-nothing = λ κs a. tt };
+  ukm-pack-shapes = record { is-proved = ukmerelt.packing.ukm_pack_shapes.Met.met; asks-nothing = λ κs a. tt };
+  ukm-add-contour = record { is-proved = ukmerelt.packing.ukm_add_contour.Met.met; asks-nothing = λ κs a. tt };
+  ukm-add-shape = record { is-proved = ukmerelt.packing.ukm_add_shape.Met.met; asks-nothing = λ κs a. tt };
+  ukm-read-set = record { is-proved = ukmerelt.files.ukm_read_set.Met.met; asks-nothing = λ κs a. tt };
+  ukm-write-set = record { is-proved = ukmerelt.files.ukm_write_set.Met.met; asks-nothing = λ κs a. tt };
+  ukm-salvage = record { is-proved = ukmerelt.files.ukm_salvage.Met.met; asks-nothing = λ κs a. tt };
+  ukm-import-mm = record { is-proved = ukmerelt.drawings.ukm_import_mm.Met.met; asks-nothing = λ κs a. tt };
+  ukm-export-mm = record { is-proved = ukmerelt.drawings.ukm_export_mm.Met.met; asks-nothing = λ κs a. tt };
+}
+
+pub every-export-hands-on : EveryExportHandsOn
+every-export-hands-on = record {
+  ukm-area-two = λ κs a x e h. h;
+  ukm-area = λ κs a x e h. h;
+  ukm-is-convex = λ κs a x e h. h;
+  ukm-is-clockwise = λ κs a x e h. h;
+  ukm-contains = λ κs a x e h. h;
+  ukm-is-simple = λ κs a x e h. h;
+  ukm-has-no-spikes = λ κs a x e h. h;
+  ukm-simplified = λ κs a x e h. h;
+  ukm-despiked = λ κs a x e h. h;
+  ukm-set-is-simple = λ κs a x e h. h;
+  ukm-set-has-no-spikes = λ κs a x e h. h;
+  ukm-set-area-two = λ κs a x e h. h;
+  ukm-set-area = λ κs a x e h. h;
+  ukm-in-shape = λ κs a x e h. h;
+  ukm-shapes-is-simple = λ κs a x e h. h;
+  ukm-shapes-has-no-spikes = λ κs a x e h. h;
+  ukm-shapes-area-two = λ κs a x e h. h;
+  ukm-shapes-area = λ κs a x e h. h;
+  ukm-simplified-shape = λ κs a x e h. h;
+  ukm-despiked-shape = λ κs a x e h. h;
+  ukm-simplified-shapes = λ κs a x e h. h;
+  ukm-despiked-shapes = λ κs a x e h. h;
+  ukm-pack-contour = λ κs a x e h. h;
+  ukm-pack-shape = λ κs a x e h. h;
+  ukm-pack-shapes = λ κs a x e h. h;
+  ukm-add-contour = λ κs a x e h. h;
+  ukm-add-shape = λ κs a x e h. h;
+  ukm-read-set = λ κs a x e h. h;
+  ukm-write-set = λ κs a x e h. h;
+  ukm-salvage = λ κs a x e h. h;
+  ukm-import-mm = λ κs a x e h. h;
+  ukm-export-mm = λ κs a x e h. h;
+}

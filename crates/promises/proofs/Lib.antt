@@ -1,0 +1,9 @@
+pub mod Calls
+pub mod Refusals
+pub mod BothWays
+pub mod Demand1
+pub mod Demand2
+pub mod Demand3
+pub mod Exports
+pub mod Table
+pub mod Idle

@@ -1,0 +1,1 @@
+// What the library promises: no code. Each demand is a page of specs/, and its proof in proofs/ cites.

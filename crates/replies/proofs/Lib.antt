@@ -1,0 +1,3 @@
+pub mod LadderLaws
+pub mod VerdictLaws
+pub mod OneOutcome

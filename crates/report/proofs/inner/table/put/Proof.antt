@@ -1,0 +1,77 @@
+-- `report::inner::table::put` meets its contract: the heading, and the lines behind it.
+use mathlib.Core.List.{[], _∷_, _++_}
+use native.Mathlib.Omega.{arith}
+use borrow.Author.Needs.{needs}
+use Rattle.buffer.specs.Spans.{spans}
+use Rattle.buffer.specs.Sets.{contours}
+use Rattle.report.specs.Text.{heading}
+use Rattle.report.specs.Listing.{lines}
+use Rattle.report.proofs.PutLaws.{Going, going-none, going-room, going-more, going-all, two-words}
+use Rattle.report.proofs.inner.table.put.Statement.{statement}
+use Rattle.report.proofs.inner.table.put.Tie as tie
+
+-- the heading and the lines are to be put
+begun : (c : tie.Start) → let s = c .args in
+    let rest = lines 1 (contours (s .points .now) (spans (s .ranges .now))) in
+    Going 0 (heading ++ rest) (s .text .now) 0 (s .text .now) (heading ∷ rest ∷ [])
+begun c =
+    let s = c .args in
+    going-none 0 (s .text .now) (heading ∷ lines 1 (contours (s .points .now) (spans (s .ranges .now))) ∷ []) (two-words _ _) (omega (arith, c .pre .1))
+
+slice-aggregate-put : tie.Need-slice-aggregate-put
+slice-aggregate-put c = search needs
+
+put-requires : tie.Need-put-requires
+put-requires c κs = search needs
+
+slice-aggregate-put-2 : tie.Need-slice-aggregate-put-2
+slice-aggregate-put-2 c = search needs
+
+slice-aggregate-put-3 : tie.Need-slice-aggregate-put-3
+slice-aggregate-put-3 c = search needs
+
+slice-aggregate-put-4 : tie.Need-slice-aggregate-put-4
+slice-aggregate-put-4 c = search needs
+
+slice-aggregate-put-5 : tie.Need-slice-aggregate-put-5
+slice-aggregate-put-5 c = search needs
+
+put-requires-2 : tie.Need-put-requires-2
+put-requires-2 c κs =
+    let word = c .before .before .before .before .before .before .before in
+    let start = word .before .before .before .before in
+    let small = start .pre .0 in (
+      record {
+        domain = small .domain;
+        names = small .names;
+        in-next = small .few;
+        in-prev = small .few;
+        in-mark = small .few;
+        in-out = omega (arith, small .domain .even, small .few);
+      },
+      going-room (going-more (begun start) (word .put .ensures)),
+    )
+
+same-length : tie.Need-same-length
+same-length c = search needs
+
+returns : tie.Need-returns
+returns c =
+    let last = c .before .before .before .before .before .before in
+    let word = last .before .before .before .before .before .before .before .before in
+    let start = word .before .before .before .before in
+    going-all (going-more (going-more (begun start) (word .put .ensures)) (last .put2 .ensures))
+
+pub put-spec : {M : Type 1} → statement M
+put-spec =
+    tie.close
+    (tie.spec
+    slice-aggregate-put
+    put-requires
+    slice-aggregate-put-2
+    slice-aggregate-put-3
+    slice-aggregate-put-4
+    slice-aggregate-put-5
+    put-requires-2
+    same-length
+    returns)

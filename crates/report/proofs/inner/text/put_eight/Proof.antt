@@ -1,0 +1,24 @@
+-- `report::inner::text::put_eight` meets its contract: half of the digits, and the other half.
+use borrow.Author.Needs.{needs}
+use Rattle.report.proofs.DigitLaws.{digits-put}
+use Rattle.report.proofs.inner.text.put_eight.Statement.{statement}
+use Rattle.report.proofs.inner.text.put_eight.Tie as tie
+
+put-four-requires : tie.Need-put-four-requires
+put-four-requires c κs = search needs
+
+put-four-requires-2 : tie.Need-put-four-requires-2
+put-four-requires-2 c κs = search needs
+
+same-length : tie.Need-same-length
+same-length c = search needs
+
+returns : tie.Need-returns
+returns c =
+    let last = c .before .before in
+    let first = last .before .before .before .before in
+    let start = first .before .before .before in
+    digits-put 4 4 (start .args .n) (start .pre) (first .put-four .ensures) (last .put-four2 .ensures)
+
+pub put-eight-spec : {M : Type 1} → statement M
+put-eight-spec = tie.close (tie.spec put-four-requires put-four-requires-2 same-length returns)

@@ -1,0 +1,41 @@
+-- `ring::inner::goes_along` meets its contract, rule by rule.
+use borrow.Author.Needs.{needs}
+use borrow.Author.Tests.{not-true, not-false}
+use mathlib.Core.Path.{_≡_, sym, _∙_, ap}
+use mathlib.Core.Bool.{true}
+use Rattle.grid.specs.Edges.{aligned}
+use Rattle.ring.specs.declared.Rule.{Rule}
+use Rattle.ring.specs.Rule.{goes-along}
+use Rattle.ring.proofs.RuleLaws.{along-turning, along-aligned}
+use Rattle.ring.proofs.inner.goes_along.Statement.{statement}
+use Rattle.ring.proofs.inner.goes_along.Tie as tie
+
+-- the way does not turn
+lined-up : (c : tie.Else1) → let s = c .before .before in aligned (s .args .to) (s .args .from) ≡ true
+lined-up c = sym (c .before .aligned .ensures) ∙ not-false _ (c .if1 .left)
+
+aligned-requires : tie.Need-aligned-requires
+aligned-requires c κs = search needs
+
+returns : tie.Need-returns
+returns c = along-turning _ _ _ (sym (c .before .aligned .ensures) ∙ not-true _ (c .if1 .taken))
+
+enum-told : tie.Need-enum-told
+enum-told c = search needs
+
+enum-told-2 : tie.Need-enum-told-2
+enum-told-2 c = search needs
+
+spike-along-requires : tie.Need-spike-along-requires
+spike-along-requires c κs = (c .before .before .before .before .pre, lined-up (c .before .before))
+
+returns-2 : tie.Need-returns-2
+returns-2 c = along-aligned _ _ _ (lined-up (c .before .before)) (c .enum-told .given .1)
+
+returns-3 : tie.Need-returns-3
+returns-3 c = let e = c .before in c .spike-along .ensures ∙ ap (λ (r : Rule). goes-along r (e .before .before .before .before .args .to) (e .before .before .before .before .args .from)) (sym (e .enum-told2 .given .1))
+
+pub goes-along-spec : {M : Type 1} → statement M
+goes-along-spec =
+    tie.close
+    (tie.spec aligned-requires returns enum-told enum-told-2 spike-along-requires returns-2 returns-3)

@@ -1,0 +1,112 @@
+-- `salvage::inner::sifting::sift` meets its contract.
+use borrow.Author.Needs.{needs}
+use Rattle.salvage.proofs.SiftLaws.{reason-is, sifts-kept, sifts-noted}
+use Rattle.salvage.proofs.inner.sifting.sift.Statement.{statement}
+use Rattle.salvage.proofs.inner.sifting.sift.Tie as tie
+
+held-requires : tie.Need-held-requires
+held-requires c κs = search needs
+
+starts-requires : tie.Need-starts-requires
+starts-requires c κs = search needs
+
+add-all-on : tie.Need-add-all-on
+add-all-on c = search needs
+
+mul-all-on : tie.Need-mul-all-on
+mul-all-on c = search needs
+
+all-on-requires : tie.Need-all-on-requires
+all-on-requires c κs = search needs
+
+reason-requires : tie.Need-reason-requires
+reason-requires c κs = search needs
+
+mul-behind : tie.Need-mul-behind
+mul-behind c = search needs
+
+add-behind : tie.Need-add-behind
+add-behind c = search needs
+
+add-behind-2 : tie.Need-add-behind-2
+add-behind-2 c = search needs
+
+sub-copy : tie.Need-sub-copy
+sub-copy c = search needs
+
+part-copy-start : tie.Need-part-copy-start
+part-copy-start c = search needs
+
+part-copy-end : tie.Need-part-copy-end
+part-copy-end c = search needs
+
+copy-requires : tie.Need-copy-requires
+copy-requires c κs = search needs
+
+mul-t18 : tie.Need-mul-t18
+mul-t18 c = search needs
+
+add-t23 : tie.Need-add-t23
+add-t23 c = search needs
+
+add-t24 : tie.Need-add-t24
+add-t24 c = search needs
+
+same-length : tie.Need-same-length
+same-length c = search needs
+
+returns : tie.Need-returns
+returns c =
+    let s = c .before .before .before .before .before .before .before .before .before .before .before .before .before .before .args in
+    let w = reason-is (s .bytes .now) (s .s .at) _ _ _ (s .s .keeping) _ (c .before .before .before .before .before .before .before .before .before .before .before .held .ensures) (c .before .before .before .before .before .before .before .before .before .before .starts .ensures) (c .before .before .before .before .before .before .before .before .before .all-on .ensures) (c .before .before .before .before .before .before .before .reason .ensures) in
+    sifts-kept (s .bytes .now) (s .s) (s .i) (s .out .now) (s .list .now) _ (c .before .before .before .before .before .before .before .before .before .before .before .held .ensures) _ w (c .before .before .before .before .before .before .if1 .taken) (c .before .before .before .copy .ensures)
+
+cast-t14 : tie.Need-cast-t14
+cast-t14 c = search needs
+
+mul-t13 : tie.Need-mul-t13
+mul-t13 c = search needs
+
+slice-set-from-list : tie.Need-slice-set-from-list
+slice-set-from-list c = search needs
+
+add-t14 : tie.Need-add-t14
+add-t14 c = search needs
+
+same-length-2 : tie.Need-same-length-2
+same-length-2 c = search needs
+
+returns-2 : tie.Need-returns-2
+returns-2 c =
+    let s = c .before .before .before .before .before .before .before .before .before .args in
+    let w = reason-is (s .bytes .now) (s .s .at) _ _ _ (s .s .keeping) _ (c .before .before .before .before .before .before .held .ensures) (c .before .before .before .before .before .starts .ensures) (c .before .before .before .before .all-on .ensures) (c .before .before .reason .ensures) in
+    sifts-noted (s .bytes .now) (s .s) (s .i) (s .out .now) (s .list .now) _ (c .before .before .before .before .before .before .held .ensures) _ w (c .before .if1 .left) _ (c .before .before .before .before .before .starts .ensures)
+
+pub sift-spec : {M : Type 1} → statement M
+sift-spec =
+    tie.close
+    (tie.spec
+    held-requires
+    starts-requires
+    add-all-on
+    mul-all-on
+    all-on-requires
+    reason-requires
+    mul-behind
+    add-behind
+    add-behind-2
+    sub-copy
+    part-copy-start
+    part-copy-end
+    copy-requires
+    mul-t18
+    add-t23
+    add-t24
+    same-length
+    returns
+    cast-t14
+    mul-t13
+    slice-set-from-list
+    add-t14
+    same-length-2
+    returns-2)

@@ -1,0 +1,2 @@
+// The pass over a file that is not refused.
+pub mod sifting;

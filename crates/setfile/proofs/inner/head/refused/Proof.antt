@@ -1,0 +1,25 @@
+-- `setfile::inner::head::refused` meets its contract.
+use borrow.Author.Needs.{needs}
+use Rattle.setfile.proofs.FaultLaws.{over-long, head-short, head-edition, head-right}
+use Rattle.setfile.proofs.inner.head.refused.Statement.{statement}
+use Rattle.setfile.proofs.inner.head.refused.Tie as tie
+
+returns : tie.Need-returns
+returns c = over-long (c .before .before .args .bytes .now) (c .if1 .taken)
+
+returns-2 : tie.Need-returns-2
+returns-2 c = head-short (c .before .before .before .args .bytes .now) (c .before .if1 .left) (c .if2 .taken)
+
+pair-requires : tie.Need-pair-requires
+pair-requires c κs = search needs
+
+returns-3 : tie.Need-returns-3
+returns-3 c =
+    head-edition (c .before .before .before .before .before .args .bytes .now) (c .before .before .before .if1 .left) (c .before .before .if2 .left) _ (c .before .pair .ensures) (c .if3 .taken)
+
+returns-4 : tie.Need-returns-4
+returns-4 c =
+    head-right (c .before .before .before .before .before .args .bytes .now) (c .before .before .before .if1 .left) (c .before .before .if2 .left) _ (c .before .pair .ensures) (c .if3 .left)
+
+pub refused-spec : {M : Type 1} → statement M
+refused-spec = tie.close (tie.spec returns returns-2 pair-requires returns-3 returns-4)

@@ -1,0 +1,46 @@
+-- `setfile::inner::judging::contour_fault` meets its contract.
+use borrow.Author.Needs.{needs}
+use Rattle.setfile.proofs.FaultLaws.{no-header, no-shape, no-points, no-fault}
+use Rattle.setfile.proofs.inner.judging.contour_fault.Statement.{statement}
+use Rattle.setfile.proofs.inner.judging.contour_fault.Tie as tie
+
+sub-rest : tie.Need-sub-rest
+sub-rest c = search needs
+
+returns : tie.Need-returns
+returns c = let s = c .before .before .args in no-header (s .bytes .now) (s .at) (s .first) (c .if1 .taken)
+
+starts-requires : tie.Need-starts-requires
+starts-requires c κs = search needs
+
+returns-2 : tie.Need-returns-2
+returns-2 c = let s = c .before .before .before .before .args in no-shape (s .bytes .now) (s .at) (s .first) (c .before .before .if1 .left) _ (c .before .starts .ensures) (c .if2 .taken)
+
+held-requires : tie.Need-held-requires
+held-requires c κs = search needs
+
+mul-if3 : tie.Need-mul-if3
+mul-if3 c = search needs
+
+add-if3 : tie.Need-add-if3
+add-if3 c = search needs
+
+returns-3 : tie.Need-returns-3
+returns-3 c = let s = c .before .before .before .before .before .before .args in no-points (s .bytes .now) (s .at) (s .first) (c .before .before .before .before .if1 .left) _ (c .before .before .before .starts .ensures) (c .before .before .if2 .left) _ (c .before .held .ensures) (c .if3 .taken)
+
+returns-4 : tie.Need-returns-4
+returns-4 c = let s = c .before .before .before .before .before .before .args in no-fault (s .bytes .now) (s .at) (s .first) (c .before .before .before .before .if1 .left) _ (c .before .before .before .starts .ensures) (c .before .before .if2 .left) _ (c .before .held .ensures) (c .if3 .left)
+
+pub contour-fault-spec : {M : Type 1} → statement M
+contour-fault-spec =
+    tie.close
+    (tie.spec
+    sub-rest
+    returns
+    starts-requires
+    returns-2
+    held-requires
+    mul-if3
+    add-if3
+    returns-3
+    returns-4)

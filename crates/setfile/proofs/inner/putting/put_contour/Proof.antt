@@ -1,0 +1,44 @@
+-- `setfile::inner::putting::put_contour` meets its contract: the coordinates stand behind the head.
+use borrow.Author.Needs.{needs}
+use native.Mathlib.Omega.{arith}
+use mir.Facts.{fits-of-lt}
+use Rattle.setfile.proofs.WriteLaws.{both-put}
+use Rattle.setfile.proofs.BitLaws.{byte-digit, byte-below}
+use Rattle.setfile.proofs.inner.putting.put_contour.Statement.{statement}
+use Rattle.setfile.proofs.inner.putting.put_contour.Tie as tie
+
+cast-head : tie.Need-cast-head
+cast-head c = search needs
+
+mul-head : tie.Need-mul-head
+mul-head c = fits-of-lt (omega (arith, byte-below (c .before .args .begins)))
+
+add-head : tie.Need-add-head
+add-head c = fits-of-lt (omega (arith, byte-below (c .before .args .begins)))
+
+put-pair-requires : tie.Need-put-pair-requires
+put-pair-requires c κs = search needs
+
+put-coordinates-requires : tie.Need-put-coordinates-requires
+put-coordinates-requires c κs = search needs
+
+same-length : tie.Need-same-length
+same-length c = search needs
+
+returns : tie.Need-returns
+returns c =
+    let s = c .before .before .before .before .before .before .before .before .before in
+    let e = byte-digit (s .args .begins) in
+    both-put (s .pre) (rw e at (c .before .before .before .before .before .before .put-pair .ensures)) (c .before .before .put-coordinates .ensures)
+
+pub put-contour-spec : {M : Type 1} → statement M
+put-contour-spec =
+    tie.close
+    (tie.spec
+    cast-head
+    mul-head
+    add-head
+    put-pair-requires
+    put-coordinates-requires
+    same-length
+    returns)

@@ -1,0 +1,6 @@
+// What the reader and the writer are made of: functions that ask of their callers what these have seen to.
+pub mod fields;
+pub mod filling;
+pub mod head;
+pub mod judging;
+pub mod putting;
