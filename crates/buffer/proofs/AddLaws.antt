@@ -25,7 +25,7 @@ use Rattle.buffer.proofs.AnswerLaws.{Fits, stored-told, packing-refused
 use Rattle.buffer.proofs.PackLaws.{Joined, joined, SoundParts, sound-parts, count-append, added-length}
 
 -- a contour added to a contour set
-module _ (p : List ℤ) (cs : List (List ℕ)) (more out : List ℤ) (records : List (List ℕ)) where
+module _ (p : List ℤ) (cs : List (List ℕ)) (more : List ℤ) where
   enlarged : List Span
   enlarged = spans cs ++ moved (count p) (whole more) ∷ []
 
@@ -33,42 +33,54 @@ module _ (p : List ℤ) (cs : List (List ℕ)) (more out : List ℤ) (records : 
   unfolding enlarged
   enlarged-length = added-length cs ((0 ∷ count more ∷ []) ∷ []) (count p)
 
-  module _ (s : Bool) (k r : ℕ) (g : s ≡ sound (spans cs) (count p)) (e : k ≡ first-of (both p more s))
-      (f : r ≡ first-of (so-far k ++ room (leb (length p + length more) (length out) && leb (length cs + 1) (length records)))) where
-    judged : k ≡ first-of (both p more (sound (spans cs) (count p)))
-    judged = e ∙ ap (λ (b : Bool). first-of (both p more b)) g
+-- s says whether the set is sound, k what is refused of it and the contour, and r of the room too
+pub record OneMore (p : List ℤ) (cs : List (List ℕ)) (more out : List ℤ) (records : List (List ℕ)) (r : ℕ) : Type 0 where
+  pub s : Bool
+  pub k : ℕ
+  pub sounds : s ≡ sound (spans cs) (count p)
+  pub of-both : k ≡ first-of (both p more s)
+  pub with-room : r ≡ first-of (so-far k ++ room (leb (length p + length more) (length out) && leb (length cs + 1) (length records)))
 
-    pub one-more-refused : (w : Packed) → w ≡ packed r 0 0 0 → (r ≡ 0 → ⊥) → leaving w out records [] ≡ C.with-one-more p cs more out records
+module _ {p : List ℤ} {cs : List (List ℕ)} {more out : List ℤ} {records : List (List ℕ)} {r : ℕ} (judged : OneMore p cs more out records r) where
+  refusal : judged .k ≡ first-of (both p more (sound (spans cs) (count p)))
+  refusal = judged .of-both ∙ ap (λ (b : Bool). first-of (both p more b)) (judged .sounds)
+
+  pub one-more-refused : (w : Packed) → w ≡ packed r 0 0 0 → (r ≡ 0 → ⊥) → leaving w out records [] ≡ C.with-one-more p cs more out records
+  unfolding enlarged
+  one-more-refused w h n =
+      contours-refused (p ++ more) (enlarged p cs more) out records _ _ (sym (length-append p more)) (enlarged-length p cs more)
+      (judged .k) r (judged .with-room) w h n
+      ∙ stored-told (p ++ more) (enlarged p cs more) [] out records [] (both p more (sound (spans cs) (count p))) tt (judged .k) refusal
+
+  module _ (z : r ≡ 0) where
+    fits : Fits (judged .k) (length p + length more) (length cs + 1) 0 out records []
+    fits =
+        contours-fit (p ++ more) (enlarged p cs more) out records _ _ (sym (length-append p more)) (enlarged-length p cs more)
+        (judged .k) r (judged .with-room) z
+
+    accepted : Joined p more (sound (spans cs) (count p))
+    accepted = joined p more _ (judged .k) refusal (fits .sound)
+
+    pub one-more-points : length p + length more ≤ length out
+    one-more-points = fits .points-in
+
+    pub one-more-ranges : (length cs + 1 ≤ length records) × Movable cs 0 × Movable ((0 ∷ count more ∷ []) ∷ []) (count p)
+    unfolding most
+    one-more-ranges =
+        let a = accepted in
+        (fits .contours-in, movable cs (count p) 0 (a .sound) (omega (arith, a .few)), one-movable (count more) (count p) (omega (arith, a .few)))
+
+    pub one-more-done : (o : List ℤ) (d : List (List ℕ)) → o ≡ front (p ++ more) out
+        → d ≡ front (rows (spans cs ++ moved (count p) (whole more) ∷ [])) records
+        → leaving (packed 0 (count p + count more) (length cs + 1) 0) o d [] ≡ C.with-one-more p cs more out records
     unfolding enlarged
-    one-more-refused w h n =
-        contours-refused (p ++ more) enlarged out records _ _ (sym (length-append p more)) enlarged-length k r f w h n
-        ∙ stored-told (p ++ more) enlarged [] out records [] (both p more (sound (spans cs) (count p))) tt k judged
-
-    module _ (z : r ≡ 0) where
-      fits : Fits k (length p + length more) (length cs + 1) 0 out records []
-      fits = contours-fit (p ++ more) enlarged out records _ _ (sym (length-append p more)) enlarged-length k r f z
-
-      accepted : Joined p more (sound (spans cs) (count p))
-      accepted = joined p more _ k judged (fits .sound)
-
-      pub one-more-points : length p + length more ≤ length out
-      one-more-points = fits .points-in
-
-      pub one-more-ranges : (length cs + 1 ≤ length records) × Movable cs 0 × Movable ((0 ∷ count more ∷ []) ∷ []) (count p)
-      unfolding most
-      one-more-ranges =
-          let a = accepted in
-          (fits .contours-in, movable cs (count p) 0 (a .sound) (omega (arith, a .few)), one-movable (count more) (count p) (omega (arith, a .few)))
-
-      pub one-more-done : (o : List ℤ) (d : List (List ℕ)) → o ≡ front (p ++ more) out → d ≡ front (rows (spans cs ++ moved (count p) (whole more) ∷ [])) records
-          → leaving (packed 0 (count p + count more) (length cs + 1) 0) o d [] ≡ C.with-one-more p cs more out records
-      unfolding enlarged
-      one-more-done o d h i =
-          contours-done (p ++ more) enlarged out records _ _ (sym (length-append p more)) enlarged-length k r f _ o d z (count-append p more (accepted .even)) h i
-          ∙ stored-told (p ++ more) enlarged [] out records [] (both p more (sound (spans cs) (count p))) tt k judged
+    one-more-done o d h i =
+        contours-done (p ++ more) (enlarged p cs more) out records _ _ (sym (length-append p more)) (enlarged-length p cs more)
+        (judged .k) r (judged .with-room) _ o d z (count-append p more (accepted .even)) h i
+        ∙ stored-told (p ++ more) (enlarged p cs more) [] out records [] (both p more (sound (spans cs) (count p))) tt (judged .k) refusal
 
 -- a shape added to a shape set
-module _ (p : List ℤ) (cs ss : List (List ℕ)) (more : List ℤ) (mcs : List (List ℕ)) (out : List ℤ) (records groups : List (List ℕ)) where
+module _ (p : List ℤ) (cs ss mcs : List (List ℕ)) where
   all-contours : List Span
   all-contours = spans cs ++ map (moved (count p)) (spans mcs)
 
@@ -83,43 +95,65 @@ module _ (p : List ℤ) (cs ss : List (List ℕ)) (more : List ℤ) (mcs : List 
   unfolding all-shapes
   shapes-length = added-length ss ((0 ∷ length mcs ∷ []) ∷ []) (length cs)
 
-  module _ (s : Bool) (k r : ℕ) (g : s ≡ S.both-sound p cs ss more mcs) (e : k ≡ first-of (both p more s))
-      (f : r ≡ first-of (so-far k ++ room (leb (length p + length more) (length out) && leb (length cs + length mcs) (length records) && leb (length ss + 1) (length groups)))) where
-    shape-judged : k ≡ first-of (both p more (S.both-sound p cs ss more mcs))
-    shape-judged = e ∙ ap (λ (b : Bool). first-of (both p more b)) g
+-- s says whether both are sound, k what is refused of them, and r of the room too
+pub record ShapeMore
+    (p : List ℤ) (cs ss : List (List ℕ)) (more : List ℤ) (mcs : List (List ℕ)) (out : List ℤ) (records groups : List (List ℕ)) (r : ℕ) :
+    Type 0 where
+  pub s : Bool
+  pub k : ℕ
+  pub sounds : s ≡ S.both-sound p cs ss more mcs
+  pub of-both : k ≡ first-of (both p more s)
+  pub with-room :
+      r ≡ first-of (so-far k ++ room (leb (length p + length more) (length out) && leb (length cs + length mcs) (length records) && leb (length ss + 1) (length groups)))
 
-    pub shape-more-refused : (w : Packed) → w ≡ packed r 0 0 0 → (r ≡ 0 → ⊥) → leaving w out records groups ≡ S.with-one-more p cs ss more mcs out records groups
+module _ {p : List ℤ} {cs ss : List (List ℕ)} {more : List ℤ} {mcs : List (List ℕ)} {out : List ℤ} {records groups : List (List ℕ)} {r : ℕ}
+    (judged : ShapeMore p cs ss more mcs out records groups r) where
+  shape-refusal : judged .k ≡ first-of (both p more (S.both-sound p cs ss more mcs))
+  shape-refusal = judged .of-both ∙ ap (λ (b : Bool). first-of (both p more b)) (judged .sounds)
+
+  pub shape-more-refused : (w : Packed) → w ≡ packed r 0 0 0 → (r ≡ 0 → ⊥) → leaving w out records groups ≡ S.with-one-more p cs ss more mcs out records groups
+  unfolding all-contours all-shapes
+  shape-more-refused w h n =
+      packing-refused (p ++ more) (all-contours p cs ss mcs) (all-shapes p cs ss mcs) out records groups _ _ _
+      (sym (length-append p more)) (contours-length p cs ss mcs) (shapes-length p cs ss mcs) (judged .k) r (judged .with-room) w h n
+      ∙ stored-told (p ++ more) (all-contours p cs ss mcs) (all-shapes p cs ss mcs) out records groups
+      (both p more (S.both-sound p cs ss more mcs)) tt (judged .k) shape-refusal
+
+  module _ (z : r ≡ 0) where
+    shape-fits : Fits (judged .k) (length p + length more) (length cs + length mcs) (length ss + 1) out records groups
+    shape-fits =
+        packing-fits (p ++ more) (all-contours p cs ss mcs) (all-shapes p cs ss mcs) out records groups _ _ _
+        (sym (length-append p more)) (contours-length p cs ss mcs) (shapes-length p cs ss mcs) (judged .k) r (judged .with-room) z
+
+    shape-accepted : Joined p more (S.both-sound p cs ss more mcs)
+    shape-accepted = joined p more _ (judged .k) shape-refusal (shape-fits .sound)
+
+    parts : SoundParts p cs ss more mcs
+    parts = sound-parts p cs ss more mcs (shape-accepted .sound)
+
+    pub shape-more-points : length p + length more ≤ length out
+    shape-more-points = shape-fits .points-in
+
+    pub shape-more-contours : (length cs + length mcs ≤ length records) × Movable cs 0 × Movable mcs (count p)
+    unfolding most
+    shape-more-contours =
+        let few = shape-accepted .few in (
+          shape-fits .contours-in,
+          movable cs (count p) 0 (parts .contours) (omega arith),
+          movable mcs (count more) (count p) (parts .added) (omega arith),
+        )
+
+    pub shape-more-shapes : length mcs + length cs < 2 ^ 64 → (length ss + 1 ≤ length groups) × Movable ss 0 × Movable ((0 ∷ length mcs ∷ []) ∷ []) (length cs)
+    shape-more-shapes h = (shape-fits .shapes-in, movable ss (length cs) 0 (parts .shapes) (omega arith), one-movable (length mcs) (length cs) h)
+
+    pub shape-more-done : (o : List ℤ) (c d : List (List ℕ)) → o ≡ front (p ++ more) out
+        → c ≡ front (rows (spans cs ++ map (moved (count p)) (spans mcs))) records
+        → d ≡ front (rows (spans ss ++ moved (length cs) (every mcs) ∷ [])) groups
+        → leaving (packed 0 (count p + count more) (length cs + length mcs) (length ss + 1)) o c d ≡ S.with-one-more p cs ss more mcs out records groups
     unfolding all-contours all-shapes
-    shape-more-refused w h n =
-        packing-refused (p ++ more) all-contours all-shapes out records groups _ _ _ (sym (length-append p more)) contours-length shapes-length k r f w h n
-        ∙ stored-told (p ++ more) all-contours all-shapes out records groups (both p more (S.both-sound p cs ss more mcs)) tt k shape-judged
-
-    module _ (z : r ≡ 0) where
-      shape-fits : Fits k (length p + length more) (length cs + length mcs) (length ss + 1) out records groups
-      shape-fits = packing-fits (p ++ more) all-contours all-shapes out records groups _ _ _ (sym (length-append p more)) contours-length shapes-length k r f z
-
-      shape-accepted : Joined p more (S.both-sound p cs ss more mcs)
-      shape-accepted = joined p more _ k shape-judged (shape-fits .sound)
-
-      parts : SoundParts p cs ss more mcs
-      parts = sound-parts p cs ss more mcs (shape-accepted .sound)
-
-      pub shape-more-points : length p + length more ≤ length out
-      shape-more-points = shape-fits .points-in
-
-      pub shape-more-contours : (length cs + length mcs ≤ length records) × Movable cs 0 × Movable mcs (count p)
-      unfolding most
-      shape-more-contours =
-          let a = shape-accepted in
-          (shape-fits .contours-in, movable cs (count p) 0 (parts .contours) (omega (arith, a .few)), movable mcs (count more) (count p) (parts .added) (omega (arith, a .few)))
-
-      pub shape-more-shapes : length mcs + length cs < 2 ^ 64 → (length ss + 1 ≤ length groups) × Movable ss 0 × Movable ((0 ∷ length mcs ∷ []) ∷ []) (length cs)
-      shape-more-shapes h = (shape-fits .shapes-in, movable ss (length cs) 0 (parts .shapes) (omega arith), one-movable (length mcs) (length cs) h)
-
-      pub shape-more-done : (o : List ℤ) (c d : List (List ℕ)) → o ≡ front (p ++ more) out → c ≡ front (rows (spans cs ++ map (moved (count p)) (spans mcs))) records
-          → d ≡ front (rows (spans ss ++ moved (length cs) (every mcs) ∷ [])) groups
-          → leaving (packed 0 (count p + count more) (length cs + length mcs) (length ss + 1)) o c d ≡ S.with-one-more p cs ss more mcs out records groups
-      unfolding all-contours all-shapes
-      shape-more-done o c d h i j =
-          packing-done (p ++ more) all-contours all-shapes out records groups _ _ _ (sym (length-append p more)) contours-length shapes-length k r f _ o c d z (count-append p more (shape-accepted .even)) h i j
-          ∙ stored-told (p ++ more) all-contours all-shapes out records groups (both p more (S.both-sound p cs ss more mcs)) tt k shape-judged
+    shape-more-done o c d h i j =
+        packing-done (p ++ more) (all-contours p cs ss mcs) (all-shapes p cs ss mcs) out records groups _ _ _
+        (sym (length-append p more)) (contours-length p cs ss mcs) (shapes-length p cs ss mcs) (judged .k) r (judged .with-room)
+        _ o c d z (count-append p more (shape-accepted .even)) h i j
+        ∙ stored-told (p ++ more) (all-contours p cs ss mcs) (all-shapes p cs ss mcs) out records groups
+        (both p more (S.both-sound p cs ss more mcs)) tt (judged .k) shape-refusal

@@ -1,5 +1,5 @@
 -- `buffer::contours::add_contour` meets its contract.
-use Rattle.buffer.proofs.AddLaws.{one-more-refused, one-more-points, one-more-ranges, one-more-done}
+use Rattle.buffer.proofs.AddLaws.{OneMore, one-more-refused, one-more-points, one-more-ranges, one-more-done}
 use borrow.Author.Needs.{needs}
 use Rattle.buffer.proofs.contours.add_contour.Statement.{statement}
 use Rattle.buffer.proofs.contours.add_contour.Tie as tie
@@ -22,32 +22,31 @@ or-room-requires c κs = search needs
 refused-requires : tie.Need-refused-requires
 refused-requires c κs = search needs
 
+-- what is refused of the set, the contour and the room
+judged : (c : tie.After-or-room) →
+    let s = c .before .before .before .args in
+    OneMore (s .points .now) (s .ranges .now) (s .contour .now) (s .out .now) (s .records .now) (c .or-room .result)
+judged c = record {
+  s = _;
+  k = _;
+  sounds = c .before .before .sound .ensures;
+  of-both = c .before .of-both .ensures;
+  with-room = c .or-room .ensures;
+}
+
 returns : tie.Need-returns
-returns c =
-    let s = c .before .before .before .before .before .args in
-    one-more-refused (s .points .now) (s .ranges .now) (s .contour .now) (s .out .now) (s .records .now) _ _ _
-    (c .before .before .before .before .sound .ensures)
-    (c .before .before .before .of-both .ensures)
-    (c .before .before .or-room .ensures) _ (c .refused .ensures) (c .before .if1 .taken)
+returns c = one-more-refused (judged (c .before .before)) _ (c .refused .ensures) (c .before .if1 .taken)
 
 both-numbers-requires : tie.Need-both-numbers-requires
-both-numbers-requires c κs =
-    let s = c .before .before .before .before .before .args in
-    one-more-points (s .points .now) (s .ranges .now) (s .contour .now) (s .out .now) (s .records .now) _ _ _
-    (c .before .before .before .before .sound .ensures)
-    (c .before .before .before .of-both .ensures)
-    (c .before .before .or-room .ensures) (c .before .if1 .left)
+both-numbers-requires c κs = one-more-points (judged (c .before .before)) (c .before .if1 .left)
 
 slice-aggregate-both-records : tie.Need-slice-aggregate-both-records
 slice-aggregate-both-records c = search needs
 
 both-records-requires : tie.Need-both-records-requires
 both-records-requires c κs =
-    let s = c .before .before .before .before .before .before .before .before .before .args in
-    one-more-ranges (s .points .now) (s .ranges .now) (s .contour .now) (s .out .now) (s .records .now) _ _ _
-    (c .before .before .before .before .before .before .before .before .sound .ensures)
-    (c .before .before .before .before .before .before .before .of-both .ensures)
-    (c .before .before .before .before .before .before .or-room .ensures) (c .before .before .before .before .before .if1 .left)
+    let accepted = c .before .before .before .before .before in
+    one-more-ranges (judged (accepted .before)) (accepted .if1 .left)
 
 add-t15 : tie.Need-add-t15
 add-t15 c = search needs
@@ -63,12 +62,10 @@ same-length-2 c = search needs
 
 returns-2 : tie.Need-returns-2
 returns-2 c =
-    let s = c .before .before .before .before .before .before .before .before .before .before .before .args in
-    one-more-done (s .points .now) (s .ranges .now) (s .contour .now) (s .out .now) (s .records .now) _ _ _
-    (c .before .before .before .before .before .before .before .before .before .before .sound .ensures)
-    (c .before .before .before .before .before .before .before .before .before .of-both .ensures)
-    (c .before .before .before .before .before .before .before .before .or-room .ensures) (c .before .before .before .before .before .before .before .if1 .left)
-    _ _ (c .before .before .before .before .before .both-numbers .ensures) (c .before .both-records .ensures)
+    let recorded = c .before in
+    let numbered = recorded .before .before .before .before in
+    let accepted = numbered .before .before in
+    one-more-done (judged (accepted .before)) (accepted .if1 .left) _ _ (numbered .both-numbers .ensures) (recorded .both-records .ensures)
 
 pub add-contour-spec : {M : Type 1} → statement M
 add-contour-spec =

@@ -22,8 +22,9 @@ slice-aggregate-result-2 c = search needs
 
 returns-2 : tie.Need-returns-2
 returns-2 c =
-    let s = c .before .before .before .before .args in
-    contour-absent (part (s .points)) (s .ranges .now) (s .k) _ (c .before .before .before .refused .ensures) (c .before .before .if1 .left) (c .before .if2 .taken)
+    let judged = c .before .before .before in
+    let s = judged .before .args in
+    contour-absent (part (s .points)) (s .ranges .now) (s .k) _ (judged .refused .ensures) (c .before .before .if1 .left) (c .before .if2 .taken)
 
 named-requires : tie.Need-named-requires
 named-requires c κs =
@@ -32,8 +33,11 @@ named-requires c κs =
 
 returns-3 : tie.Need-returns-3
 returns-3 c =
-    let s = c .before .before .before .before .args in
-    c .named .ensures ∙ contour-there (part (s .points)) (s .ranges .now) (s .k) _ (c .before .before .before .refused .ensures) (c .before .before .if1 .left) (c .before .if2 .left)
+    let there = c .before in
+    let judged = there .before .before in
+    let s = judged .before .args in
+    c .named .ensures
+    ∙ contour-there (part (s .points)) (s .ranges .now) (s .k) _ (judged .refused .ensures) (there .before .if1 .left) (there .if2 .left)
 
 pub contour-spec : {M : Type 1} → statement M
 contour-spec =

@@ -22,8 +22,9 @@ slice-aggregate-result c = search needs
 
 returns-2 : tie.Need-returns-2
 returns-2 c =
-    let s = c .before .before .before .before .args in
-    first-refused (part (s .points)) (s .ranges .now) (c .before .before .before .if1 .left) _ (c .before .before .domain .ensures) (c .before .if2 .taken)
+    let looked = c .before .before in
+    let s = looked .before .before .args in
+    first-refused (part (s .points)) (s .ranges .now) (looked .before .if1 .left) _ (looked .domain .ensures) (c .before .if2 .taken)
 
 returns-3 : tie.Need-returns-3
 returns-3 c =

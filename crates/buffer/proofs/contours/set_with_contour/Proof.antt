@@ -27,10 +27,12 @@ same-length-2 c = search needs
 
 returns : tie.Need-returns
 returns c =
-    let s = c .before .before .before .before .before .before .before .args in
-    c .before .before .contours .ensures
-    ∙ stored-told (s .contour .now) (whole (s .contour .now) ∷ []) [] (s .out .now)
-    (s .records .now) [] (domain (s .contour .now)) tt _ (c .before .before .before .before .before .before .domain .ensures)
+    let packed = c .before .before in
+    let judged = packed .before .before .before .before in
+    let s = judged .before .args in
+    packed .contours .ensures
+    ∙ stored-told (s .contour .now) (whole (s .contour .now) ∷ []) [] (s .out .now) (s .records .now) []
+    (domain (s .contour .now)) tt _ (judged .domain .ensures)
 
 pub set-with-contour-spec : {M : Type 1} → statement M
 set-with-contour-spec =

@@ -14,8 +14,9 @@ refused-requires c κs = search needs
 
 contours-requires : tie.Need-contours-requires
 contours-requires c κs =
-    let s = c .before .before .before .args in
-    λ z. shape-movable (s .points .now) (s .ranges .now) _ (c .before .before .refused .ensures) z
+    let judged = c .before .before in
+    let s = judged .before .args in
+    λ z. shape-movable (s .points .now) (s .ranges .now) _ (judged .refused .ensures) z
 
 same-length : tie.Need-same-length
 same-length c = search needs
@@ -25,10 +26,12 @@ same-length-2 c = search needs
 
 returns : tie.Need-returns
 returns c =
-    let s = c .before .before .before .before .before .before .args in
-    c .before .before .contours .ensures
-    ∙ stored-told (s .points .now) (spans (s .ranges .now)) [] (s .out .now)
-    (s .records .now) [] (C.refusals (s .points .now) (s .ranges .now)) tt _ (c .before .before .before .before .before .refused .ensures)
+    let packed = c .before .before in
+    let judged = packed .before .before .before in
+    let s = judged .before .args in
+    packed .contours .ensures
+    ∙ stored-told (s .points .now) (spans (s .ranges .now)) [] (s .out .now) (s .records .now) []
+    (C.refusals (s .points .now) (s .ranges .now)) tt _ (judged .refused .ensures)
 
 pub set-with-shape-spec : {M : Type 1} → statement M
 set-with-shape-spec =

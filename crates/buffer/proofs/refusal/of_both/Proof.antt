@@ -18,9 +18,9 @@ returns c =
 
 returns-2 : tie.Need-returns-2
 returns-2 c =
-    let s = c .before .before .before .before .args in
-    let d = c .before .before in
-    more-odd (s .points .now) (s .more .now) (s .sound) _ _ (d .before .domain .ensures) (d .domain2 .ensures)
+    let looked = c .before .before in
+    let s = looked .before .before .args in
+    more-odd (s .points .now) (s .more .now) (s .sound) _ _ (looked .before .domain .ensures) (looked .domain2 .ensures)
     (c .before .if1 .left) (c .if2 .taken)
 
 add-if3 : tie.Need-add-if3
@@ -29,34 +29,43 @@ add-if3 c = search needs
 returns-3 : tie.Need-returns-3
 unfolding most
 returns-3 c =
-    let s = c .before .before .before .before .before .args in
-    let d = c .before .before .before in
-    both-over (s .points .now) (s .more .now) (s .sound) _ _ (d .before .domain .ensures) (d .domain2 .ensures)
-    (c .before .before .if1 .left) (c .before .if2 .left) (c .if3 .taken)
+    let even = c .before in
+    let looked = even .before .before in
+    let s = looked .before .before .args in
+    both-over (s .points .now) (s .more .now) (s .sound) _ _ (looked .before .domain .ensures) (looked .domain2 .ensures)
+    (even .before .if1 .left) (even .if2 .left) (c .if3 .taken)
 
 returns-4 : tie.Need-returns-4
 unfolding most
 returns-4 c =
-    let s = c .before .before .before .before .before .before .args in
-    let d = c .before .before .before .before in
-    both-unsound (s .points .now) (s .more .now) (s .sound) _ _ (d .before .domain .ensures) (d .domain2 .ensures)
-    (c .before .before .before .if1 .left) (c .before .before .if2 .left) (c .before .if3 .left) (c .if4 .taken)
+    let few = c .before in
+    let even = few .before in
+    let looked = even .before .before in
+    let s = looked .before .before .args in
+    both-unsound (s .points .now) (s .more .now) (s .sound) _ _ (looked .before .domain .ensures) (looked .domain2 .ensures)
+    (even .before .if1 .left) (even .if2 .left) (few .if3 .left) (c .if4 .taken)
 
 returns-5 : tie.Need-returns-5
 unfolding most
 returns-5 c =
-    let s = c .before .before .before .before .before .before .before .args in
-    let d = c .before .before .before .before .before in
-    both-off (s .points .now) (s .more .now) (s .sound) _ _ (d .before .domain .ensures) (d .domain2 .ensures)
-    (c .before .before .before .before .if1 .left) (c .before .before .before .if2 .left) (c .before .before .if3 .left) (c .before .if4 .left) (c .if5 .taken)
+    let sound = c .before in
+    let few = sound .before in
+    let even = few .before in
+    let looked = even .before .before in
+    let s = looked .before .before .args in
+    both-off (s .points .now) (s .more .now) (s .sound) _ _ (looked .before .domain .ensures) (looked .domain2 .ensures)
+    (even .before .if1 .left) (even .if2 .left) (few .if3 .left) (sound .if4 .left) (c .if5 .taken)
 
 returns-6 : tie.Need-returns-6
 unfolding most
 returns-6 c =
-    let s = c .before .before .before .before .before .before .before .args in
-    let d = c .before .before .before .before .before in
-    both-rest (s .points .now) (s .more .now) (s .sound) _ _ (d .before .domain .ensures) (d .domain2 .ensures)
-    (c .before .before .before .before .if1 .left) (c .before .before .before .if2 .left) (c .before .before .if3 .left) (c .before .if4 .left) (c .if5 .left)
+    let sound = c .before in
+    let few = sound .before in
+    let even = few .before in
+    let looked = even .before .before in
+    let s = looked .before .before .args in
+    both-rest (s .points .now) (s .more .now) (s .sound) _ _ (looked .before .domain .ensures) (looked .domain2 .ensures)
+    (even .before .if1 .left) (even .if2 .left) (few .if3 .left) (sound .if4 .left) (c .if5 .left)
 
 pub of-both-spec : {M : Type 1} → statement M
 of-both-spec =

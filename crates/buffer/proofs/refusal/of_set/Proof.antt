@@ -19,13 +19,17 @@ returns-2 c =
 
 returns-3 : tie.Need-returns-3
 returns-3 c =
-    let s = c .before .before .before .before .args in
-    set-unsound (s .points .now) (s .sound) _ (c .before .before .before .domain .ensures) (c .before .before .if1 .left) (c .before .if2 .left) (c .if3 .taken)
+    let few = c .before in
+    let looked = few .before .before in
+    let s = looked .before .args in
+    set-unsound (s .points .now) (s .sound) _ (looked .domain .ensures) (few .before .if1 .left) (few .if2 .left) (c .if3 .taken)
 
 returns-4 : tie.Need-returns-4
 returns-4 c =
-    let s = c .before .before .before .before .args in
-    set-rest (s .points .now) (s .sound) _ (c .before .before .before .domain .ensures) (c .before .before .if1 .left) (c .before .if2 .left) (c .if3 .left)
+    let few = c .before in
+    let looked = few .before .before in
+    let s = looked .before .args in
+    set-rest (s .points .now) (s .sound) _ (looked .domain .ensures) (few .before .if1 .left) (few .if2 .left) (c .if3 .left)
 
 pub of-set-spec : {M : Type 1} → statement M
 of-set-spec = tie.close (tie.spec domain-requires returns returns-2 returns-3 returns-4)

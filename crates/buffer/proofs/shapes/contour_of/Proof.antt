@@ -14,8 +14,9 @@ slice-aggregate-result c = search needs
 
 returns : tie.Need-returns
 returns c =
-    let s = c .before .before .before .before .args in
-    not-inside (part (s .points)) (s .contours .now) (s .shapes .now) (s .s) (s .c) _ (c .before .before .before .contours-in .ensures) (c .before .if1 .taken)
+    let counted = c .before .before .before in
+    let s = counted .before .args in
+    not-inside (part (s .points)) (s .contours .now) (s .shapes .now) (s .s) (s .c) _ (counted .contours-in .ensures) (c .before .if1 .taken)
 
 mul-first : tie.Need-mul-first
 mul-first c =

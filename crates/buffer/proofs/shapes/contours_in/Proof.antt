@@ -21,9 +21,10 @@ how-many-requires-2 c κs = search needs
 
 returns-2 : tie.Need-returns-2
 returns-2 c =
-    let s = c .before .before .before .before .args in
+    let judged = c .before .before .before in
+    let s = judged .before .args in
     inside-absent (s .points .now) (s .contours .now) (s .shapes .now) (s .s) _
-    (c .before .before .before .refused .ensures) (c .before .before .if1 .left) _ (c .how-many2 .ensures) (c .before .if2 .taken)
+    (judged .refused .ensures) (c .before .before .if1 .left) _ (c .how-many2 .ensures) (c .before .if2 .taken)
 
 mul-how-many : tie.Need-mul-how-many
 mul-how-many c = search needs
@@ -45,18 +46,22 @@ index-2-how-many-2 c = search needs
 
 sub-how-many : tie.Need-sub-how-many
 sub-how-many c =
-    let s = c .before .before .before .before .before .args in
+    let there = c .before .before in
+    let judged = there .before .before in
+    let s = judged .before .args in
     shape-within (s .points .now) (s .contours .now) (s .shapes .now) (s .s) _
-    (c .before .before .before .before .refused .ensures) (c .before .before .before .if1 .left) (c .before .before .if2 .left) .forward
+    (judged .refused .ensures) (there .before .if1 .left) (there .if2 .left) .forward
 
 how-many-requires-3 : tie.Need-how-many-requires-3
 how-many-requires-3 c κs = search needs
 
 returns-3 : tie.Need-returns-3
 returns-3 c =
-    let s = c .before .before .before .before .before .before .args in
+    let there = c .before .before .before in
+    let judged = there .before .before in
+    let s = judged .before .args in
     inside-there (s .points .now) (s .contours .now) (s .shapes .now) (s .s) _
-    (c .before .before .before .before .before .refused .ensures) (c .before .before .before .before .if1 .left) (c .before .before .before .if2 .left) _ (c .how-many3 .ensures)
+    (judged .refused .ensures) (there .before .if1 .left) (there .if2 .left) _ (c .how-many3 .ensures)
 
 pub contours-in-spec : {M : Type 1} → statement M
 contours-in-spec =

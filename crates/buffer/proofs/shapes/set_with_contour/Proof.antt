@@ -33,11 +33,13 @@ same-length-3 c = search needs
 
 returns : tie.Need-returns
 returns c =
-    let s = c .before .before .before .before .before .before .before .before .before .before .args in
+    let packed = c .before .before .before in
+    let judged = packed .before .before .before .before .before .before in
+    let s = judged .before .args in
     let one = whole (s .contour .now) ∷ [] in
-    c .before .before .before .shapes .ensures
-    ∙ stored-told (s .contour .now) one (every one ∷ []) (s .out .now)
-    (s .records .now) (s .groups .now) (domain (s .contour .now)) tt _ (c .before .before .before .before .before .before .before .before .before .domain .ensures)
+    packed .shapes .ensures
+    ∙ stored-told (s .contour .now) one (every one ∷ []) (s .out .now) (s .records .now) (s .groups .now)
+    (domain (s .contour .now)) tt _ (judged .domain .ensures)
 
 pub set-with-contour-spec : {M : Type 1} → statement M
 set-with-contour-spec =

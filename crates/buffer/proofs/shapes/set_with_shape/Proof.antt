@@ -20,8 +20,9 @@ slice-aggregate-shapes c = search needs
 
 shapes-requires : tie.Need-shapes-requires
 shapes-requires c κs =
-    let s = c .before .before .before .before .before .args in
-    λ z. (shape-movable (s .points .now) (s .ranges .now) _ (c .before .before .before .before .refused .ensures) z, one-movable _ 0 (omega arith))
+    let judged = c .before .before .before .before in
+    let s = judged .before .args in
+    λ z. (shape-movable (s .points .now) (s .ranges .now) _ (judged .refused .ensures) z, one-movable _ 0 (omega arith))
 
 same-length : tie.Need-same-length
 same-length c = search needs
@@ -34,10 +35,12 @@ same-length-3 c = search needs
 
 returns : tie.Need-returns
 returns c =
-    let s = c .before .before .before .before .before .before .before .before .before .args in
-    c .before .before .before .shapes .ensures
-    ∙ stored-told (s .points .now) (spans (s .ranges .now)) (every (s .ranges .now) ∷ []) (s .out .now)
-    (s .records .now) (s .groups .now) (C.refusals (s .points .now) (s .ranges .now)) tt _ (c .before .before .before .before .before .before .before .before .refused .ensures)
+    let packed = c .before .before .before in
+    let judged = packed .before .before .before .before .before in
+    let s = judged .before .args in
+    packed .shapes .ensures
+    ∙ stored-told (s .points .now) (spans (s .ranges .now)) (every (s .ranges .now) ∷ []) (s .out .now) (s .records .now) (s .groups .now)
+    (C.refusals (s .points .now) (s .ranges .now)) tt _ (judged .refused .ensures)
 
 pub set-with-shape-spec : {M : Type 1} → statement M
 set-with-shape-spec =

@@ -14,10 +14,11 @@ refused-requires c κs = search needs
 
 shapes-requires : tie.Need-shapes-requires
 shapes-requires c κs =
-    let s = c .before .before .before .before .args in
+    let judged = c .before .before .before in
+    let s = judged .before .args in
     λ z. (
-      contours-movable (s .points .now) (s .contours .now) (s .shapes .now) _ (c .before .before .before .refused .ensures) z,
-      shapes-movable (s .points .now) (s .contours .now) (s .shapes .now) _ (c .before .before .before .refused .ensures) z (omega arith),
+      contours-movable (s .points .now) (s .contours .now) (s .shapes .now) _ (judged .refused .ensures) z,
+      shapes-movable (s .points .now) (s .contours .now) (s .shapes .now) _ (judged .refused .ensures) z (omega arith),
     )
 
 same-length : tie.Need-same-length
@@ -31,10 +32,12 @@ same-length-3 c = search needs
 
 returns : tie.Need-returns
 returns c =
-    let s = c .before .before .before .before .before .before .before .before .args in
-    c .before .before .before .shapes .ensures
-    ∙ stored-told (s .points .now) (spans (s .contours .now)) (spans (s .shapes .now)) (s .out .now)
-    (s .records .now) (s .groups .now) (S.refusals (s .points .now) (s .contours .now) (s .shapes .now)) tt _ (c .before .before .before .before .before .before .before .refused .ensures)
+    let packed = c .before .before .before in
+    let judged = packed .before .before .before .before in
+    let s = judged .before .args in
+    packed .shapes .ensures
+    ∙ stored-told (s .points .now) (spans (s .contours .now)) (spans (s .shapes .now)) (s .out .now) (s .records .now) (s .groups .now)
+    (S.refusals (s .points .now) (s .contours .now) (s .shapes .now)) tt _ (judged .refused .ensures)
 
 pub set-with-shapes-spec : {M : Type 1} → statement M
 set-with-shapes-spec =

@@ -18,8 +18,10 @@ same-length c = search needs
 
 returns : tie.Need-returns
 returns c =
-    let s = c .before .before .before .before .before .before .args in
-    c .before .copy2 .ensures ∙ ap (placed (length (s .one .now)) (s .two .now)) (c .before .before .before .before .copy .ensures ∙ placed-front (s .out .now) (s .one .now))
+    let second = c .before in
+    let first = second .before .before .before in
+    let s = first .before .before .args in
+    second .copy2 .ensures ∙ ap (placed (length (s .one .now)) (s .two .now)) (first .copy .ensures ∙ placed-front (s .out .now) (s .one .now))
     ∙ placed-next (s .out .now) (s .one .now) (s .two .now) _ refl
 
 pub both-numbers-spec : {M : Type 1} → statement M

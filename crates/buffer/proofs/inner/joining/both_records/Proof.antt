@@ -15,8 +15,10 @@ same-length c = search needs
 
 returns : tie.Need-returns
 returns c =
-    let s = c .before .before .before .before .before .before .args in
-    both-placed (s .one .now) (s .two .now) (s .out .now) (s .shift) _ _ (c .before .before .before .before .records .ensures) (c .before .records2 .ensures)
+    let second = c .before in
+    let first = second .before .before .before in
+    let s = first .before .before .args in
+    both-placed (s .one .now) (s .two .now) (s .out .now) (s .shift) _ _ (first .records .ensures) (second .records2 .ensures)
 
 pub both-records-spec : {M : Type 1} → statement M
 both-records-spec = tie.close (tie.spec records-requires records-requires-2 same-length returns)

@@ -1,7 +1,9 @@
 -- `buffer::inner::packing::shapes` meets its contract.
 use native.Mathlib.Omega.{arith}
-use Rattle.buffer.proofs.PackLaws.{group-refused, group-fits, group-done}
+use lib.ListN.{length}
 use borrow.Author.Needs.{needs}
+use Rattle.buffer.proofs.PackLaws.{group-refused, group-fits, group-done}
+use Rattle.buffer.proofs.AnswerLaws.{Fits}
 use Rattle.buffer.proofs.inner.packing.shapes.Statement.{statement}
 use Rattle.buffer.proofs.inner.packing.shapes.Tie as tie
 
@@ -17,29 +19,30 @@ returns c =
     group-refused (s .refusal) _ (s .points .now) (s .contours .now) (s .shapes .now) (s .out .now) (s .records .now) (s .groups .now)
     (c .before .before .or-room .ensures) _ (c .refused .ensures) (c .before .if1 .taken)
 
-copy-requires : tie.Need-copy-requires
-copy-requires c κs =
-    let s = c .before .before .before .args in
-    let h =
+-- nothing is refused, and there is room
+fits : (c : tie.Else1) →
+    let s = c .before .before .args in
+    Fits (s .refusal) (length (s .points .now)) (length (s .contours .now)) (length (s .shapes .now)) (s .out .now) (s .records .now) (s .groups .now)
+fits c =
+    let s = c .before .before .args in
     group-fits (s .refusal) _ (s .points .now) (s .contours .now) (s .shapes .now) (s .out .now) (s .records .now) (s .groups .now)
-    (c .before .before .or-room .ensures) (c .before .if1 .left) in
-    omega (arith, h .points-in)
+    (c .before .or-room .ensures) (c .if1 .left)
+
+copy-requires : tie.Need-copy-requires
+copy-requires c κs = omega (arith, fits (c .before) .points-in)
 
 records-requires : tie.Need-records-requires
 records-requires c κs =
-    let s = c .before .before .before .before .before .before .args in
-    let h =
-    group-fits (s .refusal) _ (s .points .now) (s .contours .now) (s .shapes .now) (s .out .now) (s .records .now) (s .groups .now)
-    (c .before .before .before .before .before .or-room .ensures) (c .before .before .before .before .if1 .left) in
-    (omega (arith, h .contours-in), c .before .before .before .before .before .before .pre (h .sound) .0)
+    let accepted = c .before .before .before .before in
+    let h = fits accepted in
+    (omega (arith, h .contours-in), accepted .before .before .pre (h .sound) .0)
 
 records-requires-2 : tie.Need-records-requires-2
 records-requires-2 c κs =
-    let s = c .before .before .before .before .before .before .before .before .before .args in
-    let h =
-    group-fits (s .refusal) _ (s .points .now) (s .contours .now) (s .shapes .now) (s .out .now) (s .records .now) (s .groups .now)
-    (c .before .before .before .before .before .before .before .before .or-room .ensures) (c .before .before .before .before .before .before .before .if1 .left) in
-    (omega (arith, h .shapes-in), c .before .before .before .before .before .before .before .before .before .pre (h .sound) .1)
+    let recorded = c .before .before in
+    let accepted = recorded .before .before .before .before .before in
+    let h = fits accepted in
+    (omega (arith, h .shapes-in), accepted .before .before .pre (h .sound) .1)
 
 same-length : tie.Need-same-length
 same-length c = search needs
@@ -52,9 +55,13 @@ same-length-3 c = search needs
 
 returns-2 : tie.Need-returns-2
 returns-2 c =
-    let s = c .before .before .before .before .before .before .before .before .before .before .before .args in
+    let grouped = c .before in
+    let recorded = grouped .before .before .before in
+    let copied = recorded .before .before .before in
+    let accepted = copied .before .before in
+    let s = accepted .before .before .args in
     group-done (s .refusal) _ (s .points .now) (s .contours .now) (s .shapes .now) (s .out .now) (s .records .now) (s .groups .now)
-    (c .before .before .before .before .before .before .before .before .before .before .or-room .ensures) _ _ _ (c .before .before .before .before .before .before .before .before .before .if1 .left) (c .before .before .before .before .before .before .before .copy .ensures) (c .before .before .before .before .records .ensures) (c .before .records3 .ensures)
+    (accepted .before .or-room .ensures) _ _ _ (accepted .if1 .left) (copied .copy .ensures) (recorded .records .ensures) (grouped .records3 .ensures)
 
 pub shapes-spec : {M : Type 1} → statement M
 shapes-spec =
