@@ -40,7 +40,7 @@ module _ {A : Type 0} (l : List A) (k : ℕ) (x : A) (rest : List A) (e : drop k
   pub front-past : drop (k + 1) l ≡ rest
   front-past = sym (drop-drop 1 k l) ∙ ap (drop 1) e
 
--- the Lines in front of what is left of the kinds
+-- the Lines in front of the rest of the kinds
 module _ (kinds : List ℕ) (i : ℕ) where
   module _ (h : i < length kinds) where
     pub run-more : getD kinds i 0 ≡ 1 → run (drop i kinds) ≡ suc (run (drop (i + 1) kinds))
@@ -93,19 +93,19 @@ points-few (zero ∷ kinds) = omega (arith, points-few kinds)
 points-few (suc zero ∷ kinds) = omega (arith, points-few kinds)
 points-few (suc (suc k) ∷ kinds) = omega (arith, points-few kinds)
 
--- the ranges: what is left of the kinds makes what is still to be written
+-- the ranges: the rest of the kinds makes what is still to be written
 pub record Ranging (kinds : List ℕ) (records₀ records : List (List ℕ)) (k start i : ℕ) : Type 0 where
   pub within : i ≤ length kinds
   pub few : start + total (sizes (drop i kinds)) ≤ length kinds
   pub copied : Copied records₀ 0 (rows (laid 0 (sizes kinds))) records k
-  pub left : drop k (rows (laid 0 (sizes kinds))) ≡ rows (laid start (sizes (drop i kinds)))
+  pub rest : drop k (rows (laid 0 (sizes kinds))) ≡ rows (laid start (sizes (drop i kinds)))
 
 pub ranging-all : (kinds : List ℕ) (records : List (List ℕ)) → Ranging kinds records records 0 0 0
 ranging-all kinds records = record {
   within = omega arith;
   few = omega (arith, points-few kinds);
   copied = copied-none records 0 (rows (laid 0 (sizes kinds)));
-  left = refl;
+  rest = refl;
 }
 
 module _ {kinds : List ℕ} {records₀ records : List (List ℕ)} {k start i : ℕ} (x : Ranging kinds records₀ records k start i) (h : i < length kinds) where
@@ -116,7 +116,7 @@ module _ {kinds : List ℕ} {records₀ records : List (List ℕ)} {k start i : 
         within = omega arith;
         few = subst (λ (l : List ℕ). start + total l ≤ length kinds) e (x .few);
         copied = x .copied;
-        left = x .left ∙ ap (λ (l : List ℕ). rows (laid start l)) e;
+        rest = x .rest ∙ ap (λ (l : List ℕ). rows (laid start l)) e;
       }
 
   module _ (e : getD kinds i 0 ≡ 0) where
@@ -125,7 +125,7 @@ module _ {kinds : List ℕ} {records₀ records : List (List ℕ)} {k start i : 
 
     begins : drop k (rows (laid 0 (sizes kinds))) ≡ (start ∷ next-end ∷ []) ∷ rows (laid next-end (sizes (drop (i + 1) kinds)))
     unfolding laid
-    begins = x .left ∙ ap (λ (l : List ℕ). rows (laid start l)) (sizes-begun kinds i h e)
+    begins = x .rest ∙ ap (λ (l : List ℕ). rows (laid start l)) (sizes-begun kinds i h e)
 
     pub ranging-few : next-end + total (sizes (drop (i + 1) kinds)) ≤ length kinds
     ranging-few =
@@ -147,5 +147,5 @@ module _ {kinds : List ℕ} {records₀ records : List (List ℕ)} {k start i : 
               subst (λ (n : ℕ). Copied records₀ 0 (rows (laid 0 (sizes kinds))) (set records n (start ∷ end ∷ [])) (k + 1)) z
               (copied-more records₀ 0 _ (x .copied) [] (start ∷ end ∷ []) (omega arith) ranging-within
               (ap (λ (n : ℕ). start ∷ n ∷ []) q ∙ sym (front-is _ k _ _ begins [])));
-          left = front-past _ k _ _ begins ∙ ap (λ (n : ℕ). rows (laid n (sizes (drop (i + 1) kinds)))) (sym q);
+          rest = front-past _ k _ _ begins ∙ ap (λ (n : ℕ). rows (laid n (sizes (drop (i + 1) kinds)))) (sym q);
         }

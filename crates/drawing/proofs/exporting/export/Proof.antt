@@ -16,8 +16,10 @@ refused-requires-2 c κs = search needs
 
 returns : tie.Need-returns
 returns c =
-    let s = c .before .before .before .before .before .args in
-    export-refused (s .points .now) (s .ranges .now) (s .kinds .now) (s .floats .now) _ (c .before .before .refused .ensures) _ (c .refused2 .ensures) (c .before .if1 .taken)
+    let judged = c .before .before in
+    let s = judged .before .before .before .args in
+    export-refused (s .points .now) (s .ranges .now) (s .kinds .now) (s .floats .now) _ (judged .refused .ensures)
+    _ (c .refused2 .ensures) (c .before .if1 .taken)
 
 filled-requires : tie.Need-filled-requires
 filled-requires c κs = search needs
@@ -25,33 +27,41 @@ filled-requires c κs = search needs
 add-commands : tie.Need-add-commands
 unfolding most
 add-commands c =
-    let s = c .before .before .before .before .before .args in
-    omega (arith, export-few (s .points .now) (s .ranges .now) (s .kinds .now) (s .floats .now) _ (c .before .before .refused .ensures) (c .before .if1 .left), c .filled .ensures)
+    let accepted = c .before in
+    let judged = accepted .before in
+    let s = judged .before .before .before .args in
+    let few = export-few (s .points .now) (s .ranges .now) (s .kinds .now) (s .floats .now) _ (judged .refused .ensures) (accepted .if1 .left) in
+    omega (arith, few, c .filled .ensures)
 
 refused-requires-3 : tie.Need-refused-requires-3
 refused-requires-3 c κs = search needs
 
 returns-2 : tie.Need-returns-2
 returns-2 c =
-    let of = c .before .before .before in
-    let s = of .before .before .before .before .args in
-    export-cramped (s .points .now) (s .ranges .now) (s .kinds .now) (s .floats .now) _ (of .before .refused .ensures) (of .if1 .left) _ (c .before .before .filled .ensures) _ (c .refused3 .ensures)
-    (not-true _ (c .before .if2 .taken))
+    let counted = c .before .before in
+    let accepted = counted .before in
+    let judged = accepted .before in
+    let s = judged .before .before .before .args in
+    export-cramped (s .points .now) (s .ranges .now) (s .kinds .now) (s .floats .now) _ (judged .refused .ensures) (accepted .if1 .left)
+    _ (counted .filled .ensures) _ (c .refused3 .ensures) (not-true _ (c .before .if2 .taken))
 
 contours-requires : tie.Need-contours-requires
 contours-requires c κs =
-    let of = c .before .before .before in
-    let s = of .before .before .before .before .args in
-    export-contours (s .points .now) (s .ranges .now) (s .kinds .now) (s .floats .now) _ (of .before .refused .ensures) (of .if1 .left) _ (c .before .before .filled .ensures)
-    (not-false _ (c .before .if2 .left))
+    let counted = c .before .before in
+    let accepted = counted .before in
+    let judged = accepted .before in
+    let s = judged .before .before .before .args in
+    export-contours (s .points .now) (s .ranges .now) (s .kinds .now) (s .floats .now) _ (judged .refused .ensures) (accepted .if1 .left)
+    _ (counted .filled .ensures) (not-false _ (c .before .if2 .left))
 
 places-requires : tie.Need-places-requires
 places-requires c κs =
-    let at = c .before .before .before .before .before in
-    let of = at .before .before in
-    let s = of .before .before .before .before .args in
-    export-places (s .points .now) (s .ranges .now) (s .kinds .now) (s .floats .now) _ (of .before .refused .ensures) (of .if1 .left) _ (at .before .filled .ensures)
-    (not-false _ (at .if2 .left))
+    let roomy = c .before .before .before .before .before in
+    let accepted = roomy .before .before in
+    let judged = accepted .before in
+    let s = judged .before .before .before .args in
+    export-places (s .points .now) (s .ranges .now) (s .kinds .now) (s .floats .now) _ (judged .refused .ensures) (accepted .if1 .left)
+    _ (roomy .before .filled .ensures) (not-false _ (roomy .if2 .left))
 
 same-length : tie.Need-same-length
 same-length c = search needs
@@ -61,11 +71,14 @@ same-length-2 c = search needs
 
 returns-3 : tie.Need-returns-3
 returns-3 c =
-    let at = c .before .before .before .before .before .before .before .before in
-    let of = at .before .before in
-    let s = of .before .before .before .before .args in
-    export-done (s .points .now) (s .ranges .now) (s .kinds .now) (s .floats .now) _ (of .before .refused .ensures) (of .if1 .left) _ (at .before .filled .ensures)
-    (not-false _ (at .if2 .left)) _ _ (c .before .before .before .before .before .before .contours .ensures) (c .before .before .places .ensures)
+    let placed = c .before .before in
+    let drawn = placed .before .before .before .before in
+    let roomy = drawn .before .before in
+    let accepted = roomy .before .before in
+    let judged = accepted .before in
+    let s = judged .before .before .before .args in
+    export-done (s .points .now) (s .ranges .now) (s .kinds .now) (s .floats .now) _ (judged .refused .ensures) (accepted .if1 .left)
+    _ (roomy .before .filled .ensures) (not-false _ (roomy .if2 .left)) _ _ (drawn .contours .ensures) (placed .places .ensures)
 
 pub export-spec : {M : Type 1} → statement M
 export-spec =

@@ -18,25 +18,26 @@ refused-requires c κs = search needs
 
 returns : tie.Need-returns
 returns c =
-    let at = c .before .before .before in
-    let s = at .before .before .before .before .args in
-    import-refused (s .kinds .now) (s .floats .now) (s .points .now) (s .ranges .now) _ _ _ (at .judge .ensures) (at .before .contours .ensures)
-    (c .before .before .or-room .ensures) _ (c .refused .ensures) (c .before .if1 .taken)
+    let judged = c .before .before .before in
+    let s = judged .before .before .before .before .args in
+    import-refused (s .kinds .now) (s .floats .now) (s .points .now) (s .ranges .now)
+    _ _ _ (judged .judge .ensures) (judged .before .contours .ensures) (c .before .before .or-room .ensures)
+    _ (c .refused .ensures) (c .before .if1 .taken)
 
 points-requires : tie.Need-points-requires
 points-requires c κs =
-    let at = c .before .before .before in
-    let s = at .before .before .before .before .args in
-    import-points (s .kinds .now) (s .floats .now) (s .points .now) (s .ranges .now) _ _ _ (at .judge .ensures) (at .before .contours .ensures)
-    (c .before .before .or-room .ensures) (c .before .if1 .left)
+    let judged = c .before .before .before in
+    let s = judged .before .before .before .before .args in
+    import-points (s .kinds .now) (s .floats .now) (s .points .now) (s .ranges .now)
+    _ _ _ (judged .judge .ensures) (judged .before .contours .ensures) (c .before .before .or-room .ensures) (c .before .if1 .left)
 
 ranges-requires : tie.Need-ranges-requires
 ranges-requires c κs =
-    let of = c .before .before .before .before in
-    let at = of .before .before in
-    let s = at .before .before .before .before .args in
-    import-ranges (s .kinds .now) (s .floats .now) (s .points .now) (s .ranges .now) _ _ _ (at .judge .ensures) (at .before .contours .ensures)
-    (of .before .or-room .ensures) (of .if1 .left)
+    let accepted = c .before .before .before .before in
+    let judged = accepted .before .before in
+    let s = judged .before .before .before .before .args in
+    import-ranges (s .kinds .now) (s .floats .now) (s .points .now) (s .ranges .now)
+    _ _ _ (judged .judge .ensures) (judged .before .contours .ensures) (accepted .before .or-room .ensures) (accepted .if1 .left)
 
 same-length : tie.Need-same-length
 same-length c = search needs
@@ -46,11 +47,14 @@ same-length-2 c = search needs
 
 returns-2 : tie.Need-returns-2
 returns-2 c =
-    let of = c .before .before .before .before .before .before in
-    let at = of .before .before in
-    let s = at .before .before .before .before .args in
-    import-done (s .kinds .now) (s .floats .now) (s .points .now) (s .ranges .now) _ _ _ (at .judge .ensures) (at .before .contours .ensures)
-    (of .before .or-room .ensures) (of .if1 .left) _ _ (c .before .before .before .before .points .ensures) (c .before .ranges .ensures)
+    let ranged = c .before in
+    let filled = ranged .before .before .before in
+    let accepted = filled .before .before in
+    let judged = accepted .before .before in
+    let s = judged .before .before .before .before .args in
+    import-done (s .kinds .now) (s .floats .now) (s .points .now) (s .ranges .now)
+    _ _ _ (judged .judge .ensures) (judged .before .contours .ensures) (accepted .before .or-room .ensures) (accepted .if1 .left)
+    _ _ (filled .points .ensures) (ranged .ranges .ensures)
 
 pub import-spec : {M : Type 1} → statement M
 import-spec =

@@ -51,7 +51,9 @@ mul-t13 : tie.Need-mul-t13 Inv-loop μ-loop
 mul-t13 c = search needs
 
 slice-set-from-out : tie.Need-slice-set-from-out Inv-loop μ-loop
-slice-set-from-out c = omega (arith, shifted-length (c .before .before .before .before .args .from .now) (c .before .before .before .before .args .shift))
+slice-set-from-out c =
+    let s = c .before .before .before .before .args in
+    omega (arith, shifted-length (s .from .now) (s .shift))
 
 add-i : tie.Need-add-i Inv-loop μ-loop
 add-i c = search needs
@@ -64,7 +66,8 @@ loop-again c =
     let l = c .before .before .before in
     let from = l .before .args .from .now in
     let n = shifted-length from (l .before .args .shift) in
-    copied-more _ _ _ (l .loop .inv) [] _ (omega arith) (omega arith) (shifted-at from (l .before .args .shift) (l .loop .i) (c .before .before .loop-test .taken))
+    copied-more _ _ _ (l .loop .inv) [] _ (omega arith) (omega arith)
+    (shifted-at from (l .before .args .shift) (l .loop .i) (c .before .before .loop-test .taken))
 
 same-length : tie.Need-same-length Inv-loop μ-loop
 same-length c = c .before .loop .inv .long

@@ -22,7 +22,8 @@ returns c =
 -- nothing is refused, and there is room
 fits : (c : tie.Else1) →
     let s = c .before .before .args in
-    Fits (s .refusal) (length (s .points .now)) (length (s .contours .now)) (length (s .shapes .now)) (s .out .now) (s .records .now) (s .groups .now)
+    Fits (s .refusal) (length (s .points .now)) (length (s .contours .now)) (length (s .shapes .now))
+    (s .out .now) (s .records .now) (s .groups .now)
 fits c =
     let s = c .before .before .args in
     group-fits (s .refusal) _ (s .points .now) (s .contours .now) (s .shapes .now) (s .out .now) (s .records .now) (s .groups .now)
@@ -61,7 +62,8 @@ returns-2 c =
     let accepted = copied .before .before in
     let s = accepted .before .before .args in
     group-done (s .refusal) _ (s .points .now) (s .contours .now) (s .shapes .now) (s .out .now) (s .records .now) (s .groups .now)
-    (accepted .before .or-room .ensures) _ _ _ (accepted .if1 .left) (copied .copy .ensures) (recorded .records .ensures) (grouped .records3 .ensures)
+    (accepted .before .or-room .ensures) _ _ _ (accepted .if1 .left)
+    (copied .copy .ensures) (recorded .records .ensures) (grouped .records3 .ensures)
 
 pub shapes-spec : {M : Type 1} → statement M
 shapes-spec =

@@ -21,13 +21,15 @@ returns : tie.Need-returns
 unfolding item
 returns c =
     let s = c .before .before .before .args in
-    ap (λ (p : Place). command (Move p)) (c .place-from .ensures) ∙ ap (λ (k : ℕ). item k (drop (s .at) (s .floats .now))) (sym (c .before .if1 .taken))
+    ap (λ (p : Place). command (Move p)) (c .place-from .ensures)
+    ∙ ap (λ (k : ℕ). item k (drop (s .at) (s .floats .now))) (sym (c .before .if1 .taken))
 
 returns-2 : tie.Need-returns-2
 unfolding item
 returns-2 c =
     let s = c .before .before .before .before .args in
-    ap (λ (p : Place). command (Line p)) (c .place-from2 .ensures) ∙ ap (λ (k : ℕ). item k (drop (s .at) (s .floats .now))) (sym (c .before .if2 .taken))
+    ap (λ (p : Place). command (Line p)) (c .place-from2 .ensures)
+    ∙ ap (λ (k : ℕ). item k (drop (s .at) (s .floats .now))) (sym (c .before .if2 .taken))
 
 returns-3 : tie.Need-returns-3
 unfolding item

@@ -31,7 +31,8 @@ shared-slice-read-if1 c = omega arith
 returns : tie.Need-returns Inv-loop μ-loop
 returns c =
     let l = c .before .before .before in
-    let stops = run-stops (l .before .args .kinds .now) (l .before .args .at + l .loop .n) (omega (arith, c .before .before .loop-test .taken)) (c .if1 .taken) in
+    let s = l .before .args in
+    let stops = run-stops (s .kinds .now) (s .at + l .loop .n) (omega (arith, c .before .before .loop-test .taken)) (c .if1 .taken) in
     omega (arith, l .loop .inv .1, stops)
 
 add-n : tie.Need-add-n Inv-loop μ-loop

@@ -62,35 +62,44 @@ point-of-requires c κs =
     ∙ ap₂ (λ (a b : Bool). a && b) (on (at l) (omega (arith, pair l))) (on (at l + 1) (pair l))
 
 mul-x : tie.Need-mul-x Inv-loop μ-loop
-mul-x c = omega (arith, room (c .before .before .before .before), c .before .before .before .before .before .loop .inv .1 .long, c .before .before .before .before .before .before .before .good)
+mul-x c =
+    let met = c .before .before .before .before in
+    omega (arith, room met, met .before .loop .inv .1 .long, met .before .before .before .good)
 
 slice-set-from-x : tie.Need-slice-set-from-x Inv-loop μ-loop
 slice-set-from-x c = omega (arith, room (c .before .before .before .before))
 
 add-y : tie.Need-add-y Inv-loop μ-loop
-add-y c = omega (arith, room (c .before .before .before .before), c .before .before .before .before .before .loop .inv .1 .long, c .before .before .before .before .before .before .before .good)
+add-y c =
+    let met = c .before .before .before .before in
+    omega (arith, room met, met .before .loop .inv .1 .long, met .before .before .before .good)
 
 mul-y : tie.Need-mul-y Inv-loop μ-loop
-mul-y c = omega (arith, room (c .before .before .before .before), c .before .before .before .before .before .loop .inv .1 .long, c .before .before .before .before .before .before .before .good)
+mul-y c =
+    let met = c .before .before .before .before in
+    omega (arith, room met, met .before .loop .inv .1 .long, met .before .before .before .good)
 
 slice-set-from-y : tie.Need-slice-set-from-y Inv-loop μ-loop
 slice-set-from-y c = simp length-set (omega (arith, room (c .before .before .before .before)))
 
 add-at : tie.Need-add-at Inv-loop μ-loop
-add-at c = omega (arith, room (c .before .before .before .before), c .before .before .before .before .before .loop .inv .1 .long, c .before .before .before .before .before .before .before .good)
+add-at c =
+    let met = c .before .before .before .before in
+    omega (arith, room met, met .before .loop .inv .1 .long, met .before .before .before .good)
 
 loop-less : tie.Need-loop-less Inv-loop μ-loop
 loop-less c = omega (arith, pair (c .before .before .before .before))
 
 loop-again : tie.Need-loop-again Inv-loop μ-loop
 loop-again c =
-    let l = c .before .before .before .before in
-    let p = c .before .before .point-of .result in
+    let made = c .before .before in
+    let l = made .before .before in
+    let p = made .point-of .result in
     let z : at l ≡ 0 + at l = omega arith in
     let n = length-map (floats l) units in
     let x-back : toZ w32 (ofZ w32 (p .x)) ≡ p .x = search needs in
     let y-back : toZ w32 (ofZ w32 (p .y)) ≡ p .y = search needs in
-    let is : p ≡ point (place-of (drop (at l) (floats l))) = c .before .before .point-of .ensures ∙ ap point (c .before .before .before .place-from .ensures) in (
+    let is : p ≡ point (place-of (drop (at l) (floats l))) = made .point-of .ensures ∙ ap point (made .before .place-from .ensures) in (
       omega (arith, l .before .loop .inv .0),
       copied-two (l .before .loop .inv .1) (omega (arith, l .before .before .before .pre .1)) (omega (arith, pair l)) (pos 0) _ _ (at l) _ z refl
           (x-back ∙ ap (λ (q : Point). q .x) is ∙ ap units (first l) ∙ sym (map-at units (floats l) (at l) (pos 0) nan (omega (arith, pair l))))
@@ -102,9 +111,11 @@ same-length c = c .before .loop .inv .1 .long
 
 returns : tie.Need-returns Inv-loop μ-loop
 returns c =
-    let s = c .before .before .before .args in
-    let done : c .before .loop .at ≡ length (map units (s .floats .now)) = omega (arith, length-map (s .floats .now) units, c .before .loop .inv .1 .within) in
-    copied-all _ _ _ (c .before .loop .inv .1) done ∙ placed-front (s .out .now) (map units (s .floats .now))
+    let pass = c .before in
+    let s = pass .before .before .args in
+    let done : pass .loop .at ≡ length (map units (s .floats .now)) =
+    omega (arith, length-map (s .floats .now) units, pass .loop .inv .1 .within) in
+    copied-all _ _ _ (pass .loop .inv .1) done ∙ placed-front (s .out .now) (map units (s .floats .now))
 
 pub points-spec : {M : Type 1} → statement M
 points-spec =

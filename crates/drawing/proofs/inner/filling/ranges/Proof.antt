@@ -1,4 +1,4 @@
--- `drawing::inner::filling::ranges` meets its contract: what is left of the kinds makes what is still to be written.
+-- `drawing::inner::filling::ranges` meets its contract: the rest of the kinds makes what is still to be written.
 use mathlib.Core.Path.{_≡_, ap, _∙_}
 use mathlib.Core.List.{List}
 use Prim.Native.Nat.{ℕ, suc, _+_, _-_, _≤_, _<_}
@@ -36,7 +36,9 @@ module _ (c : tie.Then1 Inv-loop μ-loop) where
   few = omega (arith, ranging-few (l .loop .inv) (c .before .before .loop-test .taken) (c .if1 .taken))
 
   roomy : l .loop .k < length (l .loop .records)
-  roomy = omega (arith, ranging-within (l .loop .inv) (c .before .before .loop-test .taken) (c .if1 .taken), l .loop .inv .copied .long, room (l .before .before))
+  roomy =
+      let within = ranging-within (l .loop .inv) (c .before .before .loop-test .taken) (c .if1 .taken) in
+      omega (arith, within, l .loop .inv .copied .long, room (l .before .before))
 
 loop-holds : tie.Need-loop-holds Inv-loop μ-loop
 loop-holds c = ranging-all (c .before .args .kinds .now) (c .before .args .records .now)
@@ -74,7 +76,8 @@ loop-less c = omega (arith, c .before .before .before .loop-test .taken)
 loop-again : tie.Need-loop-again Inv-loop μ-loop
 loop-again c =
     let at = c .before in
-    ranging-more (l at .loop .inv) (at .before .before .loop-test .taken) (at .if1 .taken) (room (l at .before .before)) _ (omega (arith, c .lines .ensures))
+    ranging-more (l at .loop .inv) (at .before .before .loop-test .taken) (at .if1 .taken) (room (l at .before .before))
+    _ (omega (arith, c .lines .ensures))
 
 add-i-2 : tie.Need-add-i-2 Inv-loop μ-loop
 add-i-2 c = omega (arith, c .before .before .loop-test .taken)
@@ -91,12 +94,15 @@ same-length c = c .before .loop .inv .copied .long
 returns : tie.Need-returns Inv-loop μ-loop
 unfolding laid
 returns c =
-    let x = c .before .loop .inv in
+    let pass = c .before .loop in
+    let x = pass .inv in
     let s = c .before .before .before .args in
-    let end : c .before .loop .i ≡ length (s .kinds .now) = omega arith in
-    let all = x .left ∙ ap (λ (l : List ℕ). rows (laid (c .before .loop .start) l)) (sizes-done (s .kinds .now) (c .before .loop .i) end) in
-    let done : c .before .loop .k ≡ length (rows (laid 0 (sizes (s .kinds .now)))) = omega (arith, x .copied .within, length-drop (c .before .loop .k) (rows (laid 0 (sizes (s .kinds .now)))), ap length all) in
-    copied-all _ _ _ (x .copied) done ∙ placed-front (s .records .now) (rows (laid 0 (sizes (s .kinds .now))))
+    let kinds = s .kinds .now in
+    let wanted = rows (laid 0 (sizes kinds)) in
+    let end : pass .i ≡ length kinds = omega arith in
+    let none = x .rest ∙ ap (λ (l : List ℕ). rows (laid (pass .start) l)) (sizes-done kinds (pass .i) end) in
+    let done : pass .k ≡ length wanted = omega (arith, x .copied .within, length-drop (pass .k) wanted, ap length none) in
+    copied-all _ _ _ (x .copied) done ∙ placed-front (s .records .now) wanted
 
 pub ranges-spec : {M : Type 1} → statement M
 ranges-spec =

@@ -1,4 +1,4 @@
--- `drawing::inner::judging::first_fault` meets its contract: the first fault of what is left is that of the whole.
+-- `drawing::inner::judging::first_fault` meets its contract: the first fault of the rest is that of the whole.
 use mathlib.Core.Path.{_≡_, refl, sym, ap, ap₂, _∙_}
 use mathlib.Core.Bool.{Bool, false}
 use mathlib.Core.List.{List, _∷_}
@@ -33,21 +33,27 @@ module _ (c : tie.In-loop Inv-loop μ-loop) where
   abbrev kind : ℕ
   kind = getD kinds (c .before .loop .i) 0
 
-  abbrev left : List Float
-  left = drop (c .before .loop .at) floats
+  abbrev rest : List Float
+  rest = drop (c .before .loop .at) floats
 
   abbrev behind : List Item
   behind = items (drop (c .before .loop .i + 1) kinds) (drop (c .before .loop .at + brought kind) floats)
 
-  met : first-fault false (items kinds floats) ≡ first-fault (c .before .loop .opened) (item kind left ∷ behind)
-  met = c .before .loop .inv .2 ∙ ap (first-fault (c .before .loop .opened)) (items-more kinds (c .before .loop .i) (c .loop-test .taken) floats (c .before .loop .at))
+  met : first-fault false (items kinds floats) ≡ first-fault (c .before .loop .opened) (item kind rest ∷ behind)
+  met =
+      let pass = c .before .loop in
+      pass .inv .2 ∙ ap (first-fault (pass .opened)) (items-more kinds (pass .i) (c .loop-test .taken) floats (pass .at))
 
-  asked-left : c .before .loop .at + (brought kind + asked (drop (c .before .loop .i + 1) kinds)) ≡ length floats
-  asked-left = omega (arith, asked-more kinds (c .before .loop .i) (c .loop-test .taken))
+  asked-rest : c .before .loop .at + (brought kind + asked (drop (c .before .loop .i + 1) kinds)) ≡ length floats
+  asked-rest = omega (arith, asked-more kinds (c .before .loop .i) (c .loop-test .taken))
 
 -- what is wrong with the command that was read
-number : (c : tie.After-fault Inv-loop μ-loop) → c .fault .result ≡ first-of (faults (c .before .before .before .before .before .loop .opened) (item (kind (c .before .before .before .before)) (left (c .before .before .before .before))))
-number c = c .fault .ensures ∙ ap (λ (x : Item). first-of (faults (c .before .before .before .before .before .loop .opened) x)) (c .before .read .ensures)
+number : (c : tie.After-fault Inv-loop μ-loop) →
+    let at = c .before .before .before .before in
+    c .fault .result ≡ first-of (faults (at .before .loop .opened) (item (kind at) (rest at)))
+number c =
+    let at = c .before .before .before .before in
+    c .fault .ensures ∙ ap (λ (x : Item). first-of (faults (at .before .loop .opened) x)) (c .before .read .ensures)
 
 loop-holds : tie.Need-loop-holds Inv-loop μ-loop
 loop-holds c = (omega arith, omega arith, refl)
@@ -58,10 +64,13 @@ shared-slice-read-kind c = omega arith
 returns : tie.Need-returns Inv-loop μ-loop
 returns c =
     let at = c .before .before in
-    sym (met at ∙ ap (λ (x : Item). first-fault (at .before .loop .opened) (x ∷ behind at)) (no-kind (kind at) (left at) (c .if1 .taken)) ∙ no-command-decides _ (behind at))
+    sym
+    (met at
+    ∙ ap (λ (x : Item). first-fault (at .before .loop .opened) (x ∷ behind at)) (no-kind (kind at) (rest at) (c .if1 .taken))
+    ∙ no-command-decides _ (behind at))
 
 read-requires : tie.Need-read-requires Inv-loop μ-loop
-read-requires c κs = (c .if1 .left, omega (arith, asked-left (c .before .before)))
+read-requires c κs = (c .if1 .left, omega (arith, asked-rest (c .before .before)))
 
 fault-requires : tie.Need-fault-requires Inv-loop μ-loop
 fault-requires c κs = tt
@@ -75,7 +84,7 @@ brought-requires : tie.Need-brought-requires Inv-loop μ-loop
 brought-requires c κs = tt
 
 add-at : tie.Need-add-at Inv-loop μ-loop
-add-at c = omega (arith, c .brought .ensures, asked-left (c .before .before .before .before .before .before))
+add-at c = omega (arith, c .brought .ensures, asked-rest (c .before .before .before .before .before .before))
 
 add-i : tie.Need-add-i Inv-loop μ-loop
 add-i c = omega (arith, c .before .before .before .before .before .before .loop-test .taken)
@@ -88,9 +97,10 @@ loop-again c =
     let at = c .before .before .before .before .before .before in
     let far : at .before .loop .at + brought (kind at) ≡ at .before .loop .at + c .brought .result = omega (arith, c .brought .ensures) in (
       omega (arith, at .loop-test .taken),
-      omega (arith, c .brought .ensures, asked-left at),
+      omega (arith, c .brought .ensures, asked-rest at),
       met at ∙ fault-passes _ _ (behind at) _ (number (c .before .before)) (c .before .if2 .left)
-          ∙ ap₂ (λ (b : Bool) (n : ℕ). first-fault b (items (drop (at .before .loop .i + 1) (kinds at)) (drop n (floats at)))) (sym (opens-is (kind at) (left at))) far,
+          ∙ ap₂ (λ (b : Bool) (n : ℕ). first-fault b (items (drop (at .before .loop .i + 1) (kinds at)) (drop n (floats at))))
+          (sym (opens-is (kind at) (rest at))) far,
     )
 
 returns-3 : tie.Need-returns-3 Inv-loop μ-loop

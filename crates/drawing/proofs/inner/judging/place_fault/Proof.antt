@@ -16,7 +16,9 @@ on-grid-requires-2 c κs = search needs
 both-on : (c : tie.After-on-grid2) → (c .before .on-grid .result && c .on-grid2 .result) ≡ all-on (c .before .before .args .p)
 both-on c = ap₂ (λ (a b : Bool). a && b) (c .before .on-grid .ensures) (c .on-grid2 .ensures)
 
-both-finite : (c : tie.After-finite2) → (c .before .finite .result && c .finite2 .result) ≡ all-finite (c .before .before .before .before .before .args .p)
+both-finite : (c : tie.After-finite2) →
+    let off = c .before .before in
+    (c .before .finite .result && c .finite2 .result) ≡ all-finite (off .before .before .before .args .p)
 both-finite c = ap₂ (λ (a b : Bool). a && b) (c .before .finite .ensures) (c .finite2 .ensures)
 
 returns : tie.Need-returns
@@ -30,11 +32,14 @@ finite-requires-2 c κs = search needs
 
 returns-2 : tie.Need-returns-2
 returns-2 c =
-    let at = c .before .before .before in
-    place-off (at .before .before .before .args .p) (sym (both-on (at .before)) ∙ at .if1 .left) (sym (both-finite (c .before)) ∙ c .if2 .taken)
+    let off = c .before .before .before in
+    place-off (off .before .before .before .args .p) (sym (both-on (off .before)) ∙ off .if1 .left)
+    (sym (both-finite (c .before)) ∙ c .if2 .taken)
 
 returns-3 : tie.Need-returns-3
-returns-3 c = place-not-finite (c .before .before .before .before .before .before .args .p) (sym (both-finite (c .before)) ∙ c .if2 .left)
+returns-3 c =
+    let off = c .before .before .before in
+    place-not-finite (off .before .before .before .args .p) (sym (both-finite (c .before)) ∙ c .if2 .left)
 
 pub place-fault-spec : {M : Type 1} → statement M
 place-fault-spec =

@@ -60,7 +60,8 @@ loop-again c =
     let l = c .before .before .before in
     let ranges = l .before .args .ranges .now in
     let r = getD ranges (l .loop .i) [] in
-    omega (arith, at-most-one (ltb (getD r 0 0) (getD r 1 0)), filled-more ranges (l .loop .i) (c .before .before .loop-test .taken), c .before .before .loop-test .taken)
+    let more = c .before .before .loop-test .taken in
+    omega (arith, at-most-one (ltb (getD r 0 0) (getD r 1 0)), filled-more ranges (l .loop .i) more, more)
 
 returns : tie.Need-returns Inv-loop μ-loop
 returns c = omega (arith, filled-done (c .before .before .args .ranges .now) (c .before .loop .i) (omega arith))

@@ -33,7 +33,8 @@ loop-again : tie.Need-loop-again Inv-loop μ-loop
 loop-again c =
     let n = c .before .before .args .n in
     let k = ones-length n in
-    copied-more _ _ _ (c .before .loop .inv) 0 1 (omega (arith, c .before .before .pre)) (omega (arith, c .loop-test .taken)) (sym (getD-replicate n (c .before .loop .i) 1 0 (c .loop-test .taken)))
+    copied-more _ _ _ (c .before .loop .inv) 0 1 (omega (arith, c .before .before .pre)) (omega (arith, c .loop-test .taken))
+    (sym (getD-replicate n (c .before .loop .i) 1 0 (c .loop-test .taken)))
 
 same-length : tie.Need-same-length Inv-loop μ-loop
 same-length c = c .before .loop .inv .long

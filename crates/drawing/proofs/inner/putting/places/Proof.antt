@@ -31,20 +31,25 @@ some-places-requires c κs =
     (omega (arith, c .before .loop-test .taken), omega (arith, c .before .loop-test .taken, s .pre .1, c .before .before .loop .inv .1))
 
 add-k : tie.Need-add-k Inv-loop μ-loop
-add-k c = omega (arith, c .before .before .before .before .loop-test .taken, c .before .before .before .before .before .before .before .good)
+add-k c =
+    let more = c .before .before .before .before in
+    omega (arith, more .loop-test .taken, more .before .before .before .good)
 
 loop-less : tie.Need-loop-less Inv-loop μ-loop
 loop-less c = omega (arith, c .before .before .before .before .loop-test .taken)
 
 loop-again : tie.Need-loop-again Inv-loop μ-loop
 loop-again c =
-    let l = c .before .before .before .before in
-    let s = l .before .before .before .args in
-    let k = l .before .loop .k in (
-      omega (arith, l .loop-test .taken),
-      c .before .before .some-places .kept .1 .1 .1 .0 ∙ l .before .loop .inv .1,
-      c .before .before .some-places .ensures
-          ∙ floats-more (s .points .now) (s .floats .now) (l .before .loop .floats) (2 * (16 * k)) (2 * 16) (2 * (16 * (k + 1))) (omega (arith, l .loop-test .taken)) (omega arith) (l .before .loop .inv .2),
+    let put = c .before .before in
+    let more = put .before .before in
+    let pass = more .before in
+    let s = pass .before .before .args in
+    let k = pass .loop .k in (
+      omega (arith, more .loop-test .taken),
+      put .some-places .kept .1 .1 .1 .0 ∙ pass .loop .inv .1,
+      put .some-places .ensures
+          ∙ floats-more (s .points .now) (s .floats .now) (pass .loop .floats) (2 * (16 * k)) (2 * 16) (2 * (16 * (k + 1)))
+          (omega (arith, more .loop-test .taken)) (omega arith) (pass .loop .inv .2),
     )
 
 mul-some-places-2 : tie.Need-mul-some-places-2 Inv-loop μ-loop
@@ -56,19 +61,25 @@ some-places-requires-2 c κs =
     (omega arith, omega (arith, s .pre .1, c .before .before .loop .inv .1))
 
 same-length : tie.Need-same-length Inv-loop μ-loop
-same-length c = c .before .before .some-places2 .kept .1 .1 .1 .0 ∙ c .before .before .before .before .before .loop .inv .1
+same-length c =
+    let put = c .before .before in
+    put .some-places2 .kept .1 .1 .1 .0 ∙ put .before .before .before .loop .inv .1
 
 returns : tie.Need-returns Inv-loop μ-loop
 returns c =
-    let l = c .before .before .before .before in
-    let s = l .before .before .before .args in
-    let points = s .points .now in
+    let put = c .before .before in
+    let over = put .before .before in
+    let pass = over .before in
+    let s = pass .before .before in
+    let points = s .args .points .now in
+    let floats = s .args .floats .now in
     let n = length points / 2 in
-    let k : l .before .loop .k ≡ n / 16 = omega (arith, l .before .loop .inv .0, l .loop-test .left) in
-    c .before .before .some-places2 .ensures
-    ∙ floats-more points (s .floats .now) (l .before .loop .floats) (2 * (16 * (n / 16))) (2 * (n % 16)) (length points) (omega arith) (omega (arith, l .before .before .before .pre .0))
-    (l .before .loop .inv .2 ∙ ap (λ (j : ℕ). front (map millimetres (take (2 * (16 * j)) points)) (s .floats .now)) k)
-    ∙ ap (λ (l : List ℤ). front (map millimetres l) (s .floats .now)) (take-length points)
+    let k : pass .loop .k ≡ n / 16 = omega (arith, pass .loop .inv .0, over .loop-test .left) in
+    put .some-places2 .ensures
+    ∙ floats-more points floats (pass .loop .floats) (2 * (16 * (n / 16))) (2 * (n % 16)) (length points)
+    (omega arith) (omega (arith, s .pre .0))
+    (pass .loop .inv .2 ∙ ap (λ (j : ℕ). front (map millimetres (take (2 * (16 * j)) points)) floats) k)
+    ∙ ap (λ (l : List ℤ). front (map millimetres l) floats) (take-length points)
 
 pub places-spec : {M : Type 1} → statement M
 places-spec =

@@ -16,7 +16,8 @@ use Rattle.drawing.proofs.inner.putting.some_places.Statement.{statemen
 use Rattle.drawing.proofs.inner.putting.some_places.Tie as tie
 
 abbrev Inv-loop : tie.InvT-loop
-Inv-loop points from n floats₀ i₀ floats i = (i ≤ n) × Copied floats₀ (2 * from) (map millimetres (take (2 * n) (drop (2 * from) points))) floats (2 * i)
+Inv-loop points from n floats₀ i₀ floats i =
+    (i ≤ n) × Copied floats₀ (2 * from) (map millimetres (take (2 * n) (drop (2 * from) points))) floats (2 * i)
 
 abbrev μ-loop : tie.MeasureT-loop
 μ-loop points from n floats₀ i₀ floats i = n - i
@@ -86,7 +87,8 @@ loop-again c =
     let first = some-at points (s .from) (s .n) h (2 * i) (2 * number l) nan (omega (arith, l .loop-test .taken)) (omega arith) in
     let second = some-at points (s .from) (s .n) h (2 * i + 1) (2 * number l + 1) nan (omega (arith, l .loop-test .taken)) (omega arith) in (
       omega (arith, l .loop-test .taken),
-      copied-two (l .before .loop .inv .1) (omega (arith, l .before .before .before .pre .1)) (omega (arith, l .loop-test .taken)) nan _ _ (2 * number l) _ (omega arith) (omega arith)
+      copied-two (l .before .loop .inv .1) (omega (arith, l .before .before .before .pre .1)) (omega (arith, l .loop-test .taken))
+          nan _ _ (2 * number l) _ (omega arith) (omega arith)
           (ap (λ (p : Place). p .x) is ∙ sym first) (ap (λ (p : Place). p .y) is ∙ sym second),
     )
 
