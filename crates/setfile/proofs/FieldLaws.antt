@@ -21,8 +21,8 @@ first-byte-raised : (a rest : ℕ) → a % 256 < 64 → rest < 16777216 → (a *
 first-byte-raised a rest low h =
     let e : (a * 16777216 + rest) % 2 ^ 32 ≡ (a * 16777216 + rest) / 16777216 % 256 * 16777216 + (a * 16777216 + rest) % 16777216 = mod-mul (a * 16777216 + rest) {m = 256} {c = 16777216} (lit< tt) (lit< tt) in
     let high : (a * 16777216 + rest) / 16777216 ≡ a = digits-div a h in
-    let left : (a * 16777216 + rest) % 16777216 ≡ rest = digits-mod a h in
-    let whole : (a * 16777216 + rest) % 2 ^ 32 ≡ a % 256 * 16777216 + rest = e ∙ ap₂ (λ (x y : ℕ). x % 256 * 16777216 + y) high left in
+    let lower : (a * 16777216 + rest) % 16777216 ≡ rest = digits-mod a h in
+    let whole : (a * 16777216 + rest) % 2 ^ 32 ≡ a % 256 * 16777216 + rest = e ∙ ap₂ (λ (x y : ℕ). x % 256 * 16777216 + y) high lower in
     omega (arith, whole)
 
 -- every one of the first four is a byte

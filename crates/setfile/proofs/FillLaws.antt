@@ -22,27 +22,27 @@ use Rattle.setfile.proofs.AheadLaws.{Ahead, ahead-all, ahead-more, ahea
 pub ahead-front : {A : Type 0} (row₀ l : List A) → length l ≤ length row₀ → Ahead row₀ (front l row₀) 0 l row₀
 ahead-front {A} row₀ l h = subst (λ (w : List A). Ahead row₀ w 0 l row₀) (placed-front row₀ l) (ahead-all row₀ l 0 (omega arith))
 
--- a row that is filled: what is left of the file makes what is still to be written
+-- a row that is filled: the rest of the file makes what is still to be written
 pub record Filling {A : Type 0} (f : List ℕ) (n : ℕ) (row₀ wanted : List A) (made : List Entry → List A) (i at to : ℕ) (row : List A) : Type 0 where
-  pub left : List Entry
-  pub rest : Rest f n i at left
-  pub ahead : Ahead row₀ wanted to (made left) row
+  pub rest : List Entry
+  pub due : Rest f n i at rest
+  pub ahead : Ahead row₀ wanted to (made rest) row
 
 module _ {A : Type 0} (made : List Entry → List A) where
   pub filling-all : (f : List ℕ) (n : ℕ) (row₀ : List A) → Readable f n → length (made (contained f)) ≤ length row₀ → Filling f n row₀ (front (made (contained f)) row₀) made 0 2 0 row₀
-  filling-all f n row₀ r h = record { left = contained f; rest = rest-all r; ahead = ahead-front row₀ (made (contained f)) h }
+  filling-all f n row₀ r h = record { rest = contained f; due = rest-all r; ahead = ahead-front row₀ (made (contained f)) h }
 
   pub filling-done : {f : List ℕ} {n i at to : ℕ} {row₀ wanted row : List A} → Filling f n row₀ wanted made i at to row → i ≡ n → made [] ≡ [] → row ≡ wanted
   filling-done {f} {n} {i} {at} {to} {row₀} {wanted} {row} x e m =
-      ahead-none (subst (λ (l : List A). Ahead row₀ wanted to l row) (ap made (done (x .rest) e) ∙ m) (x .ahead))
+      ahead-none (subst (λ (l : List A). Ahead row₀ wanted to l row) (ap made (done (x .due) e) ∙ m) (x .ahead))
 
 -- one contour more
 module _ {A : Type 0} {f : List ℕ} {n i at to : ℕ} {row₀ wanted : List A} {made : List Entry → List A} {row : List A} (x : Filling f n row₀ wanted made i at to row) (l : i < n) where
-  pub coming : Next f n i at (x .left)
-  coming = next (x .rest) l
+  pub coming : Next f n i at (x .rest)
+  coming = next (x .due) l
 
   pub contour-in : at + (2 + 8 * held (drop at f)) ≤ length f
-  contour-in = coming .left .within
+  contour-in = coming .due .within
 
   -- what is to be written starts with it
   pub to-come : Ahead row₀ wanted to (made (front-entry (drop at f) ∷ coming .rest)) row
@@ -51,8 +51,8 @@ module _ {A : Type 0} {f : List ℕ} {n i at to : ℕ} {row₀ wanted : List A} 
   pub filled : (later : List Entry → List A) (k : ℕ) (new : List A) → Ahead row₀ wanted k (later (coming .rest)) new → (h : ℕ) → h ≡ held (drop at f)
       → Filling f n row₀ wanted later (i + 1) (at + (2 + 8 * h)) k new
   filled later k new a h e = record {
-    left = coming .rest;
-    rest = subst (λ (h : ℕ). Rest f n (i + 1) (at + (2 + 8 * h)) (coming .rest)) (sym e) (coming .left);
+    rest = coming .rest;
+    due = subst (λ (h : ℕ). Rest f n (i + 1) (at + (2 + 8 * h)) (coming .rest)) (sym e) (coming .due);
     ahead = a;
   }
 
@@ -64,25 +64,25 @@ module _ {f : List ℕ} {n i at to : ℕ} {row₀ wanted row : List ℤ} (x : Fi
   abbrev next-points : List ℤ
   next-points = decoded (2 * held (drop at f)) (drop 2 (drop at f))
 
-  points-left : List Entry
-  points-left = coming x l .rest
+  points-rest : List Entry
+  points-rest = coming x l .rest
 
-  points-to-come : Ahead row₀ wanted to (next-points ++ points-made points-left) row
-  unfolding joined points-left
+  points-to-come : Ahead row₀ wanted to (next-points ++ points-made points-rest) row
+  unfolding joined points-rest
   points-to-come = to-come x l
 
   pub points-room : to + 2 * held (drop at f) ≤ length row
   points-room =
-      omega (arith, points-to-come .room, length-append next-points (points-made points-left), decoded-length (2 * held (drop at f)) (drop 2 (drop at f)))
+      omega (arith, points-to-come .room, length-append next-points (points-made points-rest), decoded-length (2 * held (drop at f)) (drop 2 (drop at f)))
 
   pub points-more : (h : ℕ) → h ≡ held (drop at f) → (new : List ℤ) → new ≡ placed to (decoded (2 * h) (drop (at + 2) f)) row
       → Filling f n row₀ wanted points-made (i + 1) (at + (2 + 8 * h)) (to + 2 * h) new
-  unfolding points-left
+  unfolding points-rest
   points-more h e new q =
       let a : to + 2 * h ≡ to + length next-points = omega (arith, decoded-length (2 * held (drop at f)) (drop 2 (drop at f))) in
       let b : new ≡ placed to next-points row = q ∙ ap₂ (λ (k : ℕ) (g : List ℕ). placed to (decoded (2 * k) g) row) e (sym (drop-drop 2 at f)) in
       filled x l points-made (to + 2 * h) new
-      (subst (Ahead row₀ wanted (to + 2 * h) (points-made points-left)) (sym b) (ahead-more next-points (points-made points-left) (to + 2 * h) a points-to-come)) h e
+      (subst (Ahead row₀ wanted (to + 2 * h) (points-made points-rest)) (sym b) (ahead-more next-points (points-made points-rest) (to + 2 * h) a points-to-come)) h e
 
 -- the contour ranges, the first of which starts at this point
 abbrev pub contours-made : ℕ → List Entry → List (List ℕ)
@@ -95,20 +95,20 @@ pub contours-made-length : (p : ℕ) (l : List Entry) → length (contours-made 
 contours-made-length p l = length-map (laid p (map count (contours-of l))) row ∙ contours-laid p l
 
 module _ {f : List ℕ} {n i at : ℕ} (start : ℕ) {row₀ wanted now : List (List ℕ)} (x : Filling f n row₀ wanted (contours-made start) i at i now) (l : i < n) where
-  contours-left : List Entry
-  contours-left = coming x l .rest
+  contours-rest : List Entry
+  contours-rest = coming x l .rest
 
-  contours-to-come : (h : ℕ) → h ≡ held (drop at f) → Ahead row₀ wanted i ((start ∷ (start + h) ∷ []) ∷ contours-made (start + h) contours-left) now
-  unfolding laid contours-left
+  contours-to-come : (h : ℕ) → h ≡ held (drop at f) → Ahead row₀ wanted i ((start ∷ (start + h) ∷ []) ∷ contours-made (start + h) contours-rest) now
+  unfolding laid contours-rest
   contours-to-come h e =
       let c : count (decoded (2 * held (drop at f)) (drop 2 (drop at f))) ≡ h = omega (arith, decoded-length (2 * held (drop at f)) (drop 2 (drop at f))) in
-      subst (λ (k : ℕ). Ahead row₀ wanted i ((start ∷ (start + k) ∷ []) ∷ contours-made (start + k) contours-left) now) c (to-come x l)
+      subst (λ (k : ℕ). Ahead row₀ wanted i ((start ∷ (start + k) ∷ []) ∷ contours-made (start + k) contours-rest) now) c (to-come x l)
 
   pub contours-room : i < length now
   contours-room = omega (arith, contours-to-come (held (drop at f)) refl .room)
 
   pub contours-more : (h : ℕ) → h ≡ held (drop at f) → Filling f n row₀ wanted (contours-made (start + h)) (i + 1) (at + (2 + 8 * h)) (i + 1) (set now i (start ∷ (start + h) ∷ []))
-  unfolding contours-left
+  unfolding contours-rest
   contours-more h e =
       filled x l (contours-made (start + h)) (i + 1) _
-      (ahead-one (start ∷ (start + h) ∷ []) _ (contours-made (start + h) contours-left) (i + 1) refl refl (contours-to-come h e)) h e
+      (ahead-one (start ∷ (start + h) ∷ []) _ (contours-made (start + h) contours-rest) (i + 1) refl refl (contours-to-come h e)) h e

@@ -53,41 +53,51 @@ module _ (p : List ℤ) (cs ss : List (List ℕ)) (h : Carriable p cs ss) where
   all-grouped i l = range-within ss (length cs) i (h .shapes) l .ends
 
 module _ (p : List ℤ) (cs ss : List (List ℕ)) (row : List ℕ) where
-  outcome-is : (k : ℕ) → k ≡ first-of (refusals p cs ss ++ room (leb (file-length (length cs) (count p)) (length row))) → written k (file-of p cs ss) row ≡ outcome p cs ss row
+  outcome-is : (k : ℕ) → k ≡ first-of (refusals p cs ss ++ room (leb (file-length (length cs) (count p)) (length row)))
+      → written k (file-of p cs ss) row ≡ outcome p cs ss row
   unfolding outcome
   outcome-is k e = ap (λ (n : ℕ). written n (file-of p cs ss) row) e
 
-  module _ (m r : ℕ) (g : m ≡ file-length (length cs) (count p)) (e : r ≡ first-of (refusals p cs ss)) where
-    pub write-refused : (r ≡ 0 → ⊥) → leaving r 0 row ≡ outcome p cs ss row
-    write-refused n = go r n ∙ outcome-is r (first-is _ _ (stopped (refusals p cs ss) (room (leb (file-length (length cs) (count p)) (length row))) r e n))
-      where
-        go : (r : ℕ) → (r ≡ 0 → ⊥) → leaving r 0 row ≡ written r (file-of p cs ss) row
-        go zero n = absurd (n refl)
-        go (suc r) n = refl
+  pub write-refused : (r : ℕ) → r ≡ first-of (refusals p cs ss) → (r ≡ 0 → ⊥) → leaving r 0 row ≡ outcome p cs ss row
+  write-refused r e n =
+      go r n ∙ outcome-is r (first-is _ _ (stopped (refusals p cs ss) (room (leb (file-length (length cs) (count p)) (length row))) r e n))
+    where
+      go : (r : ℕ) → (r ≡ 0 → ⊥) → leaving r 0 row ≡ written r (file-of p cs ss) row
+      go zero n = absurd (n refl)
+      go (suc r) n = refl
 
-    module _ (z : r ≡ 0) where
-      beyond : (k : ℕ) → First (room (leb (file-length (length cs) (count p)) (length row))) k → written k (file-of p cs ss) row ≡ outcome p cs ss row
-      beyond k f = outcome-is k (first-is _ _ (onward (refusals p cs ss) (room (leb (file-length (length cs) (count p)) (length row))) k tt (sym e ∙ z) f))
+  module _ (free : first-of (refusals p cs ss) ≡ 0) where
+    beyond : (k : ℕ) → First (room (leb (file-length (length cs) (count p)) (length row))) k → written k (file-of p cs ss) row ≡ outcome p cs ss row
+    beyond k f =
+        outcome-is k (first-is _ _ (onward (refusals p cs ss) (room (leb (file-length (length cs) (count p)) (length row))) k tt free f))
 
-      pub write-full : length row < m → leaving 5 0 row ≡ outcome p cs ss row
-      write-full h = beyond 5 (here (ap not (lt-leb (file-length (length cs) (count p)) (length row) (omega (arith, g)))))
+    pub write-full : (m : ℕ) → m ≡ file-length (length cs) (count p) → length row < m → leaving 5 0 row ≡ outcome p cs ss row
+    write-full m g h = beyond 5 (here (ap not (lt-leb (file-length (length cs) (count p)) (length row) (omega (arith, g)))))
 
-      pub accepted-set : Carriable p cs ss
-      accepted-set = carriable p cs ss (sym e ∙ z)
+-- a set of which nothing is refused, and a row that has room for the m bytes of its file
+pub record Writable (p : List ℤ) (cs ss : List (List ℕ)) (row : List ℕ) (m : ℕ) : Type 0 where
+  pub free : first-of (refusals p cs ss) ≡ 0
+  pub long : m ≡ file-length (length cs) (count p)
+  pub fits : m ≤ length row
 
-      module _ (h : m ≤ length row) where
-        all-room : Room 0 (two (4096 + length cs) ++ coded-shapes p cs ss) row
-        all-room = omega (arith, h, g, sym (ap length (file-is p cs ss accepted-set)) ∙ file-long p cs ss accepted-set)
+module _ {p : List ℤ} {cs ss : List (List ℕ)} {row : List ℕ} {m : ℕ} (set : Writable p cs ss row m) where
+  pub accepted-set : Carriable p cs ss
+  accepted-set = carriable p cs ss (set .free)
 
-        pub shapes-room : {b : ℕ} {mid : List ℕ} → Put 0 (two (4096 + length cs)) row b mid → Room b (coded-shapes p cs ss) mid
-        shapes-room {b} {mid} u =
-            let l : length mid ≡ length row = ap length (u .is) ∙ placed-long row 0 (two (4096 + length cs)) (omega (arith, h, g)) in
-            omega (arith, all-room, u .behind)
+  all-room : Room 0 (two (4096 + length cs) ++ coded-shapes p cs ss) row
+  all-room = omega (arith, set .fits, set .long, sym (ap length (file-is p cs ss accepted-set)) ∙ file-long p cs ss accepted-set)
 
-        pub write-done : {b c : ℕ} {mid exit : List ℕ} → Put 0 (two (4096 + length cs)) row b mid → Put b (coded-shapes p cs ss) mid c exit
-            → leaving 0 m exit ≡ outcome p cs ss row
-        write-done {b} {c} {mid} {exit} u v =
-            let w = both-put all-room u v in
-            let f : exit ≡ front (file-of p cs ss) row = w .is ∙ placed-front row (two (4096 + length cs) ++ coded-shapes p cs ss) ∙ ap (λ (l : List ℕ). front l row) (sym (file-is p cs ss accepted-set)) in
-            ap₂ (λ (n : ℕ) (l : List ℕ). leaving 0 n l) (g ∙ sym (file-long p cs ss accepted-set)) f
-            ∙ beyond 0 (past (ap not (le-leb (file-length (length cs) (count p)) (length row) (omega (arith, g)))) foot)
+  pub shapes-room : {b : ℕ} {mid : List ℕ} → Put 0 (two (4096 + length cs)) row b mid → Room b (coded-shapes p cs ss) mid
+  shapes-room {b} {mid} u =
+      let l : length mid ≡ length row = ap length (u .is) ∙ placed-long row 0 (two (4096 + length cs)) (omega (arith, set .fits, set .long)) in
+      omega (arith, all-room, u .behind)
+
+  pub write-done : {b c : ℕ} {mid exit : List ℕ} → Put 0 (two (4096 + length cs)) row b mid → Put b (coded-shapes p cs ss) mid c exit
+      → leaving 0 m exit ≡ outcome p cs ss row
+  write-done {b} {c} {mid} {exit} u v =
+      let w = both-put all-room u v in
+      let f : exit ≡ front (file-of p cs ss) row =
+      w .is ∙ placed-front row (two (4096 + length cs) ++ coded-shapes p cs ss) ∙ ap (λ (l : List ℕ). front l row) (sym (file-is p cs ss accepted-set)) in
+      ap₂ (λ (n : ℕ) (l : List ℕ). leaving 0 n l) (set .long ∙ sym (file-long p cs ss accepted-set)) f
+      ∙ beyond p cs ss row (set .free)
+      0 (past (ap not (le-leb (file-length (length cs) (count p)) (length row) (omega (arith, set .fits, set .long)))) foot)

@@ -58,7 +58,14 @@ pub record Accepted (f : List ℕ) (out : List ℤ) (cs ss : List (List ℕ)) (j
   pub contours-in : length (contained f) ≤ length cs
   pub shapes-in : length (shapes-of (contained f)) ≤ length ss
 
-module _ (f : List ℕ) (out : List ℤ) (cs ss : List (List ℕ)) (j : Judged) (judgement : Judgement f j) where
+-- a file that is judged, and r what is refused of it and of the room
+pub record Reading (f : List ℕ) (out : List ℤ) (cs ss : List (List ℕ)) (j : Judged) (r : ℕ) : Type 0 where
+  pub bytes : Bytes f
+  pub judgement : Judgement f j
+  pub with-room :
+      r ≡ first-of (so-far (j .reply) ++ room (leb (j .numbers) (length out) && leb (j .contours) (length cs) && leb (j .shapes) (length ss)))
+
+module _ {f : List ℕ} {out : List ℤ} {cs ss : List (List ℕ)} {j : Judged} {r : ℕ} (file : Reading f out cs ss j r) where
   points : List ℤ
   points = joined (contours-of (contained f))
 
@@ -82,52 +89,51 @@ module _ (f : List ℕ) (out : List ℤ) (cs ss : List (List ℕ)) (j : Judged) 
   fits-is : j .reply ≡ 0 → fits ≡ enough points contour-ranges shape-ranges out cs ss
   unfolding points
   fits-is z =
-      let c = judgement .counts z in
+      let c = file .judgement .counts z in
       same-fits (length out) (length cs) (length ss) (c .numbers) (c .contours ∙ sym contours-count) (c .shapes ∙ sym shapes-count)
 
-  module _ (bytes : Bytes f) (r : ℕ) (e : r ≡ first-of (so-far (j .reply) ++ room fits)) where
-    -- as the file is read by its bytes
-    by-bytes : stored (refusals f) points contour-ranges shape-ranges out cs ss ≡ outcome f out cs ss
+  -- as the file is read by its bytes
+  by-bytes : stored (refusals f) points contour-ranges shape-ranges out cs ss ≡ outcome f out cs ss
+  unfolding points contour-ranges shape-ranges
+  by-bytes =
+      ap
+      (λ (w : Parsed). put (refusals-of (length f) w) (read-contours w) out cs ss)
+      (sym (parsed-by-bytes f (file .bytes)))
+
+  reply-is : r ≡ first-of (refusals f ++ room (enough points contour-ranges shape-ranges out cs ss))
+  reply-is =
+      let b : Bool = enough points contour-ranges shape-ranges out cs ss in
+      file .with-room ∙ same-room (j .reply) fits b fits-is
+      ∙ ap (λ (k : ℕ). first-of (so-far k ++ room b)) (file .judgement .reply)
+      ∙ roomed _ _ b (damage (walked f))
+
+  pub read-refused : (w : Packed) → w ≡ packed r 0 0 0 → (r ≡ 0 → ⊥) → leaving w out cs ss ≡ outcome f out cs ss
+  read-refused w g n = stored-refused points contour-ranges shape-ranges out cs ss (refusals f) _ refl r reply-is w g n ∙ by-bytes
+
+  module _ (z : r ≡ 0) where
+    clear : (j .reply ≡ 0) × (fits ≡ true)
+    clear = clear-of (j .reply) fits (sym (file .with-room) ∙ z)
+
+    counts : Counts f j
+    counts = file .judgement .counts (clear .0)
+
+    pub accepted : Accepted f out cs ss j
+    accepted =
+        let a : Bool = leb (j .numbers) (length out) in
+        let b : Bool = leb (j .contours) (length cs) in
+        let c : Bool = leb (j .shapes) (length ss) in
+        let ab = and-left (a && b) c (clear .1) in
+        record {
+          readable = counts .readable;
+          points-in = omega (arith, counts .numbers, leb-true (j .numbers) (length out) (and-left a b ab));
+          contours-in = omega (arith, counts .contours, leb-true (j .contours) (length cs) (and-right a b ab));
+          shapes-in = omega (arith, counts .shapes, leb-true (j .shapes) (length ss) (and-right (a && b) c (clear .1)));
+        }
+
+    pub read-done : (p : List ℤ) (c s : List (List ℕ)) → p ≡ front (joined (contours-of (contained f))) out → c ≡ front (rows (contour-spans (contours-of (contained f)))) cs
+        → s ≡ front (rows (shape-spans (shapes-of (contained f)))) ss
+        → leaving (packed 0 (j .numbers / 2) (j .contours) (j .shapes)) p c s ≡ outcome f out cs ss
     unfolding points contour-ranges shape-ranges
-    by-bytes =
-        ap
-        (λ (w : Parsed). put (refusals-of (length f) w) (read-contours w) out cs ss)
-        (sym (parsed-by-bytes f bytes))
-
-    reply-is : r ≡ first-of (refusals f ++ room (enough points contour-ranges shape-ranges out cs ss))
-    reply-is =
-        let b : Bool = enough points contour-ranges shape-ranges out cs ss in
-        e ∙ same-room (j .reply) fits b fits-is
-        ∙ ap (λ (k : ℕ). first-of (so-far k ++ room b)) (judgement .reply)
-        ∙ roomed _ _ b (damage (walked f))
-
-    pub read-refused : (w : Packed) → w ≡ packed r 0 0 0 → (r ≡ 0 → ⊥) → leaving w out cs ss ≡ outcome f out cs ss
-    read-refused w g n = stored-refused points contour-ranges shape-ranges out cs ss (refusals f) _ refl r reply-is w g n ∙ by-bytes
-
-    module _ (z : r ≡ 0) where
-      clear : (j .reply ≡ 0) × (fits ≡ true)
-      clear = clear-of (j .reply) fits (sym e ∙ z)
-
-      counts : Counts f j
-      counts = judgement .counts (clear .0)
-
-      pub accepted : Accepted f out cs ss j
-      accepted =
-          let a : Bool = leb (j .numbers) (length out) in
-          let b : Bool = leb (j .contours) (length cs) in
-          let c : Bool = leb (j .shapes) (length ss) in
-          let ab = and-left (a && b) c (clear .1) in
-          record {
-            readable = counts .readable;
-            points-in = omega (arith, counts .numbers, leb-true (j .numbers) (length out) (and-left a b ab));
-            contours-in = omega (arith, counts .contours, leb-true (j .contours) (length cs) (and-right a b ab));
-            shapes-in = omega (arith, counts .shapes, leb-true (j .shapes) (length ss) (and-right (a && b) c (clear .1)));
-          }
-
-      pub read-done : (p : List ℤ) (c s : List (List ℕ)) → p ≡ front (joined (contours-of (contained f))) out → c ≡ front (rows (contour-spans (contours-of (contained f)))) cs
-          → s ≡ front (rows (shape-spans (shapes-of (contained f)))) ss
-          → leaving (packed 0 (j .numbers / 2) (j .contours) (j .shapes)) p c s ≡ outcome f out cs ss
-      unfolding points contour-ranges shape-ranges
-      read-done p c s a b d =
-          rw (counts .numbers, counts .contours ∙ sym contours-count, counts .shapes ∙ sym shapes-count)
-          (stored-done points contour-ranges shape-ranges out cs ss (refusals f) _ refl r reply-is p c s z a b d ∙ by-bytes)
+    read-done p c s a b d =
+        rw (counts .numbers, counts .contours ∙ sym contours-count, counts .shapes ∙ sym shapes-count)
+        (stored-done points contour-ranges shape-ranges out cs ss (refusals f) _ refl r reply-is p c s z a b d ∙ by-bytes)

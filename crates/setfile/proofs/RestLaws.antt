@@ -1,4 +1,4 @@
--- What is left of a file that can be read, contour by contour.
+-- The rest of a file that can be read, contour by contour.
 use mathlib.Core.Path.{_≡_, refl, sym, _∙_, ap}
 use mathlib.Core.Bool.{Bool, true, false, not, _&&_}
 use mathlib.Core.List.{List, [], _∷_}
@@ -14,16 +14,16 @@ use Rattle.setfile.specs.inside.Bytes.{starts, held, fault, walk, and-th
 use Rattle.setfile.specs.inside.Reading.{contained, Readable}
 use Rattle.setfile.proofs.ReadLaws.{walk-faulty, walk-more, walk-ends, contour-within}
 
--- from position at on, behind i of n contours, these are left
+-- from position at on, behind i of n contours, these are the rest
 pub record Rest (f : List ℕ) (n i at : ℕ) (l : List Entry) : Type 0 where
   pub within : at ≤ length f
   pub reads : walk (n - i) (eqb i 0) (drop at f) ≡ carries l
 
--- one contour, and what is left behind it
+-- one contour, and the rest behind it
 pub record Next (f : List ℕ) (n i at : ℕ) (l : List Entry) : Type 0 where
   pub rest : List Entry
   pub is : l ≡ front-entry (drop at f) ∷ rest
-  pub left : Rest f n (i + 1) (at + (2 + 8 * held (drop at f))) rest
+  pub due : Rest f n (i + 1) (at + (2 + 8 * held (drop at f))) rest
   pub begun : i ≡ 0 → starts (drop at f) ≡ true
 
 module _ {f : List ℕ} {n i at : ℕ} {l : List Entry} (r : Rest f n i at l) where
@@ -38,7 +38,7 @@ module _ {f : List ℕ} {n i at : ℕ} {l : List Entry} (r : Rest f n i at l) wh
       behind (carries m) e z g = record {
         rest = m;
         is = cc;
-        left = record { within = contour-within f n i at (eqb i 0) (r .within) z; reads = sym e };
+        due = record { within = contour-within f n i at (eqb i 0) (r .within) z; reads = sym e };
         begun = λ o. not-false (starts here) (ap (λ (b : Bool). b && not (starts here)) (sym (eq-eqb i 0 o)) ∙ clear _ tt z .1 .0);
       }
 
@@ -63,4 +63,4 @@ rest-all {f} {n} r =
     record { within = r .head; reads = ap (λ (k : ℕ). walk k true (drop 2 f)) e ∙ r .reads }
 
 pub first-in : {f : List ℕ} {n : ℕ} → Readable f n → 0 < n → 2 + (2 + 8 * held (drop 2 f)) ≤ length f
-first-in r h = next (rest-all r) h .left .within
+first-in r h = next (rest-all r) h .due .within

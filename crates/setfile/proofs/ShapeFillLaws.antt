@@ -89,7 +89,7 @@ module _ {f : List ℕ} {n i at : ℕ} (s : Open) {row₀ wanted now : List (Lis
 
   pub shapes-done : i ≡ n → set now (s .number) (s .from ∷ n ∷ []) ≡ wanted
   shapes-done e =
-      let a : From-here (shapes-made (s .from) i []) = subst (λ (l : List Entry). From-here (shapes-made (s .from) i l)) (done (x .rest) e) (x .ahead) in
+      let a : From-here (shapes-made (s .from) i []) = subst (λ (l : List Entry). From-here (shapes-made (s .from) i l)) (done (x .due) e) (x .ahead) in
       ahead-none (ahead-one (s .from ∷ n ∷ []) (s .from ∷ i ∷ []) [] (s .number + 1) (ap (λ (k : ℕ). s .from ∷ k ∷ []) (sym e)) refl (subst From-here (last-shape (s .from) i h) a))
 
 pub shapes-laid : (l : List Entry) → length (shape-spans (shapes-of l)) ≡ length (shapes-of l)
@@ -106,8 +106,8 @@ shapes-first f n row₀ r h room k q =
     let d : all ≡ shapes-made 0 1 (x .rest) = ap (λ (l : List Entry). rows (shape-spans (shapes-of l))) e ∙ first-shape c (x .rest) in
     let m : length all ≡ length (shapes-of (contained f)) = length-map (shape-spans (shapes-of (contained f))) row ∙ shapes-laid (contained f) in
     record {
-      left = x .rest;
-      rest = subst (λ (k : ℕ). Rest f n 1 (2 + (2 + 8 * k)) (x .rest)) (sym q) (x .left);
+      rest = x .rest;
+      due = subst (λ (k : ℕ). Rest f n 1 (2 + (2 + 8 * k)) (x .rest)) (sym q) (x .due);
       ahead = subst (λ (l : List (List ℕ)). Ahead row₀ (front all row₀) 0 l row₀) d (ahead-front row₀ all (omega arith));
     }
 

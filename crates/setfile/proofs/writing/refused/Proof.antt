@@ -14,32 +14,52 @@ file-length-requires c κs = search needs
 
 returns-2 : tie.Need-returns-2
 returns-2 c =
-    let s = c .before .before .before .args in
-    refused-long (s .points .now) (s .contours .now) (s .shapes .now) (c .before .before .if1 .left) _ (c .before .file-length .ensures) (c .if2 .taken)
+    let measured = c .before in
+    let even = measured .before in
+    let s = even .before .args in
+    refused-long (s .points .now) (s .contours .now) (s .shapes .now) (even .if1 .left) _ (measured .file-length .ensures) (c .if2 .taken)
 
 refused-requires : tie.Need-refused-requires
 refused-requires c κs = search needs
 
 returns-3 : tie.Need-returns-3
 returns-3 c =
-    let s = c .before .before .before .before .before .args in
-    refused-set (s .points .now) (s .contours .now) (s .shapes .now) (c .before .before .before .before .if1 .left) _ (c .before .before .before .file-length .ensures) (c .before .before .if2 .left)
-    _ (c .before .refused .ensures) (c .if3 .taken)
+    let judged = c .before in
+    let short = judged .before in
+    let measured = short .before in
+    let even = measured .before in
+    let s = even .before .args in
+    refused-set (s .points .now) (s .contours .now) (s .shapes .now)
+    (even .if1 .left) _ (measured .file-length .ensures) (short .if2 .left) _ (judged .refused .ensures) (c .if3 .taken)
 
 some-empty-requires : tie.Need-some-empty-requires
 some-empty-requires c κs = search needs
 
 returns-4 : tie.Need-returns-4
 returns-4 c =
-    let s = c .before .before .before .before .before .before .before .args in
-    refused-carry (s .points .now) (s .contours .now) (s .shapes .now) (c .before .before .before .before .before .before .if1 .left) _ (c .before .before .before .before .before .file-length .ensures) (c .before .before .before .before .if2 .left)
-    _ (c .before .before .before .refused .ensures) (c .before .before .if3 .left) _ (c .before .some-empty .ensures) (c .if4 .taken)
+    let asked = c .before in
+    let accepted = asked .before in
+    let judged = accepted .before in
+    let short = judged .before in
+    let measured = short .before in
+    let even = measured .before in
+    let s = even .before .args in
+    refused-carry (s .points .now) (s .contours .now) (s .shapes .now)
+    (even .if1 .left) _ (measured .file-length .ensures) (short .if2 .left) _ (judged .refused .ensures) (accepted .if3 .left)
+    _ (asked .some-empty .ensures) (c .if4 .taken)
 
 returns-5 : tie.Need-returns-5
 returns-5 c =
-    let s = c .before .before .before .before .before .before .before .args in
-    refused-none (s .points .now) (s .contours .now) (s .shapes .now) (c .before .before .before .before .before .before .if1 .left) _ (c .before .before .before .before .before .file-length .ensures) (c .before .before .before .before .if2 .left)
-    _ (c .before .before .before .refused .ensures) (c .before .before .if3 .left) _ (c .before .some-empty .ensures) (c .if4 .left)
+    let asked = c .before in
+    let accepted = asked .before in
+    let judged = accepted .before in
+    let short = judged .before in
+    let measured = short .before in
+    let even = measured .before in
+    let s = even .before .args in
+    refused-none (s .points .now) (s .contours .now) (s .shapes .now)
+    (even .if1 .left) _ (measured .file-length .ensures) (short .if2 .left) _ (judged .refused .ensures) (accepted .if3 .left)
+    _ (asked .some-empty .ensures) (c .if4 .left)
 
 pub refused-spec : {M : Type 1} → statement M
 refused-spec =

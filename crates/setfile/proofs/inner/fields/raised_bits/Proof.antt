@@ -68,7 +68,8 @@ loop-again c =
     let i = l .loop .i in
     let any = l .loop .any in
     let more = c .wrapping-add-u32 .result in
-    let is : more ≡ (word (drop (s .at + 4 * i) f) + 32) % 2 ^ 32 = c .wrapping-add-u32 .ensures ∙ ap (λ (n : ℕ). (n + 32) % 2 ^ 32) (c .before .word .ensures) in
+    let is : more ≡ (word (drop (s .at + 4 * i) f) + 32) % 2 ^ 32 =
+    c .wrapping-add-u32 .ensures ∙ ap (λ (n : ℕ). (n + 32) % 2 ^ 32) (c .before .word .ensures) in
     let bytes = bytes-at f (s .at + 4 * i) (λ (j : ℕ). known .shared-slice-known .given j .fits) in (
       omega arith,
       λ h.
@@ -83,7 +84,8 @@ returns : tie.Need-returns Inv-loop μ-loop
 returns c =
     let l = c .before in
     let s = l .before .before .args in
-    λ h. l .loop .inv .1 h ∙ ap all-on-grid (decoded-none (s .k - l .loop .i) (drop (s .at + 4 * l .loop .i) (s .bytes .now)) (omega arith)) ∙ none-on
+    λ h.
+    l .loop .inv .1 h ∙ ap all-on-grid (decoded-none (s .k - l .loop .i) (drop (s .at + 4 * l .loop .i) (s .bytes .now)) (omega arith)) ∙ none-on
 
 pub raised-bits-spec : {M : Type 1} → statement M
 raised-bits-spec =

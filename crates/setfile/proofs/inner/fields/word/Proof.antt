@@ -61,7 +61,8 @@ mul-result-3 c = omega (arith, c .shared-slice-known4 .given (c .before .before 
 add-result-6 : tie.Need-add-result-6
 add-result-6 c =
     let at = c .before .before .before .before .args .at in
-    omega (arith, c .shared-slice-known4 .given at, c .shared-slice-known4 .given (at + 1), c .shared-slice-known4 .given (at + 2), c .shared-slice-known4 .given (at + 3))
+    let byte = c .shared-slice-known4 .given in
+    omega (arith, byte at, byte (at + 1), byte (at + 2), byte (at + 3))
 
 returns : tie.Need-returns
 returns c = let s = c .before .before .before .before .args in word-at (s .bytes .now) (s .at)

@@ -21,7 +21,8 @@ same-length c = search needs
 returns : tie.Need-returns
 returns c =
     let s = c .before .args in
-    (ap (λ (b : Bool). next-open b (s .shape) (s .i)) (sym (c .if1 .taken)), ap (λ (b : Bool). closed b (s .shape) (s .i) (s .groups .now)) (sym (c .if1 .taken)))
+    let begins = sym (c .if1 .taken) in
+    (ap (λ (b : Bool). next-open b (s .shape) (s .i)) begins, ap (λ (b : Bool). closed b (s .shape) (s .i) (s .groups .now)) begins)
 
 returns-2 : tie.Need-returns-2
 returns-2 c = search needs

@@ -17,17 +17,23 @@ use Rattle.setfile.proofs.inner.filling.begun_shapes.Tie as tie
 
 abbrev Inv-loop : tie.InvT-loop
 Inv-loop bytes n groups₀ at₀ shape₀ i₀ groups at shape i =
-    (i ≤ n) × (shape .from ≤ i) × Filling bytes n groups₀ (front (rows (shape-spans (shapes-of (contained bytes)))) groups₀) (shapes-made (shape .from) i) i at (shape .number) groups
+    (i ≤ n) × (shape .from ≤ i)
+    × Filling bytes n groups₀ (front (rows (shape-spans (shapes-of (contained bytes)))) groups₀)
+    (shapes-made (shape .from) i) i at (shape .number) groups
 
 abbrev μ-loop : tie.MeasureT-loop
 μ-loop bytes n groups₀ at₀ shape₀ i₀ groups at shape i = n - i
 
 -- the first contour ends within the file
-first : (c : tie.After-shared-slice-known Inv-loop μ-loop) → 2 + (2 + 8 * held (drop 2 (c .before .args .bytes .now))) ≤ length (c .before .args .bytes .now)
+first : (c : tie.After-shared-slice-known Inv-loop μ-loop) →
+    let f = c .before .args .bytes .now in
+    2 + (2 + 8 * held (drop 2 f)) ≤ length f
 first c = first-in (c .before .pre .0) (c .before .pre .1)
 
 -- and so does every other
-inside : (c : tie.In-loop Inv-loop μ-loop) → c .before .loop .at + (2 + 8 * held (drop (c .before .loop .at) (c .before .before .before .before .args .bytes .now))) ≤ length (c .before .before .before .before .args .bytes .now)
+inside : (c : tie.In-loop Inv-loop μ-loop) →
+    let f = c .before .before .before .before .args .bytes .now in
+    c .before .loop .at + (2 + 8 * held (drop (c .before .loop .at) f)) ≤ length f
 inside c = contour-in (c .before .loop .inv .2) (c .loop-test .taken)
 
 -- the range of the shape that is met has room
@@ -71,17 +77,22 @@ add-at-4 : tie.Need-add-at-4 Inv-loop μ-loop
 add-at-4 c = omega (arith, inside (c .before .before .before .before .before), c .held2 .ensures)
 
 add-i : tie.Need-add-i Inv-loop μ-loop
-add-i c = omega (arith, c .before .before .before .before .before .loop-test .taken, c .before .before .before .before .before .before .before .before .before .fits .n)
+add-i c =
+    let more = c .before .before .before .before .before in
+    omega (arith, more .loop-test .taken, more .before .before .before .before .fits .n)
 
 loop-less : tie.Need-loop-less Inv-loop μ-loop
 loop-less c = omega (arith, c .before .before .before .before .before .loop-test .taken)
 
 loop-again : tie.Need-loop-again Inv-loop μ-loop
 loop-again c =
-    let l = c .before .before .before .before .before .before .loop in
-    let e = c .before .before .begin .ensures in
-    let more = shapes-next _ (l .inv .2) (l .inv .1) (c .before .before .before .before .before .loop-test .taken) _ (c .before .before .before .before .starts .ensures) _ (c .held2 .ensures) _ _ (e .0) (e .1) in
-    (omega (arith, c .before .before .before .before .before .loop-test .taken), more .0, more .1)
+    let begun = c .before .before in
+    let met = begun .before .before in
+    let more = met .before in
+    let l = more .before .loop in
+    let e = begun .begin .ensures in
+    let next = shapes-next _ (l .inv .2) (l .inv .1) (more .loop-test .taken) _ (met .starts .ensures) _ (c .held2 .ensures) _ _ (e .0) (e .1) in
+    (omega (arith, more .loop-test .taken), next .0, next .1)
 
 mul-t9 : tie.Need-mul-t9 Inv-loop μ-loop
 mul-t9 c = omega (arith, roomy (c .before), c .before .loop .inv .2 .ahead .long)

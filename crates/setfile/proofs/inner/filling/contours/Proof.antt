@@ -1,4 +1,4 @@
--- `setfile::inner::filling::contours` meets its contract: what is left of the file makes what is still to be written.
+-- `setfile::inner::filling::contours` meets its contract: the rest of the file makes what is still to be written.
 use mathlib.Core.Path.{_≡_, refl}
 use Prim.Native.Nat.{_+_, _*_, _-_, _≤_, _<_}
 use native.Mathlib.Omega.{arith}
@@ -15,13 +15,16 @@ use Rattle.setfile.proofs.inner.filling.contours.Tie as tie
 
 abbrev Inv-loop : tie.InvT-loop
 Inv-loop bytes n records₀ at₀ start₀ i₀ records at start i =
-    (i ≤ n) × (start ≤ at) × Filling bytes n records₀ (front (rows (contour-spans (contours-of (contained bytes)))) records₀) (contours-made start) i at i records
+    (i ≤ n) × (start ≤ at)
+    × Filling bytes n records₀ (front (rows (contour-spans (contours-of (contained bytes)))) records₀) (contours-made start) i at i records
 
 abbrev μ-loop : tie.MeasureT-loop
 μ-loop bytes n records₀ at₀ start₀ i₀ records at start i = n - i
 
 -- the contour that is met ends within the file
-inside : (c : tie.In-loop Inv-loop μ-loop) → c .before .loop .at + (2 + 8 * held (drop (c .before .loop .at) (c .before .before .before .args .bytes .now))) ≤ length (c .before .before .before .args .bytes .now)
+inside : (c : tie.In-loop Inv-loop μ-loop) →
+    let f = c .before .before .before .args .bytes .now in
+    c .before .loop .at + (2 + 8 * held (drop (c .before .loop .at) f)) ≤ length f
 inside c = contour-in (c .before .loop .inv .2) (c .loop-test .taken)
 
 -- and its range has room
@@ -30,10 +33,11 @@ roomy c = contours-room _ (c .before .loop .inv .2) (c .loop-test .taken)
 
 loop-holds : tie.Need-loop-holds Inv-loop μ-loop
 loop-holds c =
-    let s = c .before .args in
-    let f = s .bytes .now in
-    let room : length (contours-made 0 (contained f)) ≤ length (s .records .now) = omega (arith, contours-made-length 0 (contained f), c .before .pre .1) in
-    (omega arith, omega arith, filling-all (contours-made 0) f (s .n) (s .records .now) (c .before .pre .0) room)
+    let s = c .before in
+    let f = s .args .bytes .now in
+    let room : length (contours-made 0 (contained f)) ≤ length (s .args .records .now) =
+    omega (arith, contours-made-length 0 (contained f), s .pre .1) in
+    (omega arith, omega arith, filling-all (contours-made 0) f (s .args .n) (s .args .records .now) (s .pre .0) room)
 
 held-requires : tie.Need-held-requires Inv-loop μ-loop
 held-requires c κs = omega (arith, inside c)

@@ -30,10 +30,12 @@ loop-holds c =
     let a : s .to ≡ s .to + 0 = omega arith in
     let b : s .k ≡ s .k - 0 = omega arith in
     let d : s .at ≡ s .at + 4 * 0 = omega arith in
-    let room : s .to + length (decoded (s .k) (drop (s .at) f)) ≤ length out = omega (arith, decoded-length (s .k) (drop (s .at) f), c .before .pre .1) in (
+    let room : s .to + length (decoded (s .k) (drop (s .at) f)) ≤ length out =
+    omega (arith, decoded-length (s .k) (drop (s .at) f), c .before .pre .1) in (
       omega arith,
       subst (λ (n : ℕ). Ahead out wanted n (decoded (s .k - 0) (drop (s .at + 4 * 0) f)) out) a
-          (subst (λ (l : List ℤ). Ahead out wanted (s .to) l out) (ap₂ (λ (m n : ℕ). decoded m (drop n f)) b d) (ahead-all out (decoded (s .k) (drop (s .at) f)) (s .to) room)),
+          (subst (λ (l : List ℤ). Ahead out wanted (s .to) l out) (ap₂ (λ (m n : ℕ). decoded m (drop n f)) b d)
+          (ahead-all out (decoded (s .k) (drop (s .at) f)) (s .to) room)),
     )
 
 mul-coordinate : tie.Need-mul-coordinate Inv-loop μ-loop
@@ -69,7 +71,8 @@ loop-again c =
     let b : s .to + (l .i + 1) ≡ s .to + l .i + 1 = omega arith in (
       omega arith,
       ahead-one _ _ _ _ (toZ-ofZ (sfits-of (c .coordinate .ok)) ∙ c .coordinate .ensures) b
-          (subst (λ (p : List ℤ). Ahead (s .out .now) wanted (s .to + l .i) p (l .out)) (decoded-more f (s .at) (s .k) (l .i) (c .before .loop-test .taken)) (l .inv .1)),
+          (subst (λ (p : List ℤ). Ahead (s .out .now) wanted (s .to + l .i) p (l .out))
+          (decoded-more f (s .at) (s .k) (l .i) (c .before .loop-test .taken)) (l .inv .1)),
     )
 
 same-length : tie.Need-same-length Inv-loop μ-loop
@@ -82,7 +85,8 @@ returns c =
     let f = s .bytes .now in
     let wanted : List ℤ = placed (s .to) (decoded (s .k) (drop (s .at) f)) (s .out .now) in
     ahead-none
-    (subst (λ (p : List ℤ). Ahead (s .out .now) wanted (s .to + l .i) p (l .out)) (decoded-none (s .k - l .i) (drop (s .at + 4 * l .i) f) (omega arith)) (l .inv .1))
+    (subst (λ (p : List ℤ). Ahead (s .out .now) wanted (s .to + l .i) p (l .out))
+    (decoded-none (s .k - l .i) (drop (s .at + 4 * l .i) f) (omega arith)) (l .inv .1))
 
 pub coordinates-spec : {M : Type 1} → statement M
 coordinates-spec =

@@ -1,4 +1,4 @@
--- `setfile::inner::filling::points` meets its contract: what is left of the file makes what is still to be written.
+-- `setfile::inner::filling::points` meets its contract: the rest of the file makes what is still to be written.
 use mathlib.Core.Path.{_≡_, refl}
 use Prim.Native.Nat.{_+_, _*_, _-_, _≤_}
 use native.Mathlib.Omega.{arith}
@@ -20,15 +20,21 @@ abbrev μ-loop : tie.MeasureT-loop
 μ-loop bytes n out₀ at₀ to₀ i₀ out at to i = n - i
 
 -- the contour that is met ends within the file
-inside : (c : tie.In-loop Inv-loop μ-loop) → c .before .loop .at + (2 + 8 * held (drop (c .before .loop .at) (c .before .before .before .args .bytes .now))) ≤ length (c .before .before .before .args .bytes .now)
+inside : (c : tie.In-loop Inv-loop μ-loop) →
+    let f = c .before .before .before .args .bytes .now in
+    c .before .loop .at + (2 + 8 * held (drop (c .before .loop .at) f)) ≤ length f
 inside c = contour-in (c .before .loop .inv .1) (c .loop-test .taken)
 
 -- and its points have room
-roomy : (c : tie.In-loop Inv-loop μ-loop) → c .before .loop .to + 2 * held (drop (c .before .loop .at) (c .before .before .before .args .bytes .now)) ≤ length (c .before .loop .out)
+roomy : (c : tie.In-loop Inv-loop μ-loop) →
+    let f = c .before .before .before .args .bytes .now in
+    c .before .loop .to + 2 * held (drop (c .before .loop .at) f) ≤ length (c .before .loop .out)
 roomy c = points-room (c .before .loop .inv .1) (c .loop-test .taken)
 
 loop-holds : tie.Need-loop-holds Inv-loop μ-loop
-loop-holds c = (omega arith, filling-all points-made (c .before .args .bytes .now) (c .before .args .n) (c .before .args .out .now) (c .before .pre .0) (c .before .pre .1))
+loop-holds c =
+    let s = c .before in
+    (omega arith, filling-all points-made (s .args .bytes .now) (s .args .n) (s .args .out .now) (s .pre .0) (s .pre .1))
 
 held-requires : tie.Need-held-requires Inv-loop μ-loop
 held-requires c κs = omega (arith, inside c)
@@ -40,7 +46,10 @@ mul-coordinates : tie.Need-mul-coordinates Inv-loop μ-loop
 mul-coordinates c = omega (arith, inside (c .before), c .held .ensures)
 
 coordinates-requires : tie.Need-coordinates-requires Inv-loop μ-loop
-coordinates-requires c κs = (omega (arith, inside (c .before .before), c .before .held .ensures), omega (arith, roomy (c .before .before), c .before .held .ensures))
+coordinates-requires c κs =
+    let counted = c .before in
+    let met = counted .before in
+    (omega (arith, inside met, counted .held .ensures), omega (arith, roomy met, counted .held .ensures))
 
 mul-at : tie.Need-mul-at Inv-loop μ-loop
 mul-at c = omega (arith, inside (c .before .before .before .before), c .before .before .before .held .ensures)
@@ -55,16 +64,27 @@ mul-to : tie.Need-mul-to Inv-loop μ-loop
 mul-to c = omega (arith, inside (c .before .before .before .before), c .before .before .before .held .ensures)
 
 add-to : tie.Need-add-to Inv-loop μ-loop
-add-to c = omega (arith, roomy (c .before .before .before .before), c .before .before .before .held .ensures, c .before .before .before .before .before .loop .inv .1 .ahead .long, c .before .before .before .before .before .before .before .good)
+add-to c =
+    let counted = c .before .before .before in
+    let met = counted .before in
+    let pass = met .before in
+    omega (arith, roomy met, counted .held .ensures, pass .loop .inv .1 .ahead .long, pass .before .before .good)
 
 add-i : tie.Need-add-i Inv-loop μ-loop
-add-i c = omega (arith, c .before .before .before .before .loop-test .taken, c .before .before .before .before .before .before .before .fits .n)
+add-i c =
+    let met = c .before .before .before .before in
+    omega (arith, met .loop-test .taken, met .before .before .before .fits .n)
 
 loop-less : tie.Need-loop-less Inv-loop μ-loop
 loop-less c = omega (arith, c .before .before .before .before .loop-test .taken)
 
 loop-again : tie.Need-loop-again Inv-loop μ-loop
-loop-again c = (omega (arith, c .before .before .before .before .loop-test .taken), points-more (c .before .before .before .before .before .loop .inv .1) (c .before .before .before .before .loop-test .taken) _ (c .before .before .before .held .ensures) _ (c .before .coordinates .ensures))
+loop-again c =
+    let counted = c .before .before .before in
+    let met = counted .before in (
+      omega (arith, met .loop-test .taken),
+      points-more (met .before .loop .inv .1) (met .loop-test .taken) _ (counted .held .ensures) _ (c .before .coordinates .ensures),
+    )
 
 same-length : tie.Need-same-length Inv-loop μ-loop
 same-length c = c .before .loop .inv .1 .ahead .long

@@ -15,11 +15,17 @@ pair-requires c κs = search needs
 
 returns-3 : tie.Need-returns-3
 returns-3 c =
-    head-edition (c .before .before .before .before .before .args .bytes .now) (c .before .before .before .if1 .left) (c .before .before .if2 .left) _ (c .before .pair .ensures) (c .if3 .taken)
+    let read = c .before in
+    let there = read .before in
+    let short = there .before in
+    head-edition (short .before .before .args .bytes .now) (short .if1 .left) (there .if2 .left) _ (read .pair .ensures) (c .if3 .taken)
 
 returns-4 : tie.Need-returns-4
 returns-4 c =
-    head-right (c .before .before .before .before .before .args .bytes .now) (c .before .before .before .if1 .left) (c .before .before .if2 .left) _ (c .before .pair .ensures) (c .if3 .left)
+    let read = c .before in
+    let there = read .before in
+    let short = there .before in
+    head-right (short .before .before .args .bytes .now) (short .if1 .left) (there .if2 .left) _ (read .pair .ensures) (c .if3 .left)
 
 pub refused-spec : {M : Type 1} → statement M
 refused-spec = tie.close (tie.spec returns returns-2 pair-requires returns-3 returns-4)

@@ -14,7 +14,11 @@ starts-requires : tie.Need-starts-requires
 starts-requires c κs = search needs
 
 returns-2 : tie.Need-returns-2
-returns-2 c = let s = c .before .before .before .before .args in no-shape (s .bytes .now) (s .at) (s .first) (c .before .before .if1 .left) _ (c .before .starts .ensures) (c .if2 .taken)
+returns-2 c =
+    let begun = c .before in
+    let headed = begun .before in
+    let s = headed .before .before .args in
+    no-shape (s .bytes .now) (s .at) (s .first) (headed .if1 .left) _ (begun .starts .ensures) (c .if2 .taken)
 
 held-requires : tie.Need-held-requires
 held-requires c κs = search needs
@@ -26,10 +30,24 @@ add-if3 : tie.Need-add-if3
 add-if3 c = search needs
 
 returns-3 : tie.Need-returns-3
-returns-3 c = let s = c .before .before .before .before .before .before .args in no-points (s .bytes .now) (s .at) (s .first) (c .before .before .before .before .if1 .left) _ (c .before .before .before .starts .ensures) (c .before .before .if2 .left) _ (c .before .held .ensures) (c .if3 .taken)
+returns-3 c =
+    let counted = c .before in
+    let shaped = counted .before in
+    let begun = shaped .before in
+    let headed = begun .before in
+    let s = headed .before .before .args in
+    no-points (s .bytes .now) (s .at) (s .first) (headed .if1 .left) _ (begun .starts .ensures) (shaped .if2 .left)
+    _ (counted .held .ensures) (c .if3 .taken)
 
 returns-4 : tie.Need-returns-4
-returns-4 c = let s = c .before .before .before .before .before .before .args in no-fault (s .bytes .now) (s .at) (s .first) (c .before .before .before .before .if1 .left) _ (c .before .before .before .starts .ensures) (c .before .before .if2 .left) _ (c .before .held .ensures) (c .if3 .left)
+returns-4 c =
+    let counted = c .before in
+    let shaped = counted .before in
+    let begun = shaped .before in
+    let headed = begun .before in
+    let s = headed .before .before .args in
+    no-fault (s .bytes .now) (s .at) (s .first) (headed .if1 .left) _ (begun .starts .ensures) (shaped .if2 .left)
+    _ (counted .held .ensures) (c .if3 .left)
 
 pub contour-fault-spec : {M : Type 1} → statement M
 contour-fault-spec =

@@ -40,10 +40,18 @@ cast-t12 : tie.Need-cast-t12
 cast-t12 c = search needs
 
 add-t13 : tie.Need-add-t13
-add-t13 c = omega (arith, byte-below (c .before .before .before .starts .result), c .before .before .before .before .before .before .pre .0 .shapes-few, c .before .before .before .before .before .before .pre .1)
+add-t13 c =
+    let begun = c .before .before .before in
+    let s = begun .before .before .before in
+    omega (arith, byte-below (begun .starts .result), s .pre .0 .shapes-few, s .pre .1)
 
 returns : tie.Need-returns
-returns c = let s = c .before .before .before .before .before .before .before .args in met-is (s .bytes .now) (s .m) _ _ _ (c .before .before .before .before .before .held .ensures) (c .before .before .before .before .starts .ensures) (c .before .before .before .all-on .ensures)
+returns c =
+    let looked = c .before .before .before in
+    let begun = looked .before in
+    let counted = begun .before in
+    let s = counted .before .before .args in
+    met-is (s .bytes .now) (s .m) _ _ _ (counted .held .ensures) (begun .starts .ensures) (looked .all-on .ensures)
 
 pub met-more-spec : {M : Type 1} → statement M
 met-more-spec =

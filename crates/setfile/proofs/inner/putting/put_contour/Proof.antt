@@ -27,9 +27,11 @@ same-length c = search needs
 
 returns : tie.Need-returns
 returns c =
-    let s = c .before .before .before .before .before .before .before .before .before in
+    let put = c .before .before in
+    let headed = put .before .before .before .before in
+    let s = headed .before .before .before in
     let e = byte-digit (s .args .begins) in
-    both-put (s .pre) (rw e at (c .before .before .before .before .before .before .put-pair .ensures)) (c .before .before .put-coordinates .ensures)
+    both-put (s .pre) (rw e at (headed .put-pair .ensures)) (put .put-coordinates .ensures)
 
 pub put-contour-spec : {M : Type 1} → statement M
 put-contour-spec =

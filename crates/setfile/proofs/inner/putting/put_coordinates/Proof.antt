@@ -30,7 +30,12 @@ bits-32-requires c κs = search needs
 
 put-quad-requires : tie.Need-put-quad-requires Inv-loop μ-loop
 put-quad-requires c κs =
-    part-room (c .before .before .before .before .loop .inv) (next-coordinate (c .before .before .before .before .before .before .args .contour .now) (c .before .before .before .before .loop .i) (c .before .bits-32 .ensures) (c .before .before .bits-32-arg .given) (c .before .before .before .loop-test .taken))
+    let raised = c .before in
+    let more = raised .before .before in
+    let pass = more .before in
+    part-room (pass .loop .inv)
+    (next-coordinate (pass .before .before .args .contour .now) (pass .loop .i) (raised .bits-32 .ensures) (raised .before .bits-32-arg .given)
+    (more .loop-test .taken))
 
 add-i : tie.Need-add-i Inv-loop μ-loop
 add-i c = search needs
@@ -40,9 +45,14 @@ loop-less c = search needs
 
 loop-again : tie.Need-loop-again Inv-loop μ-loop
 loop-again c =
-    part-written (c .before .before .before .before .before .before .before .loop .inv)
-    (next-coordinate (c .before .before .before .before .before .before .before .before .before .args .contour .now) (c .before .before .before .before .before .before .before .loop .i) (c .before .before .before .before .bits-32 .ensures) (c .before .before .before .before .before .bits-32-arg .given) (c .before .before .before .before .before .before .loop-test .taken))
-    (c .before .before .put-quad .ensures)
+    let put = c .before .before in
+    let raised = put .before .before in
+    let more = raised .before .before in
+    let pass = more .before in
+    part-written (pass .loop .inv)
+    (next-coordinate (pass .before .before .args .contour .now) (pass .loop .i) (raised .bits-32 .ensures) (raised .before .bits-32-arg .given)
+    (more .loop-test .taken))
+    (put .put-quad .ensures)
 
 same-length : tie.Need-same-length Inv-loop μ-loop
 same-length c = c .before .loop .inv .long

@@ -13,7 +13,8 @@ use Rattle.setfile.proofs.inner.putting.put_shape.Tie as tie
 
 abbrev Inv-loop : tie.InvT-loop
 Inv-loop points ranges from to bytes₀ at behind₀ k₀ bytes behind k =
-    Writing at (coded-shape points ranges from to) bytes₀ behind (coded-contours (marked (eqb k from) (between points ranges k to))) bytes × (from ≤ k)
+    Writing at (coded-shape points ranges from to) bytes₀ behind (coded-contours (marked (eqb k from) (between points ranges k to))) bytes
+    × (from ≤ k)
 
 abbrev μ-loop : tie.MeasureT-loop
 μ-loop points ranges from to bytes₀ at behind₀ k₀ bytes behind k = to - k
@@ -28,10 +29,14 @@ named-requires c κs = c .before .before .before .pre .0 _ (c .loop-test .taken)
 
 put-contour-requires : tie.Need-put-contour-requires Inv-loop μ-loop
 put-contour-requires c κs =
-    let s = c .before .before .before .before .before in
-    let v = c .before .before .before .loop .inv in
-    let h = c .before .before .loop-test .taken in
-    part-room (v .0) (next-contour (s .args .points .now) (s .args .ranges .now) (s .args .from) (c .before .before .before .loop .k) (s .args .to) (v .1) h (s .pre .0 _ h .there) _ (same-numbers (c .before .named .ensures)))
+    let named = c .before in
+    let pass = named .before .before in
+    let s = pass .before .before in
+    let v = pass .loop .inv in
+    let h = named .before .loop-test .taken in
+    part-room (v .0)
+    (next-contour (s .args .points .now) (s .args .ranges .now) (s .args .from) (pass .loop .k) (s .args .to) (v .1) h
+    (s .pre .0 _ h .there) _ (same-numbers (named .named .ensures)))
 
 add-k : tie.Need-add-k Inv-loop μ-loop
 add-k c = search needs
@@ -41,12 +46,16 @@ loop-less c = search needs
 
 loop-again : tie.Need-loop-again Inv-loop μ-loop
 loop-again c =
-    let s = c .before .before .before .before .before .before .before .before in
-    let v = c .before .before .before .before .before .before .loop .inv in
-    let h = c .before .before .before .before .before .loop-test .taken in (
+    let put = c .before .before in
+    let named = put .before .before in
+    let pass = named .before .before in
+    let s = pass .before .before in
+    let v = pass .loop .inv in
+    let h = named .before .loop-test .taken in (
       part-written (v .0)
-          (next-contour (s .args .points .now) (s .args .ranges .now) (s .args .from) (c .before .before .before .before .before .before .loop .k) (s .args .to) (v .1) h (s .pre .0 _ h .there) _ (same-numbers (c .before .before .before .before .named .ensures)))
-          (c .before .before .put-contour .ensures),
+          (next-contour (s .args .points .now) (s .args .ranges .now) (s .args .from) (pass .loop .k) (s .args .to) (v .1) h
+          (s .pre .0 _ h .there) _ (same-numbers (named .named .ensures)))
+          (put .put-contour .ensures),
       omega (arith, v .1),
     )
 

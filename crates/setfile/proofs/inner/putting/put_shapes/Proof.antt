@@ -39,10 +39,12 @@ index-2-to c = search needs
 
 put-shape-requires : tie.Need-put-shape-requires Inv-loop μ-loop
 put-shape-requires c κs =
-    let s = c .before .before .before .before .before .before in
-    let h = c .before .before .before .loop-test .taken in (
-      λ k l. s .pre .0 k (omega (arith, l, s .pre .1 (c .before .before .before .before .loop .i) h)),
-      part-room (c .before .before .before .before .loop .inv) (next-shape (s .args .points .now) (s .args .contours .now) (s .args .shapes .now) (c .before .before .before .before .loop .i) h),
+    let more = c .before .before .before in
+    let pass = more .before in
+    let s = pass .before .before in
+    let h = more .loop-test .taken in (
+      λ k l. s .pre .0 k (omega (arith, l, s .pre .1 (pass .loop .i) h)),
+      part-room (pass .loop .inv) (next-shape (s .args .points .now) (s .args .contours .now) (s .args .shapes .now) (pass .loop .i) h),
     )
 
 add-i : tie.Need-add-i Inv-loop μ-loop
@@ -53,9 +55,12 @@ loop-less c = search needs
 
 loop-again : tie.Need-loop-again Inv-loop μ-loop
 loop-again c =
-    let s = c .before .before .before .before .before .before .before .before .before .args in
-    part-written (c .before .before .before .before .before .before .before .loop .inv) (next-shape (s .points .now) (s .contours .now) (s .shapes .now) (c .before .before .before .before .before .before .before .loop .i) (c .before .before .before .before .before .before .loop-test .taken))
-    (c .before .before .put-shape .ensures)
+    let put = c .before .before in
+    let more = put .before .before .before .before in
+    let pass = more .before in
+    let s = pass .before .before .args in
+    part-written (pass .loop .inv) (next-shape (s .points .now) (s .contours .now) (s .shapes .now) (pass .loop .i) (more .loop-test .taken))
+    (put .put-shape .ensures)
 
 same-length : tie.Need-same-length Inv-loop μ-loop
 same-length c = c .before .loop .inv .long
