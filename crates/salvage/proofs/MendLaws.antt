@@ -104,16 +104,21 @@ same-salvaged p q r s = cc
 same-outcome : {r s : Salvaged} {x y : List ℕ} {u v : List (List ℕ)} → r ≡ s → x ≡ y → u ≡ v → leaving r x u ≡ leaving s y v
 same-outcome p q w = cc
 
--- a file that is not refused
-module _ (f : List ℕ) (h : Bytes f) (out : List ℕ) (list : List (List ℕ)) (z : first-of (refusals f (length out) (length list)) ≡ 0) (n : ℕ) (e : n ≡ pair f % 4096) where
+-- a file that is not refused, and whose head promises n contours
+pub record Accepted (f out : List ℕ) (list : List (List ℕ)) (n : ℕ) : Type 0 where
+  pub bytes : Bytes f
+  pub free : first-of (refusals f (length out) (length list)) ≡ 0
+  pub promised : n ≡ pair f % 4096
+
+module _ {f out : List ℕ} {list : List (List ℕ)} {n : ℕ} (file : Accepted f out list n) where
   head-right : first-of (head-refusals f) ≡ 0
-  head-right = cleared (head-refusals f) _ tt z .0
+  head-right = cleared (head-refusals f) _ tt (file .free) .0
 
   headed : 2 ≤ length f
   headed = head-long f head-right
 
   enough : (leb (length f) (length out) && leb (pair f % 4096) (length list)) ≡ true
-  enough = not-false _ (clear _ tt (cleared (head-refusals f) _ tt z .1) .0)
+  enough = not-false _ (clear _ tt (cleared (head-refusals f) _ tt (file .free) .1) .0)
 
   pub roomy : Roomy f n out list
   roomy = record {
@@ -123,20 +128,20 @@ module _ (f : List ℕ) (h : Bytes f) (out : List ℕ) (list : List (List ℕ)) 
   }
 
   counts : length (kept-of f) + length (dropped-of f) + come f .missing ≡ n
-  counts = the-counts f h headed ∙ promised-by-bytes f h headed ∙ sym e
+  counts = the-counts f (file .bytes) headed ∙ promised-by-bytes f (file .bytes) headed ∙ sym (file .promised)
 
   body : List ℕ
   body = coded-contours (kept-of f)
 
   fits : 2 + length body ≤ length out
   unfolding body
-  fits = omega (arith, kept-within f h headed, roomy .out-room)
+  fits = omega (arith, kept-within f (file .bytes) headed, roomy .out-room)
 
   -- what the pass has left
   module _ {r : Salvaged} {mid : List ℕ} {list′ : List (List ℕ)} (p : leaving r mid list′ ≡ ending n 0 none-sifted f out list) where
     by-bits : leaving r mid list′ ≡ leaving (salvaged 0 (2 + length body) (0 + length (dropped-of f)) (come f .missing) (come f .past / 8)) (placed 2 body out) (placed 0 (dropped-of f) list)
     unfolding body
-    by-bits = p ∙ ap (λ (c : Come). ended c 0 none-sifted out list) (ap (λ (k : ℕ). arrived k (drop 2 f)) e ∙ sym (come-by-bytes f h headed))
+    by-bits = p ∙ ap (λ (c : Come). ended c 0 none-sifted out list) (ap (λ (k : ℕ). arrived k (drop 2 f)) (file .promised) ∙ sym (come-by-bytes f (file .bytes) headed))
 
     answer-is : r ≡ salvaged 0 (2 + length body) (0 + length (dropped-of f)) (come f .missing) (come f .past / 8)
     answer-is = ap (λ (o : Outcome). o .answer) by-bits
@@ -167,9 +172,9 @@ module _ (f : List ℕ) (h : Bytes f) (out : List ℕ) (list : List (List ℕ)) 
     mend-done {b} {out′} u =
         let o : out′ ≡ front (mended f) out =
         u .is ∙ ap₂ (λ (k : ℕ) (l : List ℕ). placed 0 (two (4096 + k)) l) kept-is mid-is
-        ∙ placed-before (two (4096 + length (kept-of f))) body out fits ∙ placed-front out (coded (kept-of f)) ∙ ap (λ (l : List ℕ). front l out) (sym (mended-is f h headed)) in
+        ∙ placed-before (two (4096 + length (kept-of f))) body out fits ∙ placed-front out (coded (kept-of f)) ∙ ap (λ (l : List ℕ). front l out) (sym (mended-is f (file .bytes) headed)) in
         same-outcome
-        (answer-is ∙ same-salvaged (sym (ap length (mended-is f h headed) ∙ omega arith)) (omega arith) refl refl)
+        (answer-is ∙ same-salvaged (sym (ap length (mended-is f (file .bytes) headed) ∙ omega arith)) (omega arith) refl refl)
         o
         (ap (λ (o : Outcome). o .list) by-bits ∙ placed-front list (dropped-of f))
-        ∙ ap (λ (k : ℕ). answered k f out list) (sym z ∙ refusals-by-bytes f h out list)
+        ∙ ap (λ (k : ℕ). answered k f out list) (sym (file .free) ∙ refusals-by-bytes f (file .bytes) out list)

@@ -1,8 +1,9 @@
 -- `salvage::mend` meets its contract: refused, or the sifted contours under their head.
 use borrow.Author.Needs.{needs}
-use mathlib.Core.Path.{refl, sym, _∙_}
-use Rattle.setfile.specs.inside.Bytes.{Bytes}
-use Rattle.salvage.proofs.MendLaws.{mend-refused, roomy, missing-few, dropped-few, head-room, mend-done}
+use Prim.Native.Nat.{ℕ, _%_}
+use mathlib.Core.Path.{_≡_, refl, sym, _∙_}
+use Rattle.setfile.specs.inside.Bytes.{Bytes, pair}
+use Rattle.salvage.proofs.MendLaws.{Accepted, mend-refused, roomy, missing-few, dropped-few, head-room, mend-done}
 use Rattle.salvage.proofs.mend.Statement.{statement}
 use Rattle.salvage.proofs.mend.Tie as tie
 
@@ -15,26 +16,47 @@ refused-requires c κs = search needs
 refused-requires-2 : tie.Need-refused-requires-2
 refused-requires-2 c κs = search needs
 
+-- nothing is refused, whatever number of contours n the head promises
+free : (c : tie.Else1) →
+    let s = c .before .before .before .before .args in
+    (n : ℕ) → n ≡ pair (s .bytes .now) % 4096 → Accepted (s .bytes .now) (s .out .now) (s .dropped .now) n
+free c n e = record { bytes = bytes-of (c .before .before .before); free = sym (c .before .refused .ensures) ∙ c .if1 .left; promised = e }
+
+accepted : (c : tie.After-promised) →
+    let s = c .before .before .before .before .before .args in
+    Accepted (s .bytes .now) (s .out .now) (s .dropped .now) (c .promised .result)
+accepted c = free (c .before) _ (c .promised .ensures)
+
 returns : tie.Need-returns
-returns c = let s = c .before .before .before .before .before .args in mend-refused (s .bytes .now) (bytes-of (c .before .before .before .before)) (s .out .now) (s .dropped .now) _ (c .before .before .refused .ensures) (c .before .if1 .taken) (c .refused2 .ensures)
+returns c =
+    let judged = c .before .before in
+    let s = judged .before .before .before .args in
+    mend-refused (s .bytes .now) (bytes-of (judged .before .before)) (s .out .now) (s .dropped .now) _
+    (judged .refused .ensures) (c .before .if1 .taken) (c .refused2 .ensures)
 
 promised-requires : tie.Need-promised-requires
-promised-requires c κs = let s = c .before .before .before .before .args in roomy (s .bytes .now) (bytes-of (c .before .before .before)) (s .out .now) (s .dropped .now) (sym (c .before .refused .ensures) ∙ c .if1 .left) _ refl .head
+promised-requires c κs = roomy (free c _ refl) .head
 
 contours-requires : tie.Need-contours-requires
-contours-requires c κs = let s = c .before .before .before .before .before .before .before .args in roomy (s .bytes .now) (bytes-of (c .before .before .before .before .before .before)) (s .out .now) (s .dropped .now) (sym (c .before .before .before .before .refused .ensures) ∙ c .before .before .before .if1 .left) _ (c .before .before .promised .ensures)
+contours-requires c κs = roomy (accepted (c .before .before))
 
 sub-kept : tie.Need-sub-kept
-sub-kept c = let s = c .before .before .before .before .before .before .before .before .before .before .before .before .args in missing-few (s .bytes .now) (bytes-of (c .before .before .before .before .before .before .before .before .before .before .before)) (s .out .now) (s .dropped .now) (sym (c .before .before .before .before .before .before .before .before .before .refused .ensures) ∙ c .before .before .before .before .before .before .before .before .if1 .left) _ (c .before .before .before .before .before .before .before .promised .ensures) (c .before .before .before .before .contours .ensures)
+sub-kept c =
+    let sifted = c .before .before .before .before in
+    missing-few (accepted (sifted .before .before .before)) (sifted .contours .ensures)
 
 sub-kept-2 : tie.Need-sub-kept-2
-sub-kept-2 c = let s = c .before .before .before .before .before .before .before .before .before .before .before .before .before .args in dropped-few (s .bytes .now) (bytes-of (c .before .before .before .before .before .before .before .before .before .before .before .before)) (s .out .now) (s .dropped .now) (sym (c .before .before .before .before .before .before .before .before .before .before .refused .ensures) ∙ c .before .before .before .before .before .before .before .before .before .if1 .left) _ (c .before .before .before .before .before .before .before .before .promised .ensures) (c .before .before .before .before .before .contours .ensures)
+sub-kept-2 c =
+    let sifted = c .before .before .before .before .before in
+    dropped-few (accepted (sifted .before .before .before)) (sifted .contours .ensures)
 
 add-put-pair : tie.Need-add-put-pair
 add-put-pair c = search needs
 
 put-pair-requires : tie.Need-put-pair-requires
-put-pair-requires c κs = let s = c .before .before .before .before .before .before .before .before .before .before .before .before .before .before .args in head-room (s .bytes .now) (bytes-of (c .before .before .before .before .before .before .before .before .before .before .before .before .before)) (s .out .now) (s .dropped .now) (sym (c .before .before .before .before .before .before .before .before .before .before .before .refused .ensures) ∙ c .before .before .before .before .before .before .before .before .before .before .if1 .left) _ (c .before .before .before .before .before .before .before .before .before .promised .ensures) (c .before .before .before .before .before .before .contours .ensures)
+put-pair-requires c κs =
+    let sifted = c .before .before .before .before .before .before in
+    head-room (accepted (sifted .before .before .before)) (sifted .contours .ensures)
 
 same-length : tie.Need-same-length
 same-length c = search needs
@@ -43,7 +65,11 @@ same-length-2 : tie.Need-same-length-2
 same-length-2 c = search needs
 
 returns-2 : tie.Need-returns-2
-returns-2 c = let s = c .before .before .before .before .before .before .before .before .before .before .before .before .before .before .before .before .before .args in mend-done (s .bytes .now) (bytes-of (c .before .before .before .before .before .before .before .before .before .before .before .before .before .before .before .before)) (s .out .now) (s .dropped .now) (sym (c .before .before .before .before .before .before .before .before .before .before .before .before .before .before .refused .ensures) ∙ c .before .before .before .before .before .before .before .before .before .before .before .before .before .if1 .left) _ (c .before .before .before .before .before .before .before .before .before .before .before .before .promised .ensures) (c .before .before .before .before .before .before .before .before .before .contours .ensures) (c .before .before .put-pair .ensures)
+returns-2 c =
+    let headed = c .before .before in
+    let counted = headed .before .before .before in
+    let sifted = counted .before .before .before .before in
+    mend-done (accepted (sifted .before .before .before)) (sifted .contours .ensures) (headed .put-pair .ensures)
 
 pub mend-spec : {M : Type 1} → statement M
 mend-spec =

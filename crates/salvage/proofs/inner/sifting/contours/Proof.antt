@@ -1,9 +1,12 @@
 -- `salvage::inner::sifting::contours` meets its contract: from where the pass has come to it leaves what it is to leave.
-use mathlib.Core.Path.{sym, _∙_}
-use borrow.Author.Tests.{not-true, not-false}
+use mathlib.Core.Path.{_≡_, sym, _∙_}
+use mathlib.Core.Bool.{true}
 use Prim.Native.Nat.{_-_}
 use native.Mathlib.Omega.{arith}
+use lib.ListN.{drop}
+use borrow.Author.Tests.{not-true, not-false}
 use Rattle.salvage.proofs.SiftLaws.{Sifting, sifting-none, ready, sifting-more, stopped, finished}
+use Rattle.setfile.specs.inside.Bytes.{all-there}
 use Rattle.salvage.proofs.inner.sifting.contours.Statement.{statement}
 use Rattle.salvage.proofs.inner.sifting.contours.Tie as tie
 
@@ -13,8 +16,16 @@ Inv-loop bytes n out₀ list₀ s₀ i₀ out list s i = Sifting bytes n out₀ 
 abbrev μ-loop : tie.MeasureT-loop
 μ-loop bytes n out₀ list₀ s₀ i₀ out list s i = n - i
 
+-- the next contour is there
+there : (c : tie.Else1 Inv-loop μ-loop) →
+    let pass = c .before .before .before in
+    true ≡ all-there (drop (pass .loop .s .at) (pass .before .before .before .args .bytes .now))
+there c = sym (not-false _ (c .if1 .left)) ∙ c .before .complete .ensures
+
 loop-holds : tie.Need-loop-holds Inv-loop μ-loop
-loop-holds c = let s = c .before .before .args in sifting-none (s .bytes .now) (s .n) (s .out .now) (s .list .now) (c .before .before .pre .head)
+loop-holds c =
+    let s = c .before .before in
+    sifting-none (s .args .bytes .now) (s .args .n) (s .args .out .now) (s .args .list .now) (s .pre .head)
 
 complete-requires : tie.Need-complete-requires Inv-loop μ-loop
 complete-requires c κs = c .before .loop .inv .within
@@ -29,19 +40,36 @@ same-length-2 : tie.Need-same-length-2 Inv-loop μ-loop
 same-length-2 c = c .before .before .before .loop .inv .list-long
 
 returns : tie.Need-returns Inv-loop μ-loop
-returns c = stopped (c .before .before .before .loop .inv) (c .before .before .loop-test .taken) (sym (not-true _ (c .if1 .taken)) ∙ c .before .complete .ensures)
+returns c =
+    let more = c .before .before in
+    stopped (more .before .loop .inv) (more .loop-test .taken) (sym (not-true _ (c .if1 .taken)) ∙ c .before .complete .ensures)
 
 sift-requires : tie.Need-sift-requires Inv-loop μ-loop
-sift-requires c κs = ready (c .before .before .before .before .before .loop .inv) (c .before .before .before .before .before .before .before .before .pre) (c .before .before .before .before .loop-test .taken) (sym (not-false _ (c .before .before .if1 .left)) ∙ c .before .before .before .complete .ensures)
+sift-requires c κs =
+    let complete = c .before .before in
+    let more = complete .before .before in
+    let pass = more .before in
+    ready (pass .loop .inv) (pass .before .before .before .pre) (more .loop-test .taken) (there complete)
 
 add-i : tie.Need-add-i Inv-loop μ-loop
-add-i c = omega (arith, c .before .before .before .before .before .before .before .before .loop-test .taken)
+add-i c =
+    let complete = c .before .before .before .before .before .before in
+    omega (arith, complete .before .before .loop-test .taken)
 
 loop-less : tie.Need-loop-less Inv-loop μ-loop
-loop-less c = omega (arith, c .before .before .before .before .before .before .before .before .loop-test .taken)
+loop-less c =
+    let complete = c .before .before .before .before .before .before in
+    omega (arith, complete .before .before .loop-test .taken)
 
 loop-again : tie.Need-loop-again Inv-loop μ-loop
-loop-again c = sifting-more (c .before .before .before .before .before .before .before .before .before .loop .inv) (c .before .before .before .before .before .before .before .before .before .before .before .before .pre) (c .before .before .before .before .before .before .before .before .loop-test .taken) (sym (not-false _ (c .before .before .before .before .before .before .if1 .left)) ∙ c .before .before .before .before .before .before .before .complete .ensures) (λ i h. c .before .before .before .before .before .before .before .before .before .before .before .shared-slice-known .given i .fits) (c .before .before .before .sift .ensures)
+loop-again c =
+    let sifted = c .before .before .before in
+    let complete = sifted .before .before .before in
+    let more = complete .before .before in
+    let pass = more .before in
+    let known = pass .before .before in
+    sifting-more (pass .loop .inv) (known .before .pre) (more .loop-test .taken) (there complete)
+    (λ i h. known .shared-slice-known .given i .fits) (sifted .sift .ensures)
 
 sub-t16 : tie.Need-sub-t16 Inv-loop μ-loop
 sub-t16 c = c .before .before .loop .inv .within

@@ -1,6 +1,10 @@
 -- `salvage::inner::sifting::sift` meets its contract.
+use mathlib.Core.Path.{_≡_}
+use lib.ListN.{drop}
 use borrow.Author.Needs.{needs}
 use Rattle.salvage.proofs.SiftLaws.{reason-is, sifts-kept, sifts-noted}
+use Rattle.setfile.specs.inside.Bytes.{front-entry}
+use Rattle.salvage.specs.Fates.{reason}
 use Rattle.salvage.proofs.inner.sifting.sift.Statement.{statement}
 use Rattle.salvage.proofs.inner.sifting.sift.Tie as tie
 
@@ -55,11 +59,26 @@ add-t24 c = search needs
 same-length : tie.Need-same-length
 same-length c = search needs
 
+-- the contour that begins here is judged
+judged : (c : tie.After-reason) →
+    let counted = c .before .before .before .before in
+    let s = counted .before .before .before .args in
+    c .reason .result ≡ reason (s .s .keeping) (front-entry (drop (s .s .at) (s .bytes .now)))
+judged c =
+    let looked = c .before .before in
+    let counted = looked .before .before in
+    let s = counted .before .before .before .args in
+    reason-is (s .bytes .now) (s .s .at) _ _ _ (s .s .keeping) _
+    (counted .held .ensures) (looked .before .starts .ensures) (looked .all-on .ensures) (c .reason .ensures)
+
 returns : tie.Need-returns
 returns c =
-    let s = c .before .before .before .before .before .before .before .before .before .before .before .before .before .before .args in
-    let w = reason-is (s .bytes .now) (s .s .at) _ _ _ (s .s .keeping) _ (c .before .before .before .before .before .before .before .before .before .before .before .held .ensures) (c .before .before .before .before .before .before .before .before .before .before .starts .ensures) (c .before .before .before .before .before .before .before .before .before .all-on .ensures) (c .before .before .before .before .before .before .before .reason .ensures) in
-    sifts-kept (s .bytes .now) (s .s) (s .i) (s .out .now) (s .list .now) _ (c .before .before .before .before .before .before .before .before .before .before .before .held .ensures) _ w (c .before .before .before .before .before .before .if1 .taken) (c .before .before .before .copy .ensures)
+    let copied = c .before .before .before in
+    let kept = copied .before .before .before in
+    let counted = kept .before .before .before .before .before in
+    let s = counted .before .before .before .args in
+    sifts-kept (s .bytes .now) (s .s) (s .i) (s .out .now) (s .list .now) _ (counted .held .ensures) _
+    (judged (kept .before)) (kept .if1 .taken) (copied .copy .ensures)
 
 cast-t14 : tie.Need-cast-t14
 cast-t14 c = search needs
@@ -78,9 +97,12 @@ same-length-2 c = search needs
 
 returns-2 : tie.Need-returns-2
 returns-2 c =
-    let s = c .before .before .before .before .before .before .before .before .before .args in
-    let w = reason-is (s .bytes .now) (s .s .at) _ _ _ (s .s .keeping) _ (c .before .before .before .before .before .before .held .ensures) (c .before .before .before .before .before .starts .ensures) (c .before .before .before .before .all-on .ensures) (c .before .before .reason .ensures) in
-    sifts-noted (s .bytes .now) (s .s) (s .i) (s .out .now) (s .list .now) _ (c .before .before .before .before .before .before .held .ensures) _ w (c .before .if1 .left) _ (c .before .before .before .before .before .starts .ensures)
+    let noted = c .before in
+    let begun = noted .before .before .before .before in
+    let counted = begun .before in
+    let s = counted .before .before .before .args in
+    sifts-noted (s .bytes .now) (s .s) (s .i) (s .out .now) (s .list .now) _ (counted .held .ensures) _
+    (judged (noted .before)) (noted .if1 .left) _ (begun .starts .ensures)
 
 pub sift-spec : {M : Type 1} → statement M
 sift-spec =
