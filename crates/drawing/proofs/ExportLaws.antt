@@ -141,7 +141,7 @@ put-refused : (l : List Command) (kinds : List ℕ) (floats : List Float) (r : �
 put-refused l kinds floats zero n = absurd (n refl)
 put-refused l kinds floats (suc r) n = refl
 
-module _ (p : List ℤ) (ranges : List (List ℕ)) (kinds : List ℕ) (floats : List Float) (k : ℕ) (e : k ≡ first-of (C.refusals p ranges)) where
+module _ (p : List ℤ) (ranges : List (List ℕ)) (kinds : List ℕ) (floats : List Float) where
   abbrev told-commands : List Command
   told-commands = commands (contours p (spans ranges))
 
@@ -149,54 +149,60 @@ module _ (p : List ℤ) (ranges : List (List ℕ)) (kinds : List ℕ) (floats : 
   unfolding outcome
   by-number r f = ap (λ (n : ℕ). put n told-commands kinds floats) f
 
-  judged : k ≡ first-of (refusals p ranges)
-  judged = e ∙ ap first-of (same-refusals p ranges)
-
-  pub export-refused : (w : Drawn) → w ≡ none-drawn k → (k ≡ 0 → ⊥) → leaving w kinds floats ≡ outcome p ranges kinds floats
-  export-refused w g n =
+  pub export-refused : (k : ℕ) → k ≡ first-of (C.refusals p ranges) → (w : Drawn) → w ≡ none-drawn k → (k ≡ 0 → ⊥)
+      → leaving w kinds floats ≡ outcome p ranges kinds floats
+  export-refused k e w g n =
       ap (λ (a : Drawn). leaving a kinds floats) g ∙ put-refused told-commands kinds floats k n
-      ∙ by-number k (first-is _ _ (stopped (refusals p ranges) (room (enough told-commands kinds floats)) k judged n))
+      ∙ by-number k
+      (first-is _ _ (stopped (refusals p ranges) (room (enough told-commands kinds floats)) k (e ∙ ap first-of (same-refusals p ranges)) n))
 
-  module _ (z : k ≡ 0) where
-    taken : Accepted p (sound (spans ranges) (count p))
-    taken = accepted p (sound (spans ranges) (count p)) (sym e ∙ z)
+-- a set of which nothing is refused, n of whose contours have points, and the rows for its drawing
+pub record Exporting (p : List ℤ) (ranges : List (List ℕ)) (kinds : List ℕ) (floats : List Float) (n : ℕ) : Type 0 where
+  pub free : first-of (C.refusals p ranges) ≡ 0
+  pub filled-ones : n ≡ filled (spans ranges)
 
-    pub export-few : count p + filled (spans ranges) ≤ 2 * most
-    export-few = omega (arith, commands-few p ranges (taken .even) (taken .sound), taken .few)
+module _ {p : List ℤ} {ranges : List (List ℕ)} {kinds : List ℕ} {floats : List Float} {n : ℕ} (set : Exporting p ranges kinds floats n) where
+  abbrev drawing : List Command
+  drawing = told-commands p ranges kinds floats
 
-    module _ (n : ℕ) (q : n ≡ filled (spans ranges)) where
-      same-room : (leb (count p + n) (length kinds) && leb (length p) (length floats)) ≡ enough told-commands kinds floats
-      same-room =
-          ap₂ (λ (a b : ℕ). leb a (length kinds) && leb b (length floats))
-          (ap (λ (m : ℕ). count p + m) q ∙ sym (kinds-count p ranges (taken .even) (taken .sound)))
-          (sym (floats-count p ranges (taken .even) (taken .sound)))
+  taken : Accepted p (sound (spans ranges) (count p))
+  taken = accepted p (sound (spans ranges) (count p)) (set .free)
 
-      onto : (r : ℕ) → First (room (enough told-commands kinds floats)) r → put r told-commands kinds floats ≡ outcome p ranges kinds floats
-      onto r f = by-number r (first-is _ _ (onward (refusals p ranges) (room (enough told-commands kinds floats)) r tt (sym judged ∙ z) f))
+  pub export-few : count p + filled (spans ranges) ≤ 2 * most
+  export-few = omega (arith, commands-few p ranges (taken .even) (taken .sound), taken .few)
 
-      pub export-cramped : (w : Drawn) → w ≡ none-drawn 5 → (leb (count p + n) (length kinds) && leb (length p) (length floats)) ≡ false → leaving w kinds floats ≡ outcome p ranges kinds floats
-      export-cramped w g h =
-          ap (λ (a : Drawn). leaving a kinds floats) g ∙ put-refused told-commands kinds floats 5 (λ i. omega arith)
-          ∙ onto 5 (here (ap not (sym same-room ∙ h)))
+  same-room : (leb (count p + n) (length kinds) && leb (length p) (length floats)) ≡ enough drawing kinds floats
+  same-room =
+      ap₂ (λ (a b : ℕ). leb a (length kinds) && leb b (length floats))
+      (ap (λ (m : ℕ). count p + m) (set .filled-ones) ∙ sym (kinds-count p ranges (taken .even) (taken .sound)))
+      (sym (floats-count p ranges (taken .even) (taken .sound)))
 
-      module _ (h : (leb (count p + n) (length kinds) && leb (length p) (length floats)) ≡ true) where
-        pub export-contours : Forward ranges × (length (set-kinds (spans ranges)) ≤ length kinds)
-        export-contours =
-            let m : count p + n ≤ length kinds = leb-true _ _ (and-left (leb (count p + n) (length kinds)) (leb (length p) (length floats)) h) in (
-              λ i l. range-within ranges (count p) i (taken .sound) l .forward,
-              omega (arith, kinds-count p ranges (taken .even) (taken .sound), ap length (kinds-are p ranges (taken .even) (taken .sound))),
-            )
+  onto : (r : ℕ) → First (room (enough drawing kinds floats)) r → put r drawing kinds floats ≡ outcome p ranges kinds floats
+  onto r f = by-number p ranges kinds floats r (first-is _ _ (onward (refusals p ranges) (room (enough drawing kinds floats)) r tt (sym (ap first-of (same-refusals p ranges)) ∙ set .free) f))
 
-        pub export-places : (length p % 2 ≡ 0) × (length p ≤ length floats)
-        export-places = (omega (arith, taken .even), leb-true _ _ (and-right (leb (count p + n) (length kinds)) (leb (length p) (length floats)) h))
+  pub export-cramped : (w : Drawn) → w ≡ none-drawn 5 → (leb (count p + n) (length kinds) && leb (length p) (length floats)) ≡ false → leaving w kinds floats ≡ outcome p ranges kinds floats
+  export-cramped w g h =
+      ap (λ (a : Drawn). leaving a kinds floats) g ∙ put-refused drawing kinds floats 5 (λ i. omega arith)
+      ∙ onto 5 (here (ap not (sym same-room ∙ h)))
 
-        pub export-done : (c : List ℕ) (d : List Float) → c ≡ front (set-kinds (spans ranges)) kinds → d ≡ front (map millimetres p) floats
-            → leaving (record { reply = 0; commands = count p + n; floats = length p }) c d ≡ outcome p ranges kinds floats
-        export-done c d f g =
-            ap₂ (λ (a b : ℕ). leaving (record { reply = 0; commands = a; floats = b }) c d)
-            (ap (λ (m : ℕ). count p + m) q ∙ sym (kinds-count p ranges (taken .even) (taken .sound)))
-            (sym (floats-count p ranges (taken .even) (taken .sound)))
-            ∙ ap₂ (λ (a : List ℕ) (b : List Float). leaving (record { reply = 0; commands = length (kinds-of told-commands); floats = length (floats-of told-commands) }) a b)
-            (f ∙ ap (λ (l : List ℕ). front l kinds) (sym (kinds-are p ranges (taken .even) (taken .sound))))
-            (g ∙ ap (λ (l : List Float). front l floats) (sym (floats-are p ranges (taken .even) (taken .sound))))
-            ∙ onto 0 (past (ap not (sym same-room ∙ h)) foot)
+  module _ (h : (leb (count p + n) (length kinds) && leb (length p) (length floats)) ≡ true) where
+    pub export-contours : Forward ranges × (length (set-kinds (spans ranges)) ≤ length kinds)
+    export-contours =
+        let m : count p + n ≤ length kinds = leb-true _ _ (and-left (leb (count p + n) (length kinds)) (leb (length p) (length floats)) h) in (
+          λ i l. range-within ranges (count p) i (taken .sound) l .forward,
+          omega (arith, set .filled-ones, kinds-count p ranges (taken .even) (taken .sound), ap length (kinds-are p ranges (taken .even) (taken .sound))),
+        )
+
+    pub export-places : (length p % 2 ≡ 0) × (length p ≤ length floats)
+    export-places = (omega (arith, taken .even), leb-true _ _ (and-right (leb (count p + n) (length kinds)) (leb (length p) (length floats)) h))
+
+    pub export-done : (c : List ℕ) (d : List Float) → c ≡ front (set-kinds (spans ranges)) kinds → d ≡ front (map millimetres p) floats
+        → leaving (record { reply = 0; commands = count p + n; floats = length p }) c d ≡ outcome p ranges kinds floats
+    export-done c d f g =
+        ap₂ (λ (a b : ℕ). leaving (record { reply = 0; commands = a; floats = b }) c d)
+        (ap (λ (m : ℕ). count p + m) (set .filled-ones) ∙ sym (kinds-count p ranges (taken .even) (taken .sound)))
+        (sym (floats-count p ranges (taken .even) (taken .sound)))
+        ∙ ap₂ (λ (a : List ℕ) (b : List Float). leaving (record { reply = 0; commands = length (kinds-of drawing); floats = length (floats-of drawing) }) a b)
+        (f ∙ ap (λ (l : List ℕ). front l kinds) (sym (kinds-are p ranges (taken .even) (taken .sound))))
+        (g ∙ ap (λ (l : List Float). front l floats) (sym (floats-are p ranges (taken .even) (taken .sound))))
+        ∙ onto 0 (past (ap not (sym same-room ∙ h)) foot)

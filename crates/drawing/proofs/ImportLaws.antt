@@ -102,8 +102,14 @@ module _ (kinds : List ℕ) (floats : List Float) where
   numbers-length : Taken kinds floats → length (joined (drawn kinds floats)) ≡ length floats
   numbers-length t = ap length (numbers-are (taken-sound kinds floats t)) ∙ length-map floats units
 
-module _ (kinds : List ℕ) (floats : List Float) (out : List ℤ) (records : List (List ℕ)) (k r n : ℕ) (e : k ≡ first-of (refusals kinds floats)) (m : n ≡ length (sizes kinds))
-    (f : r ≡ first-of (so-far k ++ room (leb (length floats) (length out) && leb n (length records)))) where
+-- n counts the contours of a drawing, k says what is refused of it, and r of the room too
+pub record Importing (kinds : List ℕ) (floats : List Float) (out : List ℤ) (records : List (List ℕ)) (n r : ℕ) : Type 0 where
+  pub k : ℕ
+  pub contours : n ≡ length (sizes kinds)
+  pub of-drawing : k ≡ first-of (refusals kinds floats)
+  pub with-room : r ≡ first-of (so-far k ++ room (leb (length floats) (length out) && leb n (length records)))
+
+module _ {kinds : List ℕ} {floats : List Float} {out : List ℤ} {records : List (List ℕ)} {n r : ℕ} (judged : Importing kinds floats out records n r) where
   abbrev tested : Bool
   tested = leb (length floats) (length out) && leb n (length records)
 
@@ -112,12 +118,12 @@ module _ (kinds : List ℕ) (floats : List Float) (out : List ℤ) (records : Li
 
   same-room : Taken kinds floats → tested ≡ enough-for
   same-room t =
-      ap₂ (λ (a b : ℕ). leb a (length out) && leb b (length records)) (sym (numbers-length kinds floats t)) (m ∙ sym (spans-length kinds floats))
+      ap₂ (λ (a b : ℕ). leb a (length out) && leb b (length records)) (sym (numbers-length kinds floats t)) (judged .contours ∙ sym (spans-length kinds floats))
       ∙ sym (and-true (leb (length (joined (drawn kinds floats))) (length out) && leb (length (contour-spans (drawn kinds floats))) (length records)))
 
   number : r ≡ first-of (refusals kinds floats ++ room enough-for)
   unfolding first-of
-  number = f ∙ go k e
+  number = judged .with-room ∙ go (judged .k) (judged .of-drawing)
     where
       go : (j : ℕ) → j ≡ first-of (refusals kinds floats) → first-of (so-far j ++ room tested) ≡ first-of (refusals kinds floats ++ room enough-for)
       go zero h =
@@ -131,11 +137,11 @@ module _ (kinds : List ℕ) (floats : List Float) (out : List ℤ) (records : Li
   import-refused = stored-refused (joined (drawn kinds floats)) (contour-spans (drawn kinds floats)) [] out records [] (refusals kinds floats) enough-for refl r number
 
   module _ (z : r ≡ 0) where
-    clear : (k ≡ 0) × (tested ≡ true)
-    clear = clear-of k tested (sym f ∙ z)
+    clear : (judged .k ≡ 0) × (tested ≡ true)
+    clear = clear-of (judged .k) tested (sym (judged .with-room) ∙ z)
 
     taken : Taken kinds floats
-    taken = taken-if kinds floats (sym e ∙ clear .0)
+    taken = taken-if kinds floats (sym (judged .of-drawing) ∙ clear .0)
 
     pub import-points : Coordinates floats × (length floats ≤ length out)
     import-points = (coordinates (taken-sound kinds floats taken), leb-true _ _ (and-left (leb (length floats) (length out)) (leb n (length records)) (clear .1)))
@@ -143,12 +149,12 @@ module _ (kinds : List ℕ) (floats : List Float) (out : List ℤ) (records : Li
     pub import-ranges : length (sizes kinds) ≤ length records
     import-ranges =
         let h : n ≤ length records = leb-true _ _ (and-right (leb (length floats) (length out)) (leb n (length records)) (clear .1)) in
-        omega (arith, m)
+        omega (arith, judged .contours)
 
     pub import-done : (o : List ℤ) (d : List (List ℕ)) → o ≡ front (map units floats) out → d ≡ front (rows (laid 0 (sizes kinds))) records
         → leaving (packed 0 (length floats / 2) n 0) o d [] ≡ outcome kinds floats out records
     import-done o d g h =
-        ap₂ (λ (a b : ℕ). leaving (packed 0 a b 0) o d []) (sym (points-are (taken-sound kinds floats taken))) (m ∙ sym (spans-length kinds floats))
+        ap₂ (λ (a b : ℕ). leaving (packed 0 a b 0) o d []) (sym (points-are (taken-sound kinds floats taken))) (judged .contours ∙ sym (spans-length kinds floats))
         ∙ stored-done (joined (drawn kinds floats)) (contour-spans (drawn kinds floats)) [] out records [] (refusals kinds floats) enough-for refl r number o d [] z
         (g ∙ ap (λ (l : List ℤ). front l out) (sym (numbers-are (taken-sound kinds floats taken))))
         (h ∙ ap (λ (l : List Span). front (rows l) records) (sym (spans-are kinds floats)))

@@ -1,10 +1,10 @@
 -- `drawing::exporting::export` meets its contract: it is refused by the ladder and for want of room, or both rows are filled.
-use mathlib.Core.Path.{_≡_}
+use mathlib.Core.Path.{_≡_, sym, _∙_}
 use native.Mathlib.Omega.{arith}
 use borrow.Author.Needs.{needs}
 use borrow.Author.Tests.{not-true, not-false}
 use Rattle.grid.specs.Limits.{most}
-use Rattle.drawing.proofs.ExportLaws.{export-refused, export-few, export-cramped, export-contours, export-places, export-done}
+use Rattle.drawing.proofs.ExportLaws.{Exporting, export-refused, export-few, export-cramped, export-contours, export-places, export-done}
 use Rattle.drawing.proofs.exporting.export.Statement.{statement}
 use Rattle.drawing.proofs.exporting.export.Tie as tie
 
@@ -13,6 +13,12 @@ refused-requires c κs = search needs
 
 refused-requires-2 : tie.Need-refused-requires-2
 refused-requires-2 c κs = search needs
+
+-- nothing is refused, and the contours that have points are counted
+counted : (c : tie.After-filled) →
+    let s = c .before .before .before .before .before .args in
+    Exporting (s .points .now) (s .ranges .now) (s .kinds .now) (s .floats .now) (c .filled .result)
+counted c = record { free = sym (c .before .before .refused .ensures) ∙ c .before .if1 .left; filled-ones = c .filled .ensures }
 
 returns : tie.Need-returns
 returns c =
@@ -26,42 +32,21 @@ filled-requires c κs = search needs
 
 add-commands : tie.Need-add-commands
 unfolding most
-add-commands c =
-    let accepted = c .before in
-    let judged = accepted .before in
-    let s = judged .before .before .before .args in
-    let few = export-few (s .points .now) (s .ranges .now) (s .kinds .now) (s .floats .now) _ (judged .refused .ensures) (accepted .if1 .left) in
-    omega (arith, few, c .filled .ensures)
+add-commands c = omega (arith, export-few (counted c), c .filled .ensures)
 
 refused-requires-3 : tie.Need-refused-requires-3
 refused-requires-3 c κs = search needs
 
 returns-2 : tie.Need-returns-2
-returns-2 c =
-    let counted = c .before .before in
-    let accepted = counted .before in
-    let judged = accepted .before in
-    let s = judged .before .before .before .args in
-    export-cramped (s .points .now) (s .ranges .now) (s .kinds .now) (s .floats .now) _ (judged .refused .ensures) (accepted .if1 .left)
-    _ (counted .filled .ensures) _ (c .refused3 .ensures) (not-true _ (c .before .if2 .taken))
+returns-2 c = export-cramped (counted (c .before .before)) _ (c .refused3 .ensures) (not-true _ (c .before .if2 .taken))
 
 contours-requires : tie.Need-contours-requires
-contours-requires c κs =
-    let counted = c .before .before in
-    let accepted = counted .before in
-    let judged = accepted .before in
-    let s = judged .before .before .before .args in
-    export-contours (s .points .now) (s .ranges .now) (s .kinds .now) (s .floats .now) _ (judged .refused .ensures) (accepted .if1 .left)
-    _ (counted .filled .ensures) (not-false _ (c .before .if2 .left))
+contours-requires c κs = export-contours (counted (c .before .before)) (not-false _ (c .before .if2 .left))
 
 places-requires : tie.Need-places-requires
 places-requires c κs =
     let roomy = c .before .before .before .before .before in
-    let accepted = roomy .before .before in
-    let judged = accepted .before in
-    let s = judged .before .before .before .args in
-    export-places (s .points .now) (s .ranges .now) (s .kinds .now) (s .floats .now) _ (judged .refused .ensures) (accepted .if1 .left)
-    _ (roomy .before .filled .ensures) (not-false _ (roomy .if2 .left))
+    export-places (counted (roomy .before)) (not-false _ (roomy .if2 .left))
 
 same-length : tie.Need-same-length
 same-length c = search needs
@@ -74,11 +59,7 @@ returns-3 c =
     let placed = c .before .before in
     let drawn = placed .before .before .before .before in
     let roomy = drawn .before .before in
-    let accepted = roomy .before .before in
-    let judged = accepted .before in
-    let s = judged .before .before .before .args in
-    export-done (s .points .now) (s .ranges .now) (s .kinds .now) (s .floats .now) _ (judged .refused .ensures) (accepted .if1 .left)
-    _ (roomy .before .filled .ensures) (not-false _ (roomy .if2 .left)) _ _ (drawn .contours .ensures) (placed .places .ensures)
+    export-done (counted (roomy .before)) (not-false _ (roomy .if2 .left)) _ _ (drawn .contours .ensures) (placed .places .ensures)
 
 pub export-spec : {M : Type 1} → statement M
 export-spec =
