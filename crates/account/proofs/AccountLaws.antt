@@ -65,110 +65,115 @@ module _ (f out : List ℕ) (list : List (List ℕ)) (out-room : 65536 ≤ lengt
       below-clear (bad-head f) (room (leb (length f) (length out) && leb (promised f) (length list)))
       (room-clear (leb (length f) (length out) && leb (promised f) (length list)) (rw (le-leb (length f) (length out) (omega arith), le-leb (promised f) (length list) (omega (arith, promised-few f))))))
 
-  -- what the salvage has left
-  module _ {r : Salvaged} {out′ : List ℕ} {list′ : List (List ℕ)} (p : S.leaving r out′ list′ ≡ S.outcome f out list) where
-    answered-as : (k : ℕ) → first-of (refusals f) ≡ k → S.leaving r out′ list′ ≡ answered k f out list
-    unfolding S.outcome
-    answered-as k e = p ∙ ap (λ (n : ℕ). answered n f out list) (always-room ∙ e)
+-- what salvaging a file has left, where there is room for any file and any account
+pub record InRoom (f out text : List ℕ) (list : List (List ℕ)) (r : Salvaged) (out′ : List ℕ) (list′ : List (List ℕ)) : Type 0 where
+  pub out-room : 65536 ≤ length out
+  pub text-room : 143370 ≤ length text
+  pub list-room : 4095 ≤ length list
+  pub is : S.leaving r out′ list′ ≡ S.outcome f out list
 
-    reply-is : r .reply ≡ first-of (refusals f)
-    reply-is = go (first-of (refusals f)) refl
+module _ {f out text : List ℕ} {list : List (List ℕ)} {r : Salvaged} {out′ : List ℕ} {list′ : List (List ℕ)} (done : InRoom f out text list r out′ list′) where
+  answered-as : (k : ℕ) → first-of (refusals f) ≡ k → S.leaving r out′ list′ ≡ answered k f out list
+  unfolding S.outcome
+  answered-as k e = done .is ∙ ap (λ (n : ℕ). answered n f out list) (always-room f out list (done .out-room) (done .list-room) ∙ e)
+
+  reply-is : r .reply ≡ first-of (refusals f)
+  reply-is = go (first-of (refusals f)) refl
+    where
+      go : (k : ℕ) → first-of (refusals f) ≡ k → r .reply ≡ first-of (refusals f)
+      go zero e = ap (λ (o : S.Outcome). o .answer .reply) (answered-as 0 e) ∙ sym e
+      go (suc k) e = ap (λ (o : S.Outcome). o .answer .reply) (answered-as (suc k) e) ∙ sym e
+
+  -- it is refused
+  module _ (n : r .reply ≡ 0 → ⊥) where
+    account-refused : account f ≡ refused ++ decimal (r .reply) ++ line-end
+    unfolding account
+    account-refused = ap (λ (k : ℕ). account-by k f) (sym reply-is) ∙ go (r .reply) n
       where
-        go : (k : ℕ) → first-of (refusals f) ≡ k → r .reply ≡ first-of (refusals f)
-        go zero e = ap (λ (o : S.Outcome). o .answer .reply) (answered-as 0 e) ∙ sym e
-        go (suc k) e = ap (λ (o : S.Outcome). o .answer .reply) (answered-as (suc k) e) ∙ sym e
+        go : (k : ℕ) → (k ≡ 0 → ⊥) → account-by k f ≡ refused ++ decimal k ++ line-end
+        go zero n = absurd (n refl)
+        go (suc k) n = refl
 
-    -- it is refused
-    module _ (n : r .reply ≡ 0 → ⊥) where
-      pub account-refused : account f ≡ refused ++ decimal (r .reply) ++ line-end
-      unfolding account
-      account-refused = ap (λ (k : ℕ). account-by k f) (sym reply-is) ∙ go (r .reply) n
-        where
-          go : (k : ℕ) → (k ≡ 0 → ⊥) → account-by k f ≡ refused ++ decimal k ++ line-end
-          go zero n = absurd (n refl)
-          go (suc k) n = refl
+    pub refused-room : length (refused ++ decimal (r .reply) ++ line-end) ≤ length text
+    refused-room = omega (arith, done .text-room, rw account-refused at (account-length f))
 
-      saved-none : saved f ≡ []
-      unfolding saved
-      saved-none = ap (λ (k : ℕ). saved-by k f) (sym reply-is) ∙ go (r .reply) n
-        where
-          go : (k : ℕ) → (k ≡ 0 → ⊥) → saved-by k f ≡ []
-          go zero n = absurd (n refl)
-          go (suc k) n = refl
+    saved-none : saved f ≡ []
+    unfolding saved
+    saved-none = ap (λ (k : ℕ). saved-by k f) (sym reply-is) ∙ go (r .reply) n
+      where
+        go : (k : ℕ) → (k ≡ 0 → ⊥) → saved-by k f ≡ []
+        go zero n = absurd (n refl)
+        go (suc k) n = refl
 
-      out-same : out′ ≡ out
-      out-same = go (first-of (refusals f)) refl
-        where
-          go : (k : ℕ) → first-of (refusals f) ≡ k → out′ ≡ out
-          go zero e = absurd (n (reply-is ∙ e))
-          go (suc k) e = ap (λ (o : S.Outcome). o .bytes) (answered-as (suc k) e)
+    out-same : out′ ≡ out
+    out-same = go (first-of (refusals f)) refl
+      where
+        go : (k : ℕ) → first-of (refusals f) ≡ k → out′ ≡ out
+        go zero e = absurd (n (reply-is ∙ e))
+        go (suc k) e = ap (λ (o : S.Outcome). o .bytes) (answered-as (suc k) e)
 
-      pub told-refused : {text : List ℕ} {b : ℕ} {text′ : List ℕ} → Put 0 (refused ++ decimal (r .reply) ++ line-end) text b text′
-          → leaving (record { bytes = 0; text = b }) out′ text′ ≡ outcome f out text
-      unfolding outcome
-      told-refused {text} q =
-          let x = put-front q in
-          same-outcome
-          (ap length (sym saved-none)) (x .0 ∙ ap length (sym account-refused))
-          (out-same ∙ ap (λ (l : List ℕ). front l out) (sym saved-none))
-          (x .1 ∙ ap (λ (l : List ℕ). front l text) (sym account-refused))
+    pub told-refused : {b : ℕ} {text′ : List ℕ} → Put 0 (refused ++ decimal (r .reply) ++ line-end) text b text′
+        → leaving (record { bytes = 0; text = b }) out′ text′ ≡ outcome f out text
+    unfolding outcome
+    told-refused q =
+        let x = put-front q in
+        same-outcome
+        (ap length (sym saved-none)) (x .0 ∙ ap length (sym account-refused))
+        (out-same ∙ ap (λ (l : List ℕ). front l out) (sym saved-none))
+        (x .1 ∙ ap (λ (l : List ℕ). front l text) (sym account-refused))
 
-    -- it is not
-    module _ (z : r .reply ≡ 0) where
-      none-refused : first-of (refusals f) ≡ 0
-      none-refused = sym reply-is ∙ z
+  -- it is not
+  module _ (z : r .reply ≡ 0) where
+    none-refused : first-of (refusals f) ≡ 0
+    none-refused = sym reply-is ∙ z
 
-      answer-is : r ≡ salvaged 0 (length (mended f)) (length (dropped-of f)) (come f .missing) (come f .past / 8)
-      answer-is = ap (λ (o : S.Outcome). o .answer) (answered-as 0 none-refused)
+    answer-is : r ≡ salvaged 0 (length (mended f)) (length (dropped-of f)) (come f .missing) (come f .past / 8)
+    answer-is = ap (λ (o : S.Outcome). o .answer) (answered-as 0 none-refused)
 
-      saved-is : saved f ≡ mended f
-      unfolding saved
-      saved-is = ap (λ (k : ℕ). saved-by k f) none-refused
+    saved-is : saved f ≡ mended f
+    unfolding saved
+    saved-is = ap (λ (k : ℕ). saved-by k f) none-refused
 
-      account-is : account f ≡ lines (dropped-of f) ++ counts (come f .missing) (come f .past / 8)
-      unfolding account
-      account-is = ap (λ (k : ℕ). account-by k f) none-refused
+    account-is : account f ≡ lines (dropped-of f) ++ counts (come f .missing) (come f .past / 8)
+    unfolding account
+    account-is = ap (λ (k : ℕ). account-by k f) none-refused
 
-      listed : list′ ≡ front (dropped-of f) list
-      listed = ap (λ (o : S.Outcome). o .list) (answered-as 0 none-refused)
+    listed : list′ ≡ front (dropped-of f) list
+    listed = ap (λ (o : S.Outcome). o .list) (answered-as 0 none-refused)
 
-      pub dropped-in : r .dropped ≤ length list′
-      dropped-in = omega (arith, ap (λ (s : Salvaged). s .dropped) answer-is, ap length listed ∙ length-append (dropped-of f) (drop (length (dropped-of f)) list))
+    pub dropped-in : r .dropped ≤ length list′
+    dropped-in = omega (arith, ap (λ (s : Salvaged). s .dropped) answer-is, ap length listed ∙ length-append (dropped-of f) (drop (length (dropped-of f)) list))
 
-      list-is : take (r .dropped) list′ ≡ dropped-of f
-      list-is = ap (take (r .dropped)) listed ∙ take-at (dropped-of f) _ (r .dropped) (sym (ap (λ (s : Salvaged). s .dropped) answer-is))
+    list-is : take (r .dropped) list′ ≡ dropped-of f
+    list-is = ap (take (r .dropped)) listed ∙ take-at (dropped-of f) _ (r .dropped) (sym (ap (λ (s : Salvaged). s .dropped) answer-is))
 
-      counts-are : counts (r .missing) (r .past) ≡ counts (come f .missing) (come f .past / 8)
-      counts-are = ap (λ (s : Salvaged). counts (s .missing) (s .past)) answer-is
+    counts-are : counts (r .missing) (r .past) ≡ counts (come f .missing) (come f .past / 8)
+    counts-are = ap (λ (s : Salvaged). counts (s .missing) (s .past)) answer-is
 
-      pub listed-numbers : Numbers (take (r .dropped) list′)
-      listed-numbers = rw list-is (numbers 0 (fates-of f) (omega (arith, fates-few f)))
+    pub listed-numbers : Numbers (take (r .dropped) list′)
+    listed-numbers = rw list-is (numbers 0 (fates-of f) (omega (arith, fates-few f)))
 
-      said : account f ≡ lines (take (r .dropped) list′) ++ counts (r .missing) (r .past)
-      said = account-is ∙ ap₂ (λ (l m : List ℕ). l ++ m) (ap lines (sym list-is)) (sym counts-are)
+    said : account f ≡ lines (take (r .dropped) list′) ++ counts (r .missing) (r .past)
+    said = account-is ∙ ap₂ (λ (l m : List ℕ). l ++ m) (ap lines (sym list-is)) (sym counts-are)
 
-      module _ (text : List ℕ) (text-room : 143370 ≤ length text) where
-        all-room : length (lines (take (r .dropped) list′) ++ counts (r .missing) (r .past)) ≤ length text
-        all-room = omega (arith, ap length said, account-length f)
+    going : Going 0 (account f) text 0 text (lines (take (r .dropped) list′) ∷ counts (r .missing) (r .past) ∷ [])
+    going = going-none 0 text _ (said ∙ two-words _ _) (omega (arith, account-length f, done .text-room))
 
-        going : Going 0 (account f) text 0 text (lines (take (r .dropped) list′) ∷ counts (r .missing) (r .past) ∷ [])
-        going = going-none 0 text _ (said ∙ two-words _ _) (omega (arith, account-length f))
+    pub lines-room : length (lines (take (r .dropped) list′)) ≤ length text
+    lines-room = omega (arith, going-room going)
 
-        pub lines-room : length (lines (take (r .dropped) list′)) ≤ length text
-        lines-room = omega (arith, going-room going)
+    pub counts-room : {b : ℕ} {mid : List ℕ} → Put 0 (lines (take (r .dropped) list′)) text b mid → b + length (counts (r .missing) (r .past)) ≤ length mid
+    counts-room q = going-room (going-more going q)
 
-        pub counts-room : {b : ℕ} {mid : List ℕ} → Put 0 (lines (take (r .dropped) list′)) text b mid → b + length (counts (r .missing) (r .past)) ≤ length mid
-        counts-room q = going-room (going-more going q)
-
-        pub told-done : {b c : ℕ} {mid text′ : List ℕ} → Put 0 (lines (take (r .dropped) list′)) text b mid → Put b (counts (r .missing) (r .past)) mid c text′
-            → leaving (record { bytes = r .bytes; text = c }) out′ text′ ≡ outcome f out text
-        unfolding outcome
-        told-done q s =
-            let x = put-front (going-all (going-more (going-more going q) s)) in
-            same-outcome
-            (ap (λ (s : Salvaged). s .bytes) answer-is ∙ ap length (sym saved-is)) (x .0)
-            (ap (λ (o : S.Outcome). o .bytes) (answered-as 0 none-refused) ∙ ap (λ (l : List ℕ). front l out) (sym saved-is))
-            (x .1)
+    pub told-done : {b c : ℕ} {mid text′ : List ℕ} → Put 0 (lines (take (r .dropped) list′)) text b mid → Put b (counts (r .missing) (r .past)) mid c text′
+        → leaving (record { bytes = r .bytes; text = c }) out′ text′ ≡ outcome f out text
+    unfolding outcome
+    told-done q s =
+        let x = put-front (going-all (going-more (going-more going q) s)) in
+        same-outcome
+        (ap (λ (s : Salvaged). s .bytes) answer-is ∙ ap length (sym saved-is)) (x .0)
+        (ap (λ (o : S.Outcome). o .bytes) (answered-as 0 none-refused) ∙ ap (λ (l : List ℕ). front l out) (sym saved-is))
+        (x .1)
 
 -- both lengths are within the rows
 module _ (f out text : List ℕ) {r : Lengths} {out′ text′ : List ℕ} (p : leaving r out′ text′ ≡ outcome f out text) where

@@ -35,10 +35,15 @@ index-2-reason : tie.Need-index-2-reason Inv-loop μ-loop
 index-2-reason c = search needs
 
 add-put-line : tie.Need-add-put-line Inv-loop μ-loop
-add-put-line c = omega (arith, c .before .before .before .before .before .before .pre .0 (c .before .before .before .before .loop .i) (c .before .before .before .loop-test .taken))
+add-put-line c =
+    let more = c .before .before .before in
+    let pass = more .before in
+    omega (arith, pass .before .before .pre .0 (pass .loop .i) (more .loop-test .taken))
 
 put-line-requires : tie.Need-put-line-requires Inv-loop μ-loop
-put-line-requires c κs = telling-room (c .before .before .before .before .loop .inv) (c .before .before .before .loop-test .taken)
+put-line-requires c κs =
+    let more = c .before .before .before in
+    telling-room (more .before .loop .inv) (more .loop-test .taken)
 
 add-i : tie.Need-add-i Inv-loop μ-loop
 add-i c = search needs
@@ -47,7 +52,10 @@ loop-less : tie.Need-loop-less Inv-loop μ-loop
 loop-less c = search needs
 
 loop-again : tie.Need-loop-again Inv-loop μ-loop
-loop-again c = telling-more (c .before .before .before .before .before .before .before .loop .inv) (c .before .before .before .before .before .before .loop-test .taken) (c .before .before .put-line .ensures)
+loop-again c =
+    let put = c .before .before in
+    let more = put .before .before .before .before in
+    telling-more (more .before .loop .inv) (more .loop-test .taken) (put .put-line .ensures)
 
 same-length : tie.Need-same-length Inv-loop μ-loop
 same-length c = c .before .loop .inv .going .long

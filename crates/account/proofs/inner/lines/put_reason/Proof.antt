@@ -11,25 +11,37 @@ slice-aggregate-put : tie.Need-slice-aggregate-put
 slice-aggregate-put c = search needs
 
 put-requires : tie.Need-put-requires
-put-requires c κs = omega (arith, c .before .before .before .before .pre, ap length (why-off (c .before .before .before .before .args .reason) (c .before .before .if1 .taken)))
+put-requires c κs =
+    let off = c .before .before in
+    let s = off .before .before in
+    omega (arith, s .pre, ap length (why-off (s .args .reason) (off .if1 .taken)))
 
 same-length : tie.Need-same-length
 same-length c = search needs
 
 returns : tie.Need-returns
-returns c = rw (why-off (c .before .before .before .before .before .before .before .args .reason) (c .before .before .before .before .before .if1 .taken)) (c .before .before .put .ensures)
+returns c =
+    let put = c .before .before in
+    let off = put .before .before .before in
+    rw (why-off (off .before .before .args .reason) (off .if1 .taken)) (put .put .ensures)
 
 slice-aggregate-put-2 : tie.Need-slice-aggregate-put-2
 slice-aggregate-put-2 c = search needs
 
 put-requires-2 : tie.Need-put-requires-2
-put-requires-2 c κs = omega (arith, c .before .before .before .before .pre, ap length (why-none (c .before .before .before .before .args .reason) (c .before .before .if1 .left)))
+put-requires-2 c κs =
+    let unshaped = c .before .before in
+    let s = unshaped .before .before in
+    omega (arith, s .pre, ap length (why-none (s .args .reason) (unshaped .if1 .left)))
 
 same-length-2 : tie.Need-same-length-2
 same-length-2 c = search needs
 
 returns-2 : tie.Need-returns-2
-returns-2 c = rw (why-none (c .before .before .before .before .before .before .before .args .reason) (c .before .before .before .before .before .if1 .left)) (c .before .before .put2 .ensures)
+returns-2 c =
+    let put = c .before .before in
+    let unshaped = put .before .before .before in
+    rw (why-none (unshaped .before .before .args .reason) (unshaped .if1 .left)) (put .put2 .ensures)
 
 pub put-reason-spec : {M : Type 1} → statement M
 put-reason-spec =
