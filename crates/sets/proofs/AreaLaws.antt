@@ -68,11 +68,11 @@ module _ (p : List ℤ) (cs : List (List ℕ)) where
   pub record Gathered (s i : ℕ) : Type 0 where
     pub within : i ≤ length cs
     pub small : s < 2 ^ 64
-    pub left : Rest filled p cs 0 i
+    pub rest : Rest filled p cs 0 i
     pub is : mod64 (sum set) ≡ mod64 (pos s +ℤ sum (drop i set))
 
   pub gathered-none : Gathered 0 0
-  gathered-none = record { within = omega arith; small = omega arith; left = refl; is = ap mod64 (sym (+ℤ-idl (sum set))) }
+  gathered-none = record { within = omega arith; small = omega arith; rest = refl; is = ap mod64 (sym (+ℤ-idl (sum set))) }
 
   module _ {s i : ℕ} (g : Gathered s i) where
     pub gathered-more : i < length cs → (b r : ℕ) → filled (contour p (span (getD cs i []))) ≡ true → b ≡ mod64 (reported (points (contour p (span (getD cs i []))))) → r ≡ (s + b) % 2 ^ 64 → Gathered r (i + 1)
@@ -80,7 +80,7 @@ module _ (p : List ℤ) (cs : List (List ℕ)) where
     gathered-more h b r n e f = record {
       within = omega arith;
       small = omega arith;
-      left = one-passes filled p cs 0 i (g .left) h n;
+      rest = one-passes filled p cs 0 i (g .rest) h n;
       is = g .is ∙ ap (λ (l : List (List ℤ)). mod64 (pos s +ℤ sum l)) (next-part p cs i h) ∙ added s b r (reported (points (contour p (span (getD cs i []))))) (sum (drop (i + 1) set)) e f;
     }
 

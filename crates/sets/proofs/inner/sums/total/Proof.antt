@@ -59,7 +59,7 @@ returns c =
     let p = l .before .args .points .now in
     let cs = l .before .args .ranges .now in
     let none : filled (part a) ≡ _ = ap not (eq-eqb (count (part a)) 0 (ap count (sym (is-part a)) ∙ c .if1 .taken)) in
-    set-empty (contours p (spans cs)) (one-fails filled p cs 0 (l .loop .i) (l .loop .inv .left) (a .before .loop-test .taken) none)
+    set-empty (contours p (spans cs)) (one-fails filled p cs 0 (l .loop .i) (l .loop .inv .rest) (a .before .loop-test .taken) none)
 
 doubled-area-requires : tie.Need-doubled-area-requires Inv-loop μ-loop
 doubled-area-requires c κs = sym (refused-none (c .before .named .result .now) (in-domain (c .before)) (c .if1 .left))
@@ -95,7 +95,7 @@ returns-2 c =
     let l = c .before .before in
     let p = l .before .args .points .now in
     let cs = l .before .args .ranges .now in
-    set-filled (contours p (spans cs)) _ (all-pass filled p cs 0 (l .loop .i) (l .loop .inv .left) (c .before .loop-test .left))
+    set-filled (contours p (spans cs)) _ (all-pass filled p cs 0 (l .loop .i) (l .loop .inv .rest) (c .before .loop-test .left))
     (toZ-ofZ (sfits-of (c .signed-64 .ok)) ∙ c .signed-64 .ensures ∙ gathered-all p cs (l .loop .inv) (c .before .loop-test .left))
 
 pub total-spec : {M : Type 1} → statement M
