@@ -79,6 +79,10 @@ module _ (k n : ℕ) (small : n < 2 ^ 64) (high : 10 ^ k ≤ n) where
 pub decimal-long : (k n : ℕ) → n < 2 ^ 64 → Fewest 10 1 n k → length (decimal n) ≡ k
 decimal-long k n h f = ap length (sym (decimal-is n k h f)) ∙ digits-length k n
 
+-- and a number below 10 has one
+pub one-digit : (n : ℕ) → n < 10 → Fewest 10 1 n 1
+one-digit n h = (omega arith, h, λ q. absurd (omega arith))
+
 -- one digit is put
 pub one-put : (text : List ℕ) (at n v : ℕ) → at + 1 ≤ length text → v ≡ 48 + n % 10 → Put at (digits 10 1 n) text (at + 1) (set text at v)
 one-put text at n v h e =

@@ -23,12 +23,8 @@ use Rattle.ring.proofs.Listed.{rising-few}
 use Rattle.ring.proofs.Theorems.{ends-in-4n-9, kept-rising}
 use Rattle.report.specs.Text.{decimal, signed, dash}
 use Rattle.report.specs.Listing.{after, area2, cleaned, line, lines}
+use Rattle.report.specs.inside.Lines.{Contours}
 use Rattle.report.proofs.TextLaws.{decimal-length, signed-length}
-
--- contours of the domain
-abbrev pub Contours : List (List ℤ) → Type 0
-Contours [] = Unit {0}
-Contours (c ∷ l) = Contour c (count c) × Contours l
 
 module _ (c : List ℤ) (x : Contour c (count c)) where
   few : count c < 65537

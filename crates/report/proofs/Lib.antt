@@ -1,6 +1,7 @@
 pub mod TextLaws
 pub mod DigitLaws
 pub mod PutLaws
+pub mod CountLaws
 pub mod LineLaws
 pub mod LinesLaws
 pub mod LengthLaws

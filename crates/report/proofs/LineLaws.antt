@@ -1,8 +1,9 @@
 -- The line of a contour, by what was answered of it.
-use mathlib.Core.Path.{_≡_, refl, sym}
+use mathlib.Core.Path.{_≡_, refl, sym, _∙_}
 use mathlib.Core.List.{List, [], _∷_, _++_, append-assoc, append-nil}
 use Prim.Native.Nat.{ℕ}
-use native.Mathlib.Omega.{arith}
+use lib.ListN.{length, take}
+use lib.Seq.{length-take-le}
 use borrow.Author.Tests.{eq-eqb, ne-eqb}
 use lib.IntN.{ℤ}
 use Rattle.grid.specs.Points.{points}
@@ -18,7 +19,6 @@ use Rattle.area.proofs.AnswerLaws.{refused-none}
 use Rattle.clean.specs.declared.cleaning.Cleaned.{Cleaned}
 use Rattle.clean.specs.Outcome.{Lent, lent, finished}
 use Rattle.clean.specs.inside.Settling.{alone}
-use Rattle.clean.specs.Promises.{InDomainWithRoom}
 use Rattle.buffer.specs.Sets.{joined}
 use Rattle.report.specs.Text.{decimal, signed, dash, space, line-end}
 use Rattle.report.specs.Listing.{after, area2, cleaned, line}
@@ -72,14 +72,9 @@ line-is k c out r e =
     let l : Lent = lent [] [] [] out in
     rw (e, finished-text c (w .end) (w .tally) l, finished-decisions c (w .end) (w .tally) l) (simp (append-assoc, append-nil))
 
--- a contour with room for cleaning it
-pub with-room : (c : List ℤ) (next prev mark : List ℕ) (out : List ℤ) → Cleanable c next prev mark out → InDomainWithRoom c (lent next prev mark out)
-with-room c next prev mark out x = record {
-  even-count = x .contour .even;
-  at-most-65536 = x .contour .few;
-  on-the-grid = x .contour .on;
-  room-in-next = x .in-next;
-  room-in-prev = x .in-prev;
-  room-in-mark = x .in-mark;
-  room-in-out = omega (arith, x .contour .even, x .in-out);
-}
+-- the parts of the scratch that are lent on are as long as the contour
+pub lent-parts : (c : List ℤ) (next prev mark : List ℕ) → Cleanable c next prev mark
+    → Contour c (length (take (count c) mark)) × ((length (take (count c) next) ≡ length (take (count c) mark)) × (length (take (count c) prev) ≡ length (take (count c) mark)))
+lent-parts c next prev mark x =
+    let m = length-take-le (count c) mark (x .in-mark) in
+    (rw m (x .contour), (length-take-le (count c) next (x .in-next) ∙ sym m, length-take-le (count c) prev (x .in-prev) ∙ sym m))

@@ -1,58 +1,104 @@
--- The lines of contours that ranges name, one behind the other.
-use mathlib.Core.Path.{_≡_, sym, _∙_, ap}
+-- The lines of a file's contours, one behind the other.
+use mathlib.Core.Path.{_≡_, sym, _∙_, ap, ap₂, subst}
 use mathlib.Core.List.{List, [], _∷_, append-nil, append-assoc}
-use Prim.Native.Nat.{ℕ, suc, _+_, _≤_, _<_}
+use Prim.Native.Nat.{ℕ, suc, _+_, _*_, _≤_, _<_}
 use native.Mathlib.Omega.{arith}
 use native.Mathlib.Numerals.{add-one}
-use lib.ListN.{length, getD, drop}
-use lib.Seq.{drop-cons, drop-length}
+use lib.ListN.{length, take, drop}
+use lib.Seq.{drop-drop, take-at}
 use lib.IntN.{ℤ}
-use Rattle.buffer.specs.Spans.{span, spans}
-use Rattle.buffer.specs.Sets.{joined, contour, contours}
-use Rattle.buffer.proofs.PartLaws.{part-long, part-contour}
+use Rattle.grid.specs.Domain.{count, Contour}
+use Rattle.rows.specs.Rows.{placed}
+use Rattle.rows.proofs.RowLaws.{placed-front}
+use Rattle.buffer.specs.Sets.{joined}
+use Rattle.setfile.specs.Format.{Entry, contours-of}
+use Rattle.setfile.specs.inside.Bytes.{decoded, held}
+use Rattle.setfile.specs.inside.Reading.{contained}
+use Rattle.setfile.proofs.ReadLaws.{decoded-length}
+use Rattle.setfile.proofs.RestLaws.{Rest, Next, next, done, rest-all}
 use Rattle.report.specs.Listing.{line, lines}
-use Rattle.report.specs.inside.Lines.{Put, Cleanable, Listable}
+use Rattle.report.specs.inside.Lines.{Put, Contours, Cleanable, Listable}
 use Rattle.report.proofs.PutLaws.{Going, going-none, going-room, going-more, going-all, going-same}
 
--- a part that a range names can be cleaned
-module _ (p : List ℤ) (ranges : List (List ℕ)) (next prev mark : List ℕ) (out : List ℤ) (x : Listable p ranges next prev mark out) (k : ℕ) (h : k < length ranges) where
-  pub part-cleanable : (next′ prev′ mark′ : List ℕ) (out′ : List ℤ) → length next′ ≡ length next → length prev′ ≡ length prev → length mark′ ≡ length mark → length out′ ≡ length out
-      → Cleanable (contour p (span (getD ranges k []))) next′ prev′ mark′ out′
-  part-cleanable next′ prev′ mark′ out′ a b c d =
-      let n = x .names k h in
-      let long = part-long p ranges k (x .domain) n in
-      record {
-        contour = part-contour p ranges k (x .domain) n;
-        in-next = omega (arith, n .fits, x .domain .even, x .in-next);
-        in-prev = omega (arith, n .fits, x .domain .even, x .in-prev);
-        in-mark = omega (arith, n .fits, x .domain .even, x .in-mark);
-        in-out = omega (arith, n .fits, x .in-out);
-      }
+-- the contour that stands at a position of a file
+abbrev pub contour-at : List ℕ → ℕ → List ℤ
+contour-at f at = decoded (2 * held (drop at f)) (drop 2 (drop at f))
 
--- the lines of the contours from number i on are left
-pub record Lining (p : List ℤ) (ranges : List (List ℕ)) (at : ℕ) (text₀ : List ℕ) (behind : ℕ) (text : List ℕ) (i : ℕ) : Type 0 where
-  pub high : i ≤ length ranges
-  pub going : Going at (lines 1 (contours p (spans ranges))) text₀ behind text (lines (suc i) (contours p (spans (drop i ranges))) ∷ [])
+-- it is what was written in front of a row
+pub contour-read : (f : List ℕ) (at k : ℕ) (row : List ℤ) → k ≡ held (drop at f)
+    → take (2 * k) (placed 0 (decoded (2 * k) (drop (at + 2) f)) row) ≡ contour-at f at
+contour-read f at k row e =
+    let c : List ℤ = decoded (2 * k) (drop (at + 2) f) in
+    ap (take (2 * k)) (placed-front row c) ∙ take-at c _ (2 * k) (decoded-length (2 * k) (drop (at + 2) f))
+    ∙ ap₂ (λ (k : ℕ) (g : List ℕ). decoded (2 * k) g) e (sym (drop-drop 2 at f))
 
-pub lining-none : (p : List ℤ) (ranges : List (List ℕ)) (at : ℕ) (text : List ℕ) → at + length (lines 1 (contours p (spans ranges))) ≤ length text → Lining p ranges at text at text 0
+-- behind i of a file's n contours, from position at on, the lines of the others are left
+pub record Lining (f : List ℕ) (n from : ℕ) (text₀ : List ℕ) (behind : ℕ) (text : List ℕ) (i at : ℕ) : Type 0 where
+  pub low : 2 ≤ at
+  pub high : i ≤ n
+  pub left : List Entry
+  pub rest : Rest f n i at left
+  pub sound : Contours (contours-of left)
+  pub going : Going from (lines 1 (contours-of (contained f))) text₀ behind text (lines (suc i) (contours-of left) ∷ [])
+
+pub lining-none : (f : List ℕ) (n from : ℕ) (text : List ℕ) → Listable f n → from + length (lines 1 (contours-of (contained f))) ≤ length text
+    → Lining f n from text from text 0 2
 unfolding joined
-lining-none p ranges at text h = record { high = omega arith; going = going-none at text _ (sym (append-nil _)) h }
+lining-none f n from text x h = record {
+  low = omega arith;
+  high = omega arith;
+  left = contained f;
+  rest = rest-all (x .readable);
+  sound = x .sound;
+  going = going-none from text _ (sym (append-nil _)) h;
+}
 
-module _ {p : List ℤ} {ranges : List (List ℕ)} {at : ℕ} {text₀ : List ℕ} {behind : ℕ} {text : List ℕ} {i : ℕ} (x : Lining p ranges at text₀ behind text i) where
-  module _ (h : i < length ranges) where
-    lining-next : Going at (lines 1 (contours p (spans ranges))) text₀ behind text (line (i + 1) (contour p (span (getD ranges i []))) ∷ lines (suc (i + 1)) (contours p (spans (drop (i + 1) ranges))) ∷ [])
+module _ {f : List ℕ} {n from : ℕ} {text₀ : List ℕ} {behind : ℕ} {text : List ℕ} {i at : ℕ} (x : Lining f n from text₀ behind text i at) where
+  module _ (h : i < n) where
+    coming : Next f n i at (x .left)
+    coming = next (x .rest) h
+
+    -- the contour that is met ends within the file
+    pub lining-within : at + (2 + 8 * held (drop at f)) ≤ length f
+    lining-within = coming .left .within
+
+    all-sound : Contour (contour-at f at) (count (contour-at f at)) × Contours (contours-of (coming .rest))
+    all-sound = subst (λ (l : List Entry). Contours (contours-of l)) (coming .is) (x .sound)
+
+    pub lining-cleanable : length f ≤ 65536 → (next prev mark : List ℕ) → 8191 ≤ length next → 8191 ≤ length prev → 8191 ≤ length mark
+        → Cleanable (contour-at f at) next prev mark
+    lining-cleanable few next prev mark a b c =
+        let k : count (contour-at f at) ≤ 8191 = omega (
+          arith,
+          all-sound .0 .even,
+          decoded-length (2 * held (drop at f)) (drop 2 (drop at f)),
+          lining-within,
+          x .low,
+        ) in
+        record { contour = all-sound .0; in-next = omega arith; in-prev = omega arith; in-mark = omega arith }
+
+    lining-next : Going from (lines 1 (contours-of (contained f))) text₀ behind text (line (i + 1) (contour-at f at) ∷ lines (suc (i + 1)) (contours-of (coming .rest)) ∷ [])
     unfolding joined lines
-    lining-next = going-same _ (rw (add-one i, drop-cons ranges i [] h) (simp append-assoc)) (x .going)
+    lining-next =
+        going-same _ (rw (add-one i) (simp append-assoc))
+        (subst (λ (l : List Entry). Going from (lines 1 (contours-of (contained f))) text₀ behind text (lines (suc i) (contours-of l) ∷ [])) (coming .is) (x .going))
 
-    pub lining-room : behind + length (line (i + 1) (contour p (span (getD ranges i [])))) ≤ length text
+    pub lining-room : behind + length (line (i + 1) (contour-at f at)) ≤ length text
     lining-room = going-room lining-next
 
-    pub lining-more : {r : ℕ} {exit : List ℕ} → Put behind (line (i + 1) (contour p (span (getD ranges i [])))) text r exit → Lining p ranges at text₀ r exit (i + 1)
-    lining-more q = record { high = omega arith; going = going-more lining-next q }
+    pub lining-more : {r : ℕ} {exit : List ℕ} → Put behind (line (i + 1) (contour-at f at)) text r exit → (k : ℕ) → k ≡ held (drop at f)
+        → Lining f n from text₀ r exit (i + 1) (at + (2 + 8 * k))
+    lining-more q k e = record {
+      low = omega (arith, x .low);
+      high = omega arith;
+      left = coming .rest;
+      rest = subst (λ (k : ℕ). Rest f n (i + 1) (at + (2 + 8 * k)) (coming .rest)) (sym e) (coming .left);
+      sound = all-sound .1;
+      going = going-more lining-next q;
+    }
 
-  pub lining-all : length ranges ≤ i → Put at (lines 1 (contours p (spans ranges))) text₀ behind text
+  pub lining-all : n ≤ i → Put from (lines 1 (contours-of (contained f))) text₀ behind text
   unfolding joined lines
   lining-all h =
-      let n : i ≡ length ranges = omega (arith, x .high) in
-      let e : drop i ranges ≡ [] = ap (λ (k : ℕ). drop k ranges) n ∙ drop-length ranges in
+      let e : x .left ≡ [] = done (x .rest) (omega (arith, x .high)) in
       going-all (going-same [] (rw e) (x .going))

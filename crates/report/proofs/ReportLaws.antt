@@ -1,38 +1,32 @@
--- What the listing of a file is, by what reading it answered.
-use mathlib.Core.Path.{_≡_, refl, sym, _∙_, ap}
+-- What the listing of a file is, by how it was judged.
+use mathlib.Core.Path.{_≡_, refl, sym, _∙_, ap, subst}
 use mathlib.Core.Bool.{Bool, true, false, not}
-use mathlib.Core.List.{List, [], _∷_, _++_, map}
-use Prim.Native.Nat.{ℕ, zero, suc, _*_, _≤_}
+use mathlib.Core.List.{List, [], _∷_, _++_}
+use Prim.Native.Nat.{ℕ, zero, suc, _+_, _*_, _%_, _≤_}
 use native.Mathlib.Omega.{arith}
 use lib.Dec.{eqb·suc-zero, ltb}
-use lib.ListN.{length, take, drop, length-append, length-map}
-use lib.Seq.{take-at, take-append-seam, drop-append-seam}
+use lib.ListN.{length, length-append, length-map}
+use lib.Seq.{take-append-seam, drop-append-seam}
 use lib.IntN.{ℤ}
-use borrow.Author.Tests.{ltb-false, le-leb, not-false}
+use borrow.Author.Tests.{ltb-false, not-false}
 use Rattle.grid.specs.Limits.{most, all-on-grid}
-use Rattle.replies.specs.Ladder.{Rung, first-of, so-far, room}
-use Rattle.grid.specs.Domain.{count}
-use Rattle.replies.proofs.LadderLaws.{first-is, below-clear, below-held, room-clear}
+use Rattle.replies.specs.Ladder.{first-of, so-far}
+use Rattle.replies.proofs.LadderLaws.{first-is}
 use Rattle.replies.proofs.LadderLaws.First.{here}
 use Rattle.grid.proofs.LimitLaws.{on-taken, on-dropped}
-use Rattle.buffer.specs.declared.answer.Packed.{Packed}
-use Rattle.buffer.specs.declared.ranges.Span.{Span}
-use Rattle.buffer.specs.Spans.{spans, row, rows, sound}
-use Rattle.buffer.specs.Sets.{joined, contours, contour-spans, shape-spans, Even}
-use Rattle.buffer.specs.Answers.{Outcome, leaving, enough, stored}
-use Rattle.buffer.specs.Answers as A
-use Rattle.buffer.proofs.SpanLaws.{range-within}
-use Rattle.buffer.proofs.WrittenLaws.{spans-rows}
-use Rattle.buffer.proofs.Theorems.{packing-then-unpacking-gives-back-every-contour, points-total, what-is-packed-is-sound}
-use Rattle.setfile.specs.Format.{Entry, contours-of, shapes-of, parsed, damage, read-contours}
-use Rattle.buffer.proofs.SetLaws.{laid-length}
-use Rattle.setfile.specs.Reading.{refusals, outcome}
+use Rattle.buffer.specs.Sets.{joined, Even}
+use Rattle.setfile.specs.declared.inner.judging.Judged.{Judged}
+use Rattle.setfile.specs.Format.{Entry, contours-of, Parsed, promised, parsed, damage, read-contours}
+use Rattle.setfile.specs.Reading.{refusals}
+use Rattle.setfile.specs.inside.Bytes.{Bytes, pair}
+use Rattle.setfile.specs.inside.Reading.{contained, refusals-of, Judgement}
+use Rattle.setfile.proofs.ByteLaws.{promised-by-bytes, parsed-by-bytes}
+use Rattle.setfile.proofs.SizeLaws.{promised-few, carried, carried-promised}
 use Rattle.report.specs.Text.{decimal, line-end, heading, refused}
 use Rattle.report.specs.Listing.{lines, listing}
-use Rattle.report.specs.inside.Lines.{Small}
+use Rattle.report.specs.inside.Lines.{Contours, Listable}
 use Rattle.report.proofs.TextLaws.{decimal-short}
-use Rattle.setfile.proofs.SizeLaws.{Carried, carried}
-use Rattle.report.proofs.LengthLaws.{Contours, lines-length}
+use Rattle.report.proofs.LengthLaws.{lines-length}
 
 -- a file that is not refused
 clear-parts : (a c : Bool) (d : ℕ) → first-of (((a, 2) ∷ []) ++ so-far d ++ ((c, 3) ∷ [])) ≡ 0 → (a ≡ false) × (c ≡ false)
@@ -65,6 +59,10 @@ all-contours (c ∷ l) x e h =
       all-contours l (x .1) (ap all-on-grid (sym (drop-append-seam c (joined l))) ∙ on-dropped (length c) (c ++ joined l) e) (omega arith),
     )
 
+-- the contours of a file that is not refused are
+sound-contours : (f : List ℕ) → Accepted f → Contours (contours-of (read-contours (parsed f)))
+sound-contours f a = let c = carried f (a .few) in all-contours (contours-of (read-contours (parsed f))) (c .even) (a .on) (c .numbers-few)
+
 -- the listing, by the first refusal
 listing-refused : (f : List ℕ) (k : ℕ) → k ≡ first-of (refusals f) → (k ≡ 0 → ⊥) → listing f ≡ refused ++ decimal k ++ line-end
 unfolding listing
@@ -75,127 +73,47 @@ listing-done : (f : List ℕ) → first-of (refusals f) ≡ 0 → listing f ≡ 
 unfolding listing
 listing-done f e = rw (e, listing)
 
-pub listing-length : (f : List ℕ) → length (listing f) ≤ 184312
-listing-length f = go (first-of (refusals f)) refl
+-- it has at most 45 characters for each contour that the file promises
+pub listing-promised : (f : List ℕ) → length (listing f) ≤ 37 + 45 * promised f
+listing-promised f = go (first-of (refusals f)) refl
   where
-    go : (k : ℕ) → first-of (refusals f) ≡ k → length (listing f) ≤ 184312
+    go : (k : ℕ) → first-of (refusals f) ≡ k → length (listing f) ≤ 37 + 45 * promised f
     go (suc k) e = rw (listing-refused f (suc k) (sym e) (λ z. omega arith)) (simp length-append (omega (arith, decimal-short (suc k))))
     go zero e =
-        let a = accepted f e in
-        let c = carried f (a .few) in
         let l : List (List ℤ) = contours-of (read-contours (parsed f)) in
-        let n : length l ≤ 4095 = omega (arith, c .contours-few, length-map (read-contours (parsed f)) (λ (e : Entry). e .points)) in
-        let h = lines-length 1 l (all-contours l (c .even) (a .on) (c .numbers-few)) (omega arith) in
+        let n : length l ≤ promised f = omega (arith, carried-promised f, length-map (read-contours (parsed f)) (λ (e : Entry). e .points)) in
+        let h = lines-length 1 l (sound-contours f (accepted f e)) (omega (arith, promised-few f)) in
         rw (listing-done f e) (simp length-append (omega arith))
 
--- a file was read into rows of which each has room for all that a file can carry
-pub record Read (f : List ℕ) (out : List ℤ) (rc rs : List (List ℕ)) (r : Packed) (p′ : List ℤ) (c′ s′ : List (List ℕ)) : Type 0 where
-  pub out-long : length out ≡ 16382
-  pub rc-long : length rc ≡ 4095
-  pub rs-long : length rs ≡ 4095
-  pub is : leaving r p′ c′ s′ ≡ outcome f out rc rs
+pub listing-length : (f : List ℕ) → length (listing f) ≤ 184312
+listing-length f = omega (arith, listing-promised f, promised-few f)
 
-module _ {f : List ℕ} {out : List ℤ} {rc rs : List (List ℕ)} {r : Packed} {p′ : List ℤ} {c′ s′ : List (List ℕ)} (x : Read f out rc rs r p′ c′ s′) where
-  abbrev entries : List Entry
-  entries = read-contours (parsed f)
+-- the same, by the bytes of its head
+pub listing-by-bytes : (f : List ℕ) → Bytes f → 2 ≤ length f → (n : ℕ) → n ≡ pair f % 4096 → (length (listing f) ≤ 37 + 45 * n) × (n ≤ 4095)
+listing-by-bytes f bytes h n e =
+    let p : n ≡ promised f = e ∙ sym (promised-by-bytes f bytes h) in
+    (omega (arith, p, listing-promised f), omega (arith, p, promised-few f))
 
-  abbrev all-points : List ℤ
-  all-points = joined (contours-of entries)
+-- a file that was judged
+module _ (f : List ℕ) (bytes : Bytes f) (j : Judged) (x : Judgement f j) where
+  reply-is : j .reply ≡ first-of (refusals f)
+  reply-is = x .reply ∙ ap (λ (w : Parsed). first-of (refusals-of (length f) w)) (sym (parsed-by-bytes f bytes))
 
-  abbrev all-ranges : List Span
-  all-ranges = contour-spans (contours-of entries)
+  pub judged-refused : (j .reply ≡ 0 → ⊥) → listing f ≡ refused ++ decimal (j .reply) ++ line-end
+  judged-refused n = listing-refused f (j .reply) reply-is n
 
-  abbrev all-shapes : List Span
-  all-shapes = shape-spans (shapes-of entries)
-
-  ranges-count : length all-ranges ≡ length entries
-  ranges-count = laid-length 0 (map count (contours-of entries)) ∙ length-map (contours-of entries) count ∙ length-map entries (λ (e : Entry). e .points)
-
-  shapes-count : length all-shapes ≡ length (shapes-of entries)
-  shapes-count = laid-length 0 (map length (shapes-of entries)) ∙ length-map (shapes-of entries) length
-
-  roomy : Carried entries → enough all-points all-ranges all-shapes out rc rs ≡ true
-  roomy h =
-      rw (
-        le-leb (length all-points) (length out) (omega (arith, h .numbers-few, x .out-long)),
-        le-leb (length all-ranges) (length rc) (omega (arith, h .contours-few, ranges-count, x .rc-long)),
-        le-leb (length all-shapes) (length rs) (omega (arith, h .shapes-few, shapes-count, x .rs-long)),
-      )
-
-  -- so none is refused for want of room
-  first-read : first-of (refusals f ++ room (enough all-points all-ranges all-shapes out rc rs)) ≡ first-of (refusals f)
-  first-read = go (first-of (refusals f)) refl
-    where
-      go : (k : ℕ) → first-of (refusals f) ≡ k → first-of (refusals f ++ room (enough all-points all-ranges all-shapes out rc rs)) ≡ first-of (refusals f)
-      go zero e = below-clear (refusals f) _ (room-clear _ (roomy (carried f (accepted f e .few))))
-      go (suc k) e = below-held (refusals f) _ (λ z. omega arith)
-
-  read-as : (k : ℕ) → first-of (refusals f) ≡ k → leaving r p′ c′ s′ ≡ A.outcome k all-points all-ranges all-shapes out rc rs
-  unfolding stored
-  read-as k h = x .is ∙ ap (λ (n : ℕ). A.outcome n all-points all-ranges all-shapes out rc rs) (first-read ∙ h)
-
-  reply-is : r .reply ≡ first-of (refusals f)
-  reply-is = go (first-of (refusals f)) refl
-    where
-      go : (k : ℕ) → first-of (refusals f) ≡ k → r .reply ≡ first-of (refusals f)
-      go zero h = ap (λ (w : Outcome). w .answer .reply) (read-as 0 h) ∙ sym h
-      go (suc k) h = ap (λ (w : Outcome). w .answer .reply) (read-as (suc k) h) ∙ sym h
-
-  pub report-refused : (r .reply ≡ 0 → ⊥) → listing f ≡ refused ++ decimal (r .reply) ++ line-end
-  report-refused n = listing-refused f (r .reply) reply-is n
-
-  module _ (z : r .reply ≡ 0) where
+  module _ (z : j .reply ≡ 0) where
     clear : first-of (refusals f) ≡ 0
     clear = sym reply-is ∙ z
 
-    held : Carried entries
-    held = carried f (accepted f clear .few)
+    pub judged-listed : listing f ≡ heading ++ lines 1 (contours-of (contained f))
+    judged-listed = listing-done f clear ∙ ap (λ (w : Parsed). heading ++ lines 1 (contours-of (read-contours w))) (parsed-by-bytes f bytes)
 
-    even : length all-points ≡ 2 * count all-points
-    even = omega (arith, points-total (contours-of entries) (held .even))
-
-    points-counted : r .points ≡ count all-points
-    points-counted = ap (λ (w : Outcome). w .answer .points) (read-as 0 clear)
-
-    contours-counted : r .contours ≡ length all-ranges
-    contours-counted = ap (λ (w : Outcome). w .answer .contours) (read-as 0 clear)
-
-    pub numbers-few : 2 * r .points ≤ 16382
-    numbers-few = omega (arith, points-counted, even, held .numbers-few)
-
-    pub numbers-in : 2 * r .points ≤ length p′
-    numbers-in =
-        omega (arith, points-counted, even, ap length (ap (λ (w : Outcome). w .points) (read-as 0 clear)) ∙ length-append all-points (drop (length all-points) out))
-
-    pub contours-in : r .contours ≤ length c′
-    contours-in =
-        omega (
-          arith,
-          contours-counted,
-          length-map all-ranges row,
-          ap length (ap (λ (w : Outcome). w .contours) (read-as 0 clear)) ∙ length-append (rows all-ranges) (drop (length (rows all-ranges)) rc),
-        )
-
-    points-are : take (2 * r .points) p′ ≡ all-points
-    points-are =
-        let n : length all-points ≡ 2 * r .points = omega (arith, points-counted, even) in
-        ap (take (2 * r .points)) (ap (λ (w : Outcome). w .points) (read-as 0 clear)) ∙ take-at all-points _ (2 * r .points) n
-
-    ranges-are : take (r .contours) c′ ≡ rows all-ranges
-    ranges-are =
-        ap (take (r .contours)) (ap (λ (w : Outcome). w .contours) (read-as 0 clear)) ∙ take-at (rows all-ranges) _ (r .contours) (length-map all-ranges row ∙ sym contours-counted)
-
-    pub report-table : listing f ≡ heading ++ lines 1 (contours (take (2 * r .points) p′) (spans (take (r .contours) c′)))
-    report-table =
-        rw (points-are, ranges-are, spans-rows all-ranges, packing-then-unpacking-gives-back-every-contour (contours-of entries) (held .even)) (listing-done f clear)
-
-    pub report-small : Small (take (2 * r .points) p′) (take (r .contours) c′)
-    unfolding most
-    report-small = rw (points-are, ranges-are) (record {
-      domain = record { even = even; few = omega (arith, even, held .numbers-few); on = accepted f clear .on };
-      few = omega (arith, even, held .numbers-few);
-      names = λ k h.
-          let s : sound (spans (rows all-ranges)) (count all-points) ≡ true = rw (spans-rows all-ranges) (what-is-packed-is-sound (contours-of entries) (held .even)) in
-          let w = range-within (rows all-ranges) (count all-points) k s h in
-          record { there = h; forward = w .forward; fits = omega (arith, w .ends, even) };
-    })
+    pub judged-listable : Listable f (j .contours)
+    judged-listable =
+        let a = accepted f clear in
+        record {
+          readable = x .counts z .readable;
+          few = a .few;
+          sound = subst (λ (w : Parsed). Contours (contours-of (read-contours w))) (parsed-by-bytes f bytes) (sound-contours f a);
+        }

@@ -4,6 +4,9 @@ pub mod inner;
 // Room for the longest listing: the heading, and 4,095 lines of 45 characters.
 pub const TEXT: usize = 184312;
 
+// Room for the listing of a file of at most 500 contours.
+pub const SHORT: usize = 22537;
+
 // The most points that a file can carry.
 const POINTS: usize = 8191;
 

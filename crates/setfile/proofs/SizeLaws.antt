@@ -102,3 +102,16 @@ carried f h = go (head-damage f)
     go : (r : ℕ) → Carried (read-contours (elim r [ suc r ↦ damaged (suc r) | zero ↦ contours-in (promised f) (drop 16 (bits f)) ]))
     go (suc r) = none
     go zero = found (contours-damage (promised f) (drop 16 (bits f)))
+
+-- and no more than are promised
+pub carried-promised : (f : List ℕ) → length (read-contours (parsed f)) ≤ promised f
+unfolding parsed
+carried-promised f = go (head-damage f)
+  where
+    found : (r : ℕ) → length (read-contours (unless r (come f .contours))) ≤ promised f
+    found zero = omega (arith, complete-sized (promised f) (drop 16 (bits f)) .number)
+    found (suc r) = omega arith
+
+    go : (r : ℕ) → length (read-contours (elim r [ suc r ↦ damaged (suc r) | zero ↦ contours-in (promised f) (drop 16 (bits f)) ])) ≤ promised f
+    go (suc r) = omega arith
+    go zero = found (contours-damage (promised f) (drop 16 (bits f)))

@@ -2,7 +2,7 @@
 use mathlib.Core.Path.{_≡_}
 use mathlib.Core.Bool.{true, false}
 use mathlib.Core.List.{List, [], _∷_, _++_}
-use Prim.Native.Nat.{ℕ, _+_, _≤_, _<_}
+use Prim.Native.Nat.{ℕ, _+_, _≤_}
 use lib.Dec.{eqb}
 use lib.ListN.{length}
 use lib.IntN.{ℤ}
@@ -10,7 +10,9 @@ use Rattle.grid.specs.Domain.{count, Contour}
 use Rattle.clean.specs.declared.cleaning.Cleaned.{Cleaned}
 use Rattle.rows.specs.Rows.{placed}
 use Rattle.buffer.specs.Sets.{joined}
-use Rattle.buffer.specs.inside.Ranges.{Names}
+use Rattle.setfile.specs.Format.{contours-of}
+use Rattle.setfile.specs.Reading.{most-bytes}
+use Rattle.setfile.specs.inside.Reading.{contained, Readable}
 use Rattle.report.specs.Text.{decimal, dash, space, line-end}
 use Rattle.report.specs.Listing.{area2}
 
@@ -31,25 +33,27 @@ kept-text r = elim (eqb (r .reply) 0) [ true ↦ decimal (r .points) | false ↦
 unfoldable pub figures : ℕ → List ℤ → Cleaned → List ℕ
 figures k c r = joined (cell k ∷ cell (count c) ∷ (kept-text r ++ space) ∷ cell (r .decisions) ∷ (area2 c ++ line-end) ∷ [])
 
+-- contours of the domain
+abbrev pub Contours : List (List ℤ) → Type 0
+Contours [] = Unit {0}
+Contours (c ∷ l) = Contour c (count c) × Contours l
+
 -- a contour of the domain, with room for cleaning it
-pub record Cleanable (c : List ℤ) (next prev mark : List ℕ) (out : List ℤ) : Type 0 where
+pub record Cleanable (c : List ℤ) (next prev mark : List ℕ) : Type 0 where
   pub contour : Contour c (count c)
   pub in-next : count c ≤ length next
   pub in-prev : count c ≤ length prev
   pub in-mark : count c ≤ length mark
-  pub in-out : length c ≤ length out
 
--- points of the domain, ranges that each name a part of them, and room for cleaning any such part
-pub record Listable (points : List ℤ) (ranges : List (List ℕ)) (next prev mark : List ℕ) (out : List ℤ) : Type 0 where
-  pub domain : Contour points (count points)
-  pub names : (k : ℕ) → k < length ranges → Names points ranges k
-  pub in-next : count points ≤ length next
-  pub in-prev : count points ≤ length prev
-  pub in-mark : count points ≤ length mark
-  pub in-out : length points ≤ length out
+-- a file of n contours that is not refused
+pub record Listable (f : List ℕ) (n : ℕ) : Type 0 where
+  pub readable : Readable f n
+  pub few : length f ≤ most-bytes
+  pub sound : Contours (contours-of (contained f))
 
--- points of the domain, as many as a file can carry, and ranges that each name a part of them
-pub record Small (points : List ℤ) (ranges : List (List ℕ)) : Type 0 where
-  pub domain : Contour points (count points)
-  pub few : count points ≤ 8191
-  pub names : (k : ℕ) → k < length ranges → Names points ranges k
+-- room for the points of any file, and for cleaning them
+pub record Roomy (points : List ℤ) (next prev mark : List ℕ) : Type 0 where
+  pub in-points : 16382 ≤ length points
+  pub in-next : 8191 ≤ length next
+  pub in-prev : 8191 ≤ length prev
+  pub in-mark : 8191 ≤ length mark

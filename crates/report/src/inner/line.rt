@@ -6,15 +6,19 @@ ghost use Rattle.grid.specs.Domain.{count, Contour};
 ghost use Rattle.report.specs.Text.{space, line-end};
 ghost use Rattle.report.specs.Listing.{area2, line};
 ghost use Rattle.report.specs.inside.Lines.{Put, cell, kept-text, figures, Cleanable};
+use crate::inner::counting;
 use crate::inner::text;
 use clean::Cleaned;
-use ring::Rule;
 
-// Puts a number, and a space behind it.
+// Puts a number, and a space behind it. Most have one digit, which takes no call.
 fn put_cell(text: &mut [u8], at: usize, n: usize) -> usize
     requires { ⌜ at + length (cell n) ≤ length (now text) ⌝ }
     ensures { λ r. ⌜ Put at (cell n) (now (text .entry)) r (now (text .exit)) ⌝ }
 {
+    if n < 10 {
+        let one = text::put_one(text, at, n as u32);
+        return text::put(text, one, b" ");
+    }
     let behind = text::put_number(text, at, n as u64);
     text::put(text, behind, b" ")
 }
@@ -70,24 +74,16 @@ pub fn put(
     next: &mut [u32],
     prev: &mut [u32],
     mark: &mut [u8],
-    out: &mut [i32],
     text: &mut [u8],
     at: usize,
 ) -> usize
-    requires { ⌜ Cleanable (now contour) (now next) (now prev) (now mark) (now out) ⌝ }
+    requires { ⌜ Cleanable (now contour) (now next) (now prev) (now mark) ⌝ }
     requires { ⌜ at + length (line k (now contour)) ≤ length (now text) ⌝ }
     ensures { λ r. ⌜
         Put at (line k (now (contour .entry))) (now (text .entry)) r (now (text .exit))
         ⌝ }
 {
     let n = contour.len() / 2;
-    let cleaned = clean::inner::settling::settle(
-        Rule::Collinear,
-        contour,
-        &mut next[..n],
-        &mut prev[..n],
-        &mut mark[..n],
-        out,
-    );
+    let cleaned = counting::answer(contour, &mut next[..n], &mut prev[..n], &mut mark[..n]);
     put_figures(text, at, k, contour, cleaned)
 }

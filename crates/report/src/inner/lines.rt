@@ -1,37 +1,43 @@
 // The lines of all contours.
 ghost use Prim.Native.Nat.{_+_, _≤_};
 ghost use lib.ListN.{length};
-ghost use Rattle.buffer.specs.Spans.{spans};
-ghost use Rattle.buffer.specs.Sets.{contours};
+ghost use Rattle.setfile.specs.Format.{contours-of};
+ghost use Rattle.setfile.specs.inside.Reading.{contained};
 ghost use Rattle.report.specs.Listing.{lines as lines-of};
-ghost use Rattle.report.specs.inside.Lines.{Put, Listable};
+ghost use Rattle.report.specs.inside.Lines.{Put, Listable, Roomy};
 use crate::inner::line;
+use setfile::inner::fields;
+use setfile::inner::filling;
 
-// Cleans each contour by itself, and puts its line.
+// Reads each of n contours from the file, cleans it by itself, and puts its line.
 pub fn put(
-    points: &[i32],
-    ranges: &[[usize; 2]],
+    bytes: &[u8],
+    n: usize,
+    points: &mut [i32],
     next: &mut [u32],
     prev: &mut [u32],
     mark: &mut [u8],
-    out: &mut [i32],
     text: &mut [u8],
-    at: usize,
+    from: usize,
 ) -> usize
-    requires { ⌜ Listable (now points) (now ranges) (now next) (now prev) (now mark) (now out) ⌝ }
+    requires { ⌜ Listable (now bytes) n × Roomy (now points) (now next) (now prev) (now mark) ⌝ }
     requires { ⌜
-        at + length (lines-of 1 (contours (now points) (spans (now ranges)))) ≤ length (now text)
+        from + length (lines-of 1 (contours-of (contained (now bytes)))) ≤ length (now text)
         ⌝ }
     ensures { λ r. ⌜
-        Put at (lines-of 1 (contours (now (points .entry)) (spans (now (ranges .entry)))))
+        Put from (lines-of 1 (contours-of (contained (now (bytes .entry)))))
         (now (text .entry)) r (now (text .exit))
         ⌝ }
 {
-    let mut behind = at;
+    let mut behind = from;
+    let mut at: usize = 2;
     let mut i: usize = 0;
-    while i < ranges.len() {
-        let contour = buffer::inner::parts::named(points, ranges, i);
-        behind = line::put(contour, i + 1, next, prev, mark, out, text, behind);
+    while i < n {
+        let held = fields::held(bytes, at);
+        let numbers = 2 * held;
+        filling::coordinates(bytes, at + 2, numbers, points, 0);
+        behind = line::put(&points[..numbers], i + 1, next, prev, mark, text, behind);
+        at += 2 + 8 * held;
         i += 1;
     }
     behind

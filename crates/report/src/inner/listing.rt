@@ -1,32 +1,36 @@
-// A file, read and listed.
+// A file, judged and listed.
 ghost use mathlib.Core.Path.{_≡_};
 ghost use Prim.Native.Nat.{_≤_};
 ghost use lib.ListN.{length};
 ghost use Rattle.rows.specs.Rows.{front};
 ghost use Rattle.report.specs.Listing.{listing};
-use crate::NUMBERS;
+use crate::TEXT;
 use crate::inner::table;
 use crate::inner::text;
+use setfile::inner::head;
+use setfile::inner::judging;
 
-// The most contours, and so the most shapes.
-const CONTOURS: usize = 4095;
+// At most how long the listing of a file is: the heading, and 45 characters for each contour that it promises.
+pub fn longest(bytes: &[u8]) -> usize
+    ensures { λ r. ⌜ (length (listing (now (bytes .entry))) ≤ r) × (r ≤ 184312) ⌝ }
+{
+    if bytes.len() < 2 {
+        return TEXT;
+    }
+    37 + 45 * head::promised(bytes)
+}
 
 // Puts the listing of a file, and answers how long it is.
 pub fn list(bytes: &[u8], text: &mut [u8]) -> usize
-    requires { ⌜ 184312 ≤ length (now text) ⌝ }
+    requires { ⌜ length (listing (now bytes)) ≤ length (now text) ⌝ }
     ensures { λ r. ⌜
         (r ≡ length (listing (now (bytes .entry))))
         × (now (text .exit) ≡ front (listing (now (bytes .entry))) (now (text .entry)))
         ⌝ }
 {
-    let mut points = [0i32; NUMBERS];
-    let mut contours = [[0usize; 2]; CONTOURS];
-    let mut shapes = [[0usize; 2]; CONTOURS];
-    let set = setfile::read(bytes, &mut points, &mut contours, &mut shapes);
-    if set.reply != 0 {
-        return text::put_line(text, 0, b"refused ", set.reply as u64);
+    let file = judging::judge(bytes);
+    if file.reply != 0 {
+        return text::put_line(text, 0, b"refused ", file.reply as u64);
     }
-    let numbers = 2 * set.points;
-    let n = set.contours;
-    table::put(&points[..numbers], &contours[..n], text)
+    table::put(bytes, file.contours, text)
 }

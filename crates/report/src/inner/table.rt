@@ -2,40 +2,39 @@
 ghost use mathlib.Core.List.{_++_};
 ghost use Prim.Native.Nat.{_≤_};
 ghost use lib.ListN.{length};
-ghost use Rattle.buffer.specs.Spans.{spans};
-ghost use Rattle.buffer.specs.Sets.{contours};
+ghost use Rattle.setfile.specs.Format.{contours-of};
+ghost use Rattle.setfile.specs.inside.Reading.{contained};
 ghost use Rattle.report.specs.Text.{heading};
 ghost use Rattle.report.specs.Listing.{lines as lines-of};
-ghost use Rattle.report.specs.inside.Lines.{Put, Small};
+ghost use Rattle.report.specs.inside.Lines.{Put, Listable};
 use crate::NUMBERS;
 use crate::POINTS;
 use crate::inner::lines;
 use crate::inner::text;
 
-// Puts the heading, and a line for each contour.
-pub fn put(points: &[i32], ranges: &[[usize; 2]], text: &mut [u8]) -> usize
-    requires { ⌜ Small (now points) (now ranges) ⌝ }
+// Puts the heading, and a line for each of a file's n contours.
+pub fn put(bytes: &[u8], n: usize, text: &mut [u8]) -> usize
+    requires { ⌜ Listable (now bytes) n ⌝ }
     requires { ⌜
-        length (heading ++ lines-of 1 (contours (now points) (spans (now ranges))))
-        ≤ length (now text)
+        length (heading ++ lines-of 1 (contours-of (contained (now bytes)))) ≤ length (now text)
         ⌝ }
     ensures { λ r. ⌜
-        Put 0 (heading ++ lines-of 1 (contours (now (points .entry)) (spans (now (ranges .entry)))))
+        Put 0 (heading ++ lines-of 1 (contours-of (contained (now (bytes .entry)))))
         (now (text .entry)) r (now (text .exit))
         ⌝ }
 {
+    let mut points = [0i32; NUMBERS];
     let mut next = [0u32; POINTS];
     let mut prev = [0u32; POINTS];
     let mut mark = [0u8; POINTS];
-    let mut out = [0i32; NUMBERS];
     let behind = text::put(text, 0, b"contour before after decisions area2\n");
     lines::put(
-        points,
-        ranges,
+        bytes,
+        n,
+        &mut points,
         &mut next,
         &mut prev,
         &mut mark,
-        &mut out,
         text,
         behind,
     )

@@ -20,7 +20,7 @@ pub fn put(text: &mut [u8], at: usize, word: &[u8]) -> usize
 }
 
 // Puts the last digit of a number.
-fn put_one(text: &mut [u8], at: usize, n: u32) -> usize
+pub fn put_one(text: &mut [u8], at: usize, n: u32) -> usize
     requires { ⌜ at + 1 ≤ length (now text) ⌝ }
     ensures { λ r. ⌜ Put at (digits 10 1 n) (now (text .entry)) r (now (text .exit)) ⌝ }
 {

@@ -11,7 +11,7 @@ ghost use Rattle.setfile.specs.inside.Reading.{contained, Readable, next
 use crate::inner::fields;
 
 // Writes k coordinates, which stand from `at` on, from position `to` on.
-fn coordinates(bytes: &[u8], at: usize, k: usize, out: &mut [i32], to: usize)
+pub fn coordinates(bytes: &[u8], at: usize, k: usize, out: &mut [i32], to: usize)
     requires { ⌜ (at + 4 * k ≤ length (now bytes)) × (to + k ≤ length (now out)) ⌝ }
     ensures { λ _. ⌜
         now (out .exit)

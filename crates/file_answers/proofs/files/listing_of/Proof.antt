@@ -4,6 +4,7 @@ use borrow.Author.Needs.{needs}
 use lib.Seq.{length-take-le}
 use Rattle.report.specs.Listing.{listing}
 use Rattle.report.proofs.PutLaws.{front-within}
+use Rattle.report.proofs.Theorems.{no-listing-is-longer}
 use Rattle.file_answers.proofs.files.listing_of.Statement.{statement}
 use Rattle.file_answers.proofs.files.listing_of.Tie as tie
 
@@ -11,7 +12,7 @@ slice-aggregate-list : tie.Need-slice-aggregate-list
 slice-aggregate-list c = search needs
 
 list-requires : tie.Need-list-requires
-list-requires c κs = search needs
+list-requires c κs = no-listing-is-longer _
 
 array-share-prefix-listing : tie.Need-array-share-prefix-listing
 array-share-prefix-listing c = let e = c .before .list .ensures in front-within (listing _) _ _ _ (e .0) (e .1)

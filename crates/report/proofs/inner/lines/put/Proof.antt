@@ -1,38 +1,89 @@
 -- `report::inner::lines::put` meets its contract: the lines that are left are put from where the loop has come to.
-use mathlib.Core.Path.{_≡_, refl, _∙_}
-use Prim.Native.Nat.{_-_}
+use mathlib.Core.Path.{_≡_, refl, sym, _∙_, ap, subst}
+use mathlib.Core.List.{List}
+use Prim.Native.Nat.{_+_, _*_, _-_, _≤_}
+use native.Mathlib.Omega.{arith}
 use borrow.Author.Needs.{needs}
-use lib.ListN.{length}
-use Rattle.buffer.proofs.PartLaws.{same-numbers}
-use Rattle.report.proofs.LinesLaws.{part-cleanable, Lining, lining-none, lining-room, lining-more, lining-all}
+use lib.ListN.{length, take}
+use lib.Seq.{length-take-le}
+use lib.IntN.{ℤ}
+use Rattle.report.specs.Listing.{line}
+use Rattle.report.specs.inside.Lines.{Put, Cleanable}
+use Rattle.report.proofs.LinesLaws.{contour-at, contour-read, Lining, lining-none, lining-within, lining-cleanable, lining-room, lining-more, lining-all}
 use Rattle.report.proofs.inner.lines.put.Statement.{statement}
 use Rattle.report.proofs.inner.lines.put.Tie as tie
 
 abbrev Inv-loop : tie.InvT-loop
-Inv-loop points ranges next₀ prev₀ mark₀ out₀ text₀ at behind₀ i₀ next prev mark out text behind i =
-    Lining points ranges at text₀ behind text i
-    × (length next ≡ length next₀) × (length prev ≡ length prev₀) × (length mark ≡ length mark₀) × (length out ≡ length out₀)
+Inv-loop bytes n points₀ next₀ prev₀ mark₀ text₀ from behind₀ at₀ i₀ points next prev mark text behind at i =
+    Lining bytes n from text₀ behind text i at
+    × (length points ≡ length points₀) × (length next ≡ length next₀) × (length prev ≡ length prev₀) × (length mark ≡ length mark₀)
 
 abbrev μ-loop : tie.MeasureT-loop
-μ-loop points ranges next₀ prev₀ mark₀ out₀ text₀ at behind₀ i₀ next prev mark out text behind i = length ranges - i
+μ-loop bytes n points₀ next₀ prev₀ mark₀ text₀ from behind₀ at₀ i₀ points next prev mark text behind at i = n - i
+
+-- the contour that is met ends within the file
+inside : (c : tie.After-held Inv-loop μ-loop) → c .before .before .loop .at + (2 + 8 * c .held .result) ≤ length (c .before .before .before .before .before .before .before .before .args .bytes .now)
+inside c = omega (arith, lining-within (c .before .before .loop .inv .0) (c .before .loop-test .taken), c .held .ensures)
+
+-- and its points have room
+roomy : (c : tie.After-held Inv-loop μ-loop) → 2 * c .held .result ≤ length (c .before .before .loop .points)
+roomy c =
+    let p = c .before .before .before .before .before .before .before .before .pre .0 in
+    let l = c .before .before .loop in
+    omega (arith, inside c, l .inv .0 .low, p .0 .few, p .1 .in-points, l .inv .1)
+
+-- what was read is the contour
+met : (c : tie.After-coordinates Inv-loop μ-loop) → let h = c .before .before in
+    take (2 * h .held .result) (c .coordinates .last .1 .1 .1 .0) ≡ contour-at (h .before .before .before .before .before .before .before .before .args .bytes .now) (h .before .before .loop .at)
+met c =
+    let h = c .before .before in
+    ap (take (2 * h .held .result)) (c .coordinates .ensures) ∙ contour-read (h .before .before .before .before .before .before .before .before .args .bytes .now) (h .before .before .loop .at) (h .held .result) (h .before .before .loop .points) (h .held .ensures)
 
 loop-holds : tie.Need-loop-holds Inv-loop μ-loop
-loop-holds c = (lining-none _ _ _ _ (c .before .before .before .before .pre .1), refl, refl, refl, refl)
+loop-holds c = let start = c .before .before .before .before .before in (lining-none _ _ _ _ (start .pre .0 .0) (start .pre .1), refl, refl, refl, refl)
 
-named-requires : tie.Need-named-requires Inv-loop μ-loop
-named-requires c κs = let start = c .before .before .before .before .before .before in start .pre .0 .names _ (c .loop-test .taken)
+held-requires : tie.Need-held-requires Inv-loop μ-loop
+held-requires c κs = omega (arith, lining-within (c .before .loop .inv .0) (c .loop-test .taken))
+
+mul-numbers : tie.Need-mul-numbers Inv-loop μ-loop
+mul-numbers c = omega (arith, inside c)
+
+add-coordinates : tie.Need-add-coordinates Inv-loop μ-loop
+add-coordinates c = omega (arith, inside c)
+
+coordinates-requires : tie.Need-coordinates-requires Inv-loop μ-loop
+coordinates-requires c κs = (omega (arith, inside (c .before)), omega (arith, roomy (c .before)))
+
+slice-reshare-prefix-put : tie.Need-slice-reshare-prefix-put Inv-loop μ-loop
+slice-reshare-prefix-put c = omega (arith, roomy (c .before .before .before), c .before .coordinates .kept .1 .1 .1 .0)
+
+slice-aggregate-put : tie.Need-slice-aggregate-put Inv-loop μ-loop
+slice-aggregate-put c =
+    let read = c .before .before in
+    sym (length-take-le _ _ (omega (arith, roomy (read .before .before), read .coordinates .kept .1 .1 .1 .0)))
 
 add-put : tie.Need-add-put Inv-loop μ-loop
 add-put c = search needs
 
 put-requires : tie.Need-put-requires Inv-loop μ-loop
 put-requires c κs =
-    let part = c .before .before .before .before .before in
-    let test = part .before .loop-test .taken in
-    let so-far = part .before .before .loop .inv in
-    let start = part .before .before .before .before .before .before .before in
-    rw (same-numbers (part .named .ensures))
-    (part-cleanable _ _ _ _ _ _ (start .pre .0) _ test _ _ _ _ (so-far .1) (so-far .2) (so-far .3) (so-far .4), lining-room (so-far .0) test)
+    let read = c .before .before .before .before .before .before in
+    let test = read .before .before .before in
+    let l = test .before .loop in
+    let p = test .before .before .before .before .before .before .before .pre .0 in
+    let cleanable = lining-cleanable (l .inv .0) (test .loop-test .taken) (p .0 .few) (l .next) (l .prev) (l .mark) (omega (arith, p .1 .in-next, l .inv .2)) (omega (arith, p .1 .in-prev, l .inv .3)) (omega (arith, p .1 .in-mark, l .inv .4)) in (
+      subst (λ (w : List ℤ). Cleanable w (l .next) (l .prev) (l .mark)) (sym (met read)) cleanable,
+      subst (λ (w : List ℤ). l .behind + length (line (l .i + 1) w) ≤ length (l .text)) (sym (met read)) (lining-room (l .inv .0) (test .loop-test .taken)),
+    )
+
+mul-at : tie.Need-mul-at Inv-loop μ-loop
+mul-at c = omega (arith, inside (c .before .before .before .before .before .before .before .before .before .before .before .before .before .before .before .before .before))
+
+add-at : tie.Need-add-at Inv-loop μ-loop
+add-at c = omega (arith, inside (c .before .before .before .before .before .before .before .before .before .before .before .before .before .before .before .before .before))
+
+add-at-2 : tie.Need-add-at-2 Inv-loop μ-loop
+add-at-2 c = omega (arith, inside (c .before .before .before .before .before .before .before .before .before .before .before .before .before .before .before .before .before))
 
 add-i : tie.Need-add-i Inv-loop μ-loop
 add-i c = search needs
@@ -42,13 +93,19 @@ loop-less c = search needs
 
 loop-again : tie.Need-loop-again Inv-loop μ-loop
 loop-again c =
-    let call = c .before .before .before .before .before .before .before .before .before in
-    let part = call .before .before .before .before .before .before in
-    let test = part .before .loop-test .taken in
-    let so-far = part .before .before .loop .inv in
+    let call = c .before .before .before .before .before .before .before .before in
+    let read = call .before .before .before .before .before .before .before in
+    let held = read .before .before in
+    let test = held .before in
+    let l = test .before .loop in
     let long = call .put .kept .1 .1 in
-    let line = rw (same-numbers (part .named .ensures)) at (call .put .ensures) in
-    (lining-more (so-far .0) test line, long .0 ∙ so-far .1, long .1 .0 ∙ so-far .2, long .1 .1 .0 ∙ so-far .3, long .1 .1 .1 .0 ∙ so-far .4)
+    let put = subst (λ (w : List ℤ). Put (l .behind) (line (l .i + 1) w) (l .text) (call .put .result) (call .put .last .1 .1 .1 .1 .1 .0)) (met read) (call .put .ensures) in (
+      lining-more (l .inv .0) (test .loop-test .taken) put (held .held .result) (held .held .ensures),
+      read .coordinates .kept .1 .1 .1 .0 ∙ l .inv .1,
+      long .0 ∙ l .inv .2,
+      long .1 .0 ∙ l .inv .3,
+      long .1 .1 .0 ∙ l .inv .4,
+    )
 
 same-length : tie.Need-same-length Inv-loop μ-loop
 same-length c = c .before .loop .inv .1
@@ -75,9 +132,17 @@ put-spec =
     Inv-loop
     μ-loop
     loop-holds
-    named-requires
+    held-requires
+    mul-numbers
+    add-coordinates
+    coordinates-requires
+    slice-reshare-prefix-put
+    slice-aggregate-put
     add-put
     put-requires
+    mul-at
+    add-at
+    add-at-2
     add-i
     loop-less
     loop-again

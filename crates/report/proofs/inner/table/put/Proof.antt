@@ -2,8 +2,8 @@
 use mathlib.Core.List.{[], _∷_, _++_}
 use native.Mathlib.Omega.{arith}
 use borrow.Author.Needs.{needs}
-use Rattle.buffer.specs.Spans.{spans}
-use Rattle.buffer.specs.Sets.{contours}
+use Rattle.setfile.specs.Format.{contours-of}
+use Rattle.setfile.specs.inside.Reading.{contained}
 use Rattle.report.specs.Text.{heading}
 use Rattle.report.specs.Listing.{lines}
 use Rattle.report.proofs.PutLaws.{Going, going-none, going-room, going-more, going-all, two-words}
@@ -12,17 +12,17 @@ use Rattle.report.proofs.inner.table.put.Tie as tie
 
 -- the heading and the lines are to be put
 begun : (c : tie.Start) → let s = c .args in
-    let rest = lines 1 (contours (s .points .now) (spans (s .ranges .now))) in
+    let rest = lines 1 (contours-of (contained (s .bytes .now))) in
     Going 0 (heading ++ rest) (s .text .now) 0 (s .text .now) (heading ∷ rest ∷ [])
 begun c =
     let s = c .args in
-    going-none 0 (s .text .now) (heading ∷ lines 1 (contours (s .points .now) (spans (s .ranges .now))) ∷ []) (two-words _ _) (omega (arith, c .pre .1))
+    going-none 0 (s .text .now) (heading ∷ lines 1 (contours-of (contained (s .bytes .now))) ∷ []) (two-words _ _) (omega (arith, c .pre .1))
 
 slice-aggregate-put : tie.Need-slice-aggregate-put
 slice-aggregate-put c = search needs
 
 put-requires : tie.Need-put-requires
-put-requires c κs = search needs
+put-requires c κs = going-room (begun (c .before .before .before .before))
 
 slice-aggregate-put-2 : tie.Need-slice-aggregate-put-2
 slice-aggregate-put-2 c = search needs
@@ -39,16 +39,8 @@ slice-aggregate-put-5 c = search needs
 put-requires-2 : tie.Need-put-requires-2
 put-requires-2 c κs =
     let word = c .before .before .before .before .before .before .before in
-    let start = word .before .before .before .before in
-    let small = start .pre .0 in (
-      record {
-        domain = small .domain;
-        names = small .names;
-        in-next = small .few;
-        in-prev = small .few;
-        in-mark = small .few;
-        in-out = omega (arith, small .domain .even, small .few);
-      },
+    let start = word .before .before .before .before .before in (
+      (start .pre .0, record { in-points = omega arith; in-next = omega arith; in-prev = omega arith; in-mark = omega arith }),
       going-room (going-more (begun start) (word .put .ensures)),
     )
 
@@ -59,7 +51,7 @@ returns : tie.Need-returns
 returns c =
     let last = c .before .before .before .before .before .before in
     let word = last .before .before .before .before .before .before .before .before in
-    let start = word .before .before .before .before in
+    let start = word .before .before .before .before .before in
     going-all (going-more (going-more (begun start) (word .put .ensures)) (last .put2 .ensures))
 
 pub put-spec : {M : Type 1} → statement M

@@ -6,15 +6,12 @@ use native.Mathlib.Omega.{arith}
 use borrow.Author.Needs.{needs}
 use Rattle.io.specs.Digits.{Fewest}
 use Rattle.report.proofs.TextLaws.{decimal-is}
-use Rattle.report.proofs.DigitLaws.{decimal-long, digits-room, digits-put}
+use Rattle.report.proofs.DigitLaws.{decimal-long, one-digit, digits-room, digits-put}
 use Rattle.report.proofs.inner.text.put_short.Statement.{statement}
 use Rattle.report.proofs.inner.text.put_short.Tie as tie
 
 -- so many digits hold it, by the tests that it passed
 module _ (n : ℕ) where
-  one : n < 10 → Fewest 10 1 n 1
-  one h = (omega arith, h, λ q. absurd (omega arith))
-
   two : 10 ≤ n → n < 100 → Fewest 10 1 n 2
   two l h = (omega arith, h, λ q. l)
 
@@ -29,7 +26,7 @@ put-one-requires c κs =
     let then = c .before in
     let start = then .before .before in
     let n = start .args .n in
-    omega (arith, start .pre .1, decimal-long 1 n (omega (arith, start .pre .0)) (one n (then .if1 .taken)))
+    omega (arith, start .pre .1, decimal-long 1 n (omega (arith, start .pre .0)) (one-digit n (then .if1 .taken)))
 
 same-length : tie.Need-same-length
 same-length c = search needs
@@ -40,7 +37,7 @@ returns c =
     let then = call .before .before in
     let start = then .before .before in
     let n = start .args .n in
-    rw (sym (decimal-is n 1 (omega (arith, start .pre .0)) (one n (then .if1 .taken)))) (call .put-one .ensures)
+    rw (sym (decimal-is n 1 (omega (arith, start .pre .0)) (one-digit n (then .if1 .taken)))) (call .put-one .ensures)
 
 put-two-requires : tie.Need-put-two-requires
 put-two-requires c κs =

@@ -1,0 +1,66 @@
+-- `report::inner::counting::walked` meets its contract, however the walk ends.
+use mathlib.Core.Path.{refl}
+use mathlib.Core.List.{[]}
+use native.Mathlib.Omega.{arith}
+use borrow.Author.Needs.{needs}
+use Rattle.grid.specs.Limits.{most}
+use Rattle.ring.specs.declared.Rule as R
+use Rattle.clean.proofs.OutcomeLaws.{settled-kept, settled-fallen}
+use Rattle.report.proofs.inner.counting.walked.Statement.{statement}
+use Rattle.report.proofs.inner.counting.walked.Tie as tie
+
+walk-requires : tie.Need-walk-requires
+walk-requires c κs = c .before .before .before .before .before .before .pre
+
+survivors-requires : tie.Need-survivors-requires
+unfolding most
+survivors-requires c κs =
+    let walk = c .before .before .before .before .before .before .before .before in
+    let start = walk .before .before .before .before .before .before .before in
+    omega (arith, start .pre .0 .0 .few, walk .walk .kept .1 .1 .1 .1 .1 .0)
+
+same-length : tie.Need-same-length
+same-length c = search needs
+
+same-length-2 : tie.Need-same-length-2
+same-length-2 c = search needs
+
+same-length-3 : tie.Need-same-length-3
+same-length-3 c = search needs
+
+returns : tie.Need-returns
+returns c =
+    let then = c .before .before in
+    let walk = then .before .before .before .before .before .before .before in
+    let start = walk .before .before .before .before .before .before .before in
+    settled-kept R.Rule.Collinear (start .args .contour .now) [] (start .pre .0 .0) (walk .walk .result) _ (walk .walk .ensures) (then .if1 .taken) _ _ (c .survivors .ensures) refl .answer
+
+same-length-4 : tie.Need-same-length-4
+same-length-4 c = search needs
+
+same-length-5 : tie.Need-same-length-5
+same-length-5 c = search needs
+
+same-length-6 : tie.Need-same-length-6
+same-length-6 c = search needs
+
+returns-2 : tie.Need-returns-2
+returns-2 c =
+    let walk = c .before .before .before .before .before .before .before in
+    let start = walk .before .before .before .before .before .before .before in
+    settled-fallen R.Rule.Collinear (start .args .contour .now) [] (start .pre .0 .0) (walk .walk .result) _ (walk .walk .ensures) (c .if1 .left) .answer
+
+pub walked-spec : {M : Type 1} → statement M
+walked-spec =
+    tie.close
+    (tie.spec
+    walk-requires
+    survivors-requires
+    same-length
+    same-length-2
+    same-length-3
+    returns
+    same-length-4
+    same-length-5
+    same-length-6
+    returns-2)

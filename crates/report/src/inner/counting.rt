@@ -1,0 +1,88 @@
+// What cleaning a contour of its collinear points answers. A listing shows no point that is kept, so none is written.
+ghost use mathlib.Core.Path.{_≡_};
+ghost use mathlib.Core.List.{[]};
+ghost use Prim.Native.Nat.{_<_, _≤_};
+ghost use lib.ListN.{length};
+ghost use Rattle.grid.specs.Domain.{Contour};
+ghost use Rattle.ring.specs.declared.Rule as R;
+ghost use Rattle.ring.specs.Walk.{survivors as survivors-of};
+ghost use Rattle.ring.specs.Rule.{goes};
+ghost use Rattle.ring.specs.inside.Rows.{FirstStand};
+ghost use Rattle.clean.specs.inside.Settling.{alone};
+use clean::Cleaned;
+use ring::Rule;
+
+// How many positions survive. Counted in 32 bits, four at a time.
+fn survivors(mark: &[u8]) -> usize
+    requires { ⌜ length (now mark) ≤ 65536 ⌝ }
+    ensures { λ r. ⌜ r ≡ length (survivors-of (now (mark .entry))) ⌝ }
+{
+    let mut kept: u32 = 0;
+    let mut i: usize = 0;
+    while i < mark.len() {
+        if mark[i] < 2 {
+            kept += 1;
+            i += 1;
+        } else {
+            i += 1;
+        }
+    }
+    kept as usize
+}
+
+// The answer of the walk of a contour of three points or more, of which the first `standing` stand.
+fn walked(
+    contour: &[i32],
+    standing: usize,
+    next: &mut [u32],
+    prev: &mut [u32],
+    mark: &mut [u8],
+) -> Cleaned
+    requires { ⌜ Contour (now contour) (length (now mark)) × (3 ≤ length (now mark)) ⌝ }
+    requires { ⌜ (length (now next) ≡ length (now mark)) × (length (now prev) ≡ length (now mark)) ⌝ }
+    requires { ⌜
+        (standing < length (now mark))
+        × FirstStand (goes R.Rule.Collinear (now contour)) (length (now mark)) standing
+        ⌝ }
+    ensures { λ r. ⌜ r ≡ alone R.Rule.Collinear (now (contour .entry)) [] .answer ⌝ }
+{
+    let ending = ring::inner::walk(Rule::Collinear, contour, standing, next, prev, mark);
+    let decisions = ending.decisions;
+    if ending.kept {
+        return Cleaned {
+            reply: replies::DONE,
+            points: survivors(mark),
+            decisions,
+        };
+    }
+    Cleaned {
+        reply: replies::COLLAPSED,
+        points: 0,
+        decisions,
+    }
+}
+
+// The answer of any contour, with scratch of exactly its points' count. Where all points stand nothing is linked.
+pub fn answer(contour: &[i32], next: &mut [u32], prev: &mut [u32], mark: &mut [u8]) -> Cleaned
+    requires { ⌜ Contour (now contour) (length (now mark)) ⌝ }
+    requires { ⌜ (length (now next) ≡ length (now mark)) × (length (now prev) ≡ length (now mark)) ⌝ }
+    ensures { λ r. ⌜ r ≡ alone R.Rule.Collinear (now (contour .entry)) [] .answer ⌝ }
+{
+    let n = mark.len();
+    if n < 3 {
+        return Cleaned {
+            reply: replies::COLLAPSED,
+            points: 0,
+            decisions: 0,
+        };
+    }
+    let standing = ring::inner::standing_by(true, contour, n);
+    if standing == n {
+        return Cleaned {
+            reply: replies::DONE,
+            points: n,
+            decisions: n,
+        };
+    }
+    walked(contour, standing, next, prev, mark)
+}
