@@ -38,7 +38,7 @@ module _ {A : Type 0} (a : ℕ) (xs : List A) where
   whole-tail : length (drop a xs) ≤ length xs - a
   whole-tail = omega (arith, length-drop a xs)
 
-  pub tail-is : midOf a (length xs - a) xs ≡ drop a xs
+  tail-is : midOf a (length xs - a) xs ≡ drop a xs
   tail-is = take-all (length xs - a) (drop a xs) whole-tail
 
   pub put-front : (d : List A) → putMid a (length xs - a) xs (d ++ drop (length d) (midOf a (length xs - a) xs)) ≡ placed a d xs
@@ -139,11 +139,6 @@ room-rest rule c l at out records x k pl out′ records′ e a b = go (fate rule
     go (gone n) s f =
         let j = joined-more c l in
         rw f (record { room = omega (arith, x .room); space = omega (arith, x .space); narrow = omega (arith, x .narrow); fits = omega (arith, x .fits, s) })
-
--- room for contours is room for none
-pub room-none : (l : List (List ℤ)) (at : Progress) (out : List ℤ) (records : List (List ℕ)) → Room l at out records → Room [] at out records
-unfolding joined
-room-none l at out records r = record { room = omega (arith, r .room); space = omega (arith, r .space); narrow = omega (arith, r .narrow); fits = omega (arith, r .fits) }
 
 -- sound ranges of a set that no call refuses name parts of its points
 pub accepted-named : (p : List ℤ) (cs : List (List ℕ)) (ok : Bool) → Accepted p ok → sound (spans cs) (count p) ≡ true → Named p cs

@@ -5,7 +5,6 @@ pub mod ContainsLaws
 pub mod AreaLaws
 pub mod FateLaws
 pub mod BehindLaws
-pub mod LaterLaws
 pub mod ShapeLaws
 pub mod LaidLaws
 pub mod AfterLaws

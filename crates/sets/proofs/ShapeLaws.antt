@@ -1,14 +1,16 @@
--- A shape, and its first contour.
-use mathlib.Core.Path.{_≡_, refl, sym, _∙_, ap}
-use mathlib.Core.Bool.{Bool, true, false, not, cond}
+-- A shape, contour by contour, and what it adds to the shapes that are written.
+use mathlib.Core.Path.{_≡_, refl, sym, _∙_, ap, ap₂}
+use mathlib.Core.Bool.{Bool, true, false, not, _&&_, _||_, or-true}
 use mathlib.Core.List.{List, [], _∷_}
-use Prim.Native.Nat.{ℕ, _+_, _-_, _<_, _≤_}
+use Prim.Native.Nat.{ℕ, zero, suc, _+_, _<_, _≤_}
 use native.Mathlib.Omega.{arith}
+use native.Mathlib.Numerals.{add-one}
+use lib.Dec.{ltb}
 use lib.IntN.{ℤ}
-use lib.ListN.{length, getD, drop, set, length-drop}
-use lib.Seq.{drop-cons, getD-drop}
-use borrow.Author.Tests.{not-true, not-false}
-use borrow.Rule.Slice.PartMut.{midOf}
+use lib.ListN.{length, getD, drop, set}
+use lib.Seq.{drop-cons, drop-length}
+use borrow.Author.Tests.{ltb-true, ltb-false, lt-ltb, not-true, not-false}
+use Rattle.integers.proofs.Logic.{and-left, and-right}
 use Rattle.grid.specs.Domain.{count}
 use Rattle.ring.specs.declared.Rule.{Rule}
 use Rattle.buffer.specs.Spans.{span, spans}
@@ -20,80 +22,89 @@ use Rattle.sets.specs.declared.inner.shapes.Total.{Total}
 use Rattle.sets.specs.Fates.{Fate, fate}
 use Rattle.sets.specs.Fates.Fate.{stays, gone}
 use Rattle.sets.specs.inside.Contour.{Scratch, Reached, reached, placing, stayed, Placeable, Behind}
-use Rattle.sets.specs.inside.Shape.{run, Tested, tested, outline, run-shape, Room, Named, Going}
+use Rattle.sets.specs.inside.Shape.{run, Tested, tested, outline, run-shape, Room, Named}
 use Rattle.sets.specs.inside.Shapes.{Grouped, grouped, adding, added}
-use Rattle.sets.proofs.BehindLaws.{tail-is, room-rest, room-none, named-contour, part-placeable}
-
-pub shape-empty : (rule : Rule) (p : List ℤ) (ranges : List (List ℕ)) (s : Reached) → length ranges ≡ 0 → tested true s ≡ run-shape rule (contours p (spans ranges)) s
-unfolding run-shape
-shape-empty rule p [] s e = refl
-shape-empty rule p (r ∷ ranges) s e = absurd (omega arith)
-
--- some contours of a shape are cleaned, its first at least
-pub reach-ends : (b : Bool) (n to : ℕ) → to ≡ cond b n 1 → (n ≡ 0 → ⊥) → (1 ≤ to) × (to ≤ n)
-reach-ends true n to e h = (omega arith, omega arith)
-reach-ends false n to e h = (omega arith, omega arith)
+use Rattle.sets.proofs.BehindLaws.{room-rest, named-contour, part-placeable}
 
 -- a range of another row that is the same names the same
 pub names-moved : (p : List ℤ) (ranges others : List (List ℕ)) (k i : ℕ) → getD others i [] ≡ getD ranges k [] → i < length others → Names p ranges k → Names p others i
 names-moved p ranges others k i e h n = record { there = h; forward = rw e (n .forward); fits = rw e (n .fits) }
 
-module _ (rule : Rule) (p : List ℤ) (ranges : List (List ℕ)) (at : Progress) (next prev mark : List ℕ) (out : List ℤ) (records : List (List ℕ))
-    (g : Going p ranges at next prev mark out records) (some : length ranges ≡ 0 → ⊥) where
-  first-is : contours p (spans ranges) ≡ contour p (span (getD ranges 0 [])) ∷ contours p (spans (drop 1 ranges))
-  first-is = let h : 0 < length ranges = omega arith in ap (λ (l : List (List ℕ)). contours p (spans l)) (drop-cons ranges 0 [] h)
+-- a shape whose contours from number i on are left, by whether it stands so far
+abbrev rest : Bool → ℕ → Rule → List (List ℤ) → Reached → Tested
+rest true zero rule l s = run-shape rule l s
+rest true (suc i) rule l s = tested true (run rule l s)
+rest false i rule l s = tested false s
 
-  pub first-named : Names p ranges 0
-  first-named = g .named .names 0 (omega arith)
+rest-none : (b : Bool) (i : ℕ) (rule : Rule) (s : Reached) → tested b s ≡ rest b i rule [] s
+unfolding run run-shape
+rest-none true zero rule s = refl
+rest-none true (suc i) rule s = refl
+rest-none false i rule s = refl
 
-  pub first-placeable : Placeable (contour p (span (getD ranges 0 []))) at next prev mark out records
-  first-placeable = part-placeable p ranges (g .named) 0 (omega arith) at next prev mark out records (contours p (spans (drop 1 ranges))) (g .scratch) (rw first-is at (g .room))
+-- with its first contour it stands or falls, and with a later one it stands
+rest-more : (rule : Rule) (c : List ℤ) (l : List (List ℤ)) (s t : Reached) (b : Bool) (i : ℕ) → t ≡ placing (fate rule c) s → b ≡ stayed (fate rule c)
+    → rest (b || ltb 0 i) (suc i) rule l t ≡ rest true i rule (c ∷ l) s
+unfolding run run-shape
+rest-more rule c l s t b zero e f = go (fate rule c) e f
+  where
+    go : (w : Fate) → t ≡ placing w s → b ≡ stayed w → rest (b || ltb 0 0) 1 rule l t ≡ outline w rule l s
+    go (stays d k) e f = rw f (ap (λ (u : Reached). tested true (run rule l u)) e)
+    go (gone k) e f = rw f (ap (tested false) e)
+rest-more rule c l s t b (suc i) e f = rw (lt-ltb 0 (suc i) (omega arith), or-true b) (ap (λ (u : Reached). tested true (run rule l u)) e)
 
-  module _ (c : List ℤ) (is : c ≡ contour p (span (getD ranges 0 []))) (t : Tried) (out′ : List ℤ) (records′ : List (List ℕ)) (b : Behind rule c (reached at out records) t out′ records′) where
-    first-fate : (reached (t .progress) out′ records′ ≡ placing (fate rule (contour p (span (getD ranges 0 [])))) (reached at out records)) × (t .stays ≡ stayed (fate rule (contour p (span (getD ranges 0 [])))))
-    first-fate = (
-      b .is ∙ ap (λ (d : List ℤ). placing (fate rule d) (reached at out records)) is,
-      b .stays ∙ ap (λ (d : List ℤ). stayed (fate rule d)) is,
-    )
+-- the contours of the ranges from i on are left
+pub record Laying (rule : Rule) (p : List ℤ) (ranges : List (List ℕ)) (at₀ : Progress) (out₀ : List ℤ) (records₀ : List (List ℕ)) (stands : Bool) (at : Progress) (out : List ℤ) (records : List (List ℕ)) (i : ℕ) : Type 0 where
+  pub high : i ≤ length ranges
+  pub out-long : length out ≡ length out₀
+  pub records-long : length records ≡ length records₀
+  pub room : Room (contours p (spans (drop i ranges))) at out records
+  pub is : rest stands i rule (contours p (spans (drop i ranges))) (reached at out records) ≡ run-shape rule (contours p (spans ranges)) (reached at₀ out₀ records₀)
 
-    -- the contours behind it are cleaned where it stays, and none where it collapses
-    module _ (to : ℕ) (to-is : to ≡ cond (t .stays) (length ranges) 1) where
-      rest-named : Named p (drop 1 ranges)
-      rest-named = record {
-        domain = g .named .domain;
-        names = λ k h. names-moved p ranges (drop 1 ranges) (1 + k) k (getD-drop 1 ranges k []) h (g .named .names (1 + k) (omega (arith, length-drop 1 ranges)));
-      }
+pub laying-none : (rule : Rule) (p : List ℤ) (ranges : List (List ℕ)) (at : Progress) (out : List ℤ) (records : List (List ℕ))
+    → Room (contours p (spans ranges)) at out records → Laying rule p ranges at out records true at out records 0
+laying-none rule p ranges at out records r = record { high = omega arith; out-long = refl; records-long = refl; room = r; is = refl }
 
-      pub rest-going : length out′ ≡ length out → length records′ ≡ length records
-          → (next′ prev′ mark′ : List ℕ) → length next′ ≡ length next → length prev′ ≡ length prev → length mark′ ≡ length mark
-          → Going p (midOf 1 (to - 1) ranges) (t .progress) next′ prev′ mark′ out′ records′
-      rest-going u v next′ prev′ mark′ x y z = go (t .stays) to-is
-        where
-          room : Room (contours p (spans (drop 1 ranges))) (t .progress) out′ records′
-          room = room-rest rule _ _ at out records (rw first-is at (g .room)) (named-contour p ranges (g .named) 0 (omega arith)) (t .progress) out′ records′ (first-fate .0) u v
+module _ {rule : Rule} {p : List ℤ} {ranges : List (List ℕ)} {at₀ : Progress} {out₀ : List ℤ} {records₀ : List (List ℕ)} {stands : Bool} {at : Progress} {out : List ℤ} {records : List (List ℕ)} {i : ℕ}
+    (x : Laying rule p ranges at₀ out₀ records₀ stands at out records i) where
+  module _ (n : Named p ranges) (onward : (stands && ltb i (length ranges)) ≡ true) where
+    pub there : i < length ranges
+    there = ltb-true i (length ranges) (and-right stands _ onward)
 
-          scratch : Scratch (count p) next′ prev′ mark′
-          scratch = record { in-next = omega (arith, g .scratch .in-next); in-prev = omega (arith, g .scratch .in-prev); in-mark = omega (arith, g .scratch .in-mark) }
+    next-is : contours p (spans (drop i ranges)) ≡ contour p (span (getD ranges i [])) ∷ contours p (spans (drop (suc i) ranges))
+    next-is = ap (λ (l : List (List ℕ)). contours p (spans l)) (drop-cons ranges i [] there)
 
-          go : (b : Bool) → to ≡ cond b (length ranges) 1 → Going p (midOf 1 (to - 1) ranges) (t .progress) next′ prev′ mark′ out′ records′
-          go true e = rw (e, tail-is 1 ranges) (record { named = rest-named; scratch = scratch; room = room })
-          go false e = rw e (record { named = record { domain = g .named .domain; names = λ k h. absurd (omega arith) }; scratch = scratch; room = room-none _ (t .progress) out′ records′ room })
+    pub laying-placeable : (next prev mark : List ℕ) → Scratch (count p) next prev mark → Placeable (contour p (span (getD ranges i []))) at next prev mark out records
+    laying-placeable next prev mark s = part-placeable p ranges n i there at next prev mark out records (contours p (spans (drop (suc i) ranges))) s (rw next-is at (x .room))
 
-      pub shape-is : (s : Reached) → s ≡ run rule (contours p (spans (midOf 1 (to - 1) ranges))) (reached (t .progress) out′ records′)
-          → tested (t .stays) s ≡ run-shape rule (contours p (spans ranges)) (reached at out records)
-      unfolding run-shape run
-      shape-is s e = rw first-is (go (fate rule (contour p (span (getD ranges 0 [])))) (first-fate .0) (first-fate .1))
-        where
-          go : (w : Fate) → reached (t .progress) out′ records′ ≡ placing w (reached at out records) → t .stays ≡ stayed w
-              → tested (t .stays) s ≡ outline w rule (contours p (spans (drop 1 ranges))) (reached at out records)
-          go (stays d k) q f =
-              let m : to ≡ length ranges = to-is ∙ ap (λ (b : Bool). cond b (length ranges) 1) f in
-              let later : s ≡ run rule (contours p (spans (drop 1 ranges))) (reached (t .progress) out′ records′) = rw (m, tail-is 1 ranges) at e in
-              rw f (ap (tested true) (later ∙ ap (run rule (contours p (spans (drop 1 ranges)))) q))
-          go (gone k) q f =
-              let m : to ≡ 1 = to-is ∙ ap (λ (b : Bool). cond b (length ranges) 1) f in
-              let none : s ≡ reached (t .progress) out′ records′ = rw m at e in
-              rw f (ap (tested false) (none ∙ q))
+    pub laying-more : (c : List ℤ) → c ≡ contour p (span (getD ranges i [])) → (t : Tried) (out′ : List ℤ) (records′ : List (List ℕ)) → Behind rule c (reached at out records) t out′ records′
+        → length out′ ≡ length out → length records′ ≡ length records → Laying rule p ranges at₀ out₀ records₀ (t .stays || ltb 0 i) (t .progress) out′ records′ (i + 1)
+    laying-more c g t out′ records′ b u v =
+        let e : reached (t .progress) out′ records′ ≡ placing (fate rule (contour p (span (getD ranges i [])))) (reached at out records) = b .is ∙ ap (λ (d : List ℤ). placing (fate rule d) (reached at out records)) g in
+        let f : t .stays ≡ stayed (fate rule (contour p (span (getD ranges i [])))) = b .stays ∙ ap (λ (d : List ℤ). stayed (fate rule d)) g in
+        record {
+          high = omega (arith, there);
+          out-long = u ∙ x .out-long;
+          records-long = v ∙ x .records-long;
+          room = rw (add-one i) (room-rest rule _ _ at out records (rw next-is at (x .room)) (named-contour p ranges n i there) (t .progress) out′ records′ e u v);
+          is = rw (add-one i)
+              (rest-more rule _ (contours p (spans (drop (suc i) ranges))) (reached at out records) _ (t .stays) i e f
+              ∙ ap₂ (λ (b : Bool) (l : List (List ℤ)). rest b i rule l (reached at out records)) (sym (and-left stands _ onward)) (sym next-is) ∙ x .is);
+        }
+
+  pub laying-all : (stands && ltb i (length ranges)) ≡ false → tested stands (reached at out records) ≡ run-shape rule (contours p (spans ranges)) (reached at₀ out₀ records₀)
+  laying-all h = go stands h (x .is)
+    where
+      done : (b : Bool) → length ranges ≤ i → rest b i rule (contours p (spans (drop i ranges))) (reached at out records) ≡ run-shape rule (contours p (spans ranges)) (reached at₀ out₀ records₀)
+          → tested b (reached at out records) ≡ run-shape rule (contours p (spans ranges)) (reached at₀ out₀ records₀)
+      done b l e =
+          let all : i ≡ length ranges = omega (arith, x .high) in
+          rest-none b i rule (reached at out records) ∙ ap (λ (l : List (List ℕ)). rest b i rule (contours p (spans l)) (reached at out records)) (sym (ap (λ (k : ℕ). drop k ranges) all ∙ drop-length ranges)) ∙ e
+
+      go : (b : Bool) → (b && ltb i (length ranges)) ≡ false → rest b i rule (contours p (spans (drop i ranges))) (reached at out records) ≡ run-shape rule (contours p (spans ranges)) (reached at₀ out₀ records₀)
+          → tested b (reached at out records) ≡ run-shape rule (contours p (spans ranges)) (reached at₀ out₀ records₀)
+      go true l e = done true (ltb-false i (length ranges) l) e
+      go false l e = e
 
 pub same-grouped : {a b : ℕ} {r t : Reached} {k l : List (List ℕ)} → a ≡ b → r ≡ t → k ≡ l → grouped a r k ≡ grouped b t l
 same-grouped e f g = cc

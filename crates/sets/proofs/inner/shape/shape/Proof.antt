@@ -1,110 +1,112 @@
--- `sets::inner::shape::shape` meets its contract: empty, fallen with its first contour, or standing.
-use borrow.Author.Needs.{needs}
-use mathlib.Core.Path.{_∙_}
-use Prim.Native.Nat.{_≤_}
+-- `sets::inner::shape::shape` meets its contract: what is left of the shape is cleaned from where the loop has come to.
+use mathlib.Core.Path.{_≡_, refl, _∙_}
+use Prim.Native.Nat.{_-_, _<_}
 use native.Mathlib.Omega.{arith}
-use lib.ListN.{length}
+use lib.ListN.{length, length-map}
+use Rattle.buffer.specs.Spans.{span, spans}
+use Rattle.buffer.specs.Sets.{contour}
 use Rattle.buffer.proofs.PartLaws.{same-numbers}
-use Rattle.sets.proofs.ShapeLaws.{shape-empty, reach-ends, first-named, first-placeable, rest-going, shape-is}
+use Rattle.sets.proofs.ShapeLaws.{Laying, laying-none, there, laying-placeable, laying-more, laying-all}
 use Rattle.sets.proofs.inner.shape.shape.Statement.{statement}
 use Rattle.sets.proofs.inner.shape.shape.Tie as tie
 
--- from the first contour's answer to where it is named, and to the start
-abbrev outline : tie.After-behind → tie.After-named
-outline c = c .before .before .before .before .before .before
+abbrev Inv-loop : tie.InvT-loop
+Inv-loop rule points ranges next₀ prev₀ mark₀ out₀ records₀ stands₀ progress₀ i₀ next prev mark out records stands progress i =
+    Laying rule points ranges progress₀ out₀ records₀ stands progress out records i
+    × (length next ≡ length next₀) × (length prev ≡ length prev₀) × (length mark ≡ length mark₀)
 
-abbrev head : tie.After-named → tie.Start
-head c = c .before .before .before .before .before
+abbrev μ-loop : tie.MeasureT-loop
+μ-loop rule points ranges next₀ prev₀ mark₀ out₀ records₀ stands₀ progress₀ i₀ next prev mark out records stands progress i =
+    length ranges - i
 
--- from how far it goes to the first contour's answer
-abbrev first-said : tie.After-reach → tie.After-behind
-first-said c = c .before .before .before .before .before .before .before .before .before .before
+-- from a contour that is named to the loop, and to the start
+abbrev round : tie.After-named Inv-loop μ-loop → tie.At-loop Inv-loop μ-loop
+round c = c .before .before
 
--- from the end to the later contours' answer, and from there to how far it goes
-abbrev later-said : tie.After-records2 → tie.After-later
-later-said c = c .before .before .before .before .before .before .before .before
+abbrev head : tie.After-named Inv-loop μ-loop → tie.Start Inv-loop μ-loop
+head c = c .before .before .before .before .before .before
 
-abbrev reached-by : tie.After-later → tie.After-reach
-reached-by c = c .before .before .before .before .before .before .before
+-- from a contour that was cleaned to where it is named
+abbrev due : tie.After-behind Inv-loop μ-loop → tie.After-named Inv-loop μ-loop
+due c = c .before .before .before .before .before .before
 
-ends-of : (c : tie.After-reach) → (1 ≤ c .reach .result) × (c .reach .result ≤ length (head (outline (first-said c)) .args .ranges .now))
-ends-of c = reach-ends (first-said c .behind .result .stays) _ _ (c .reach .ensures) (outline (first-said c) .before .if1 .left)
+loop-holds : tie.Need-loop-holds Inv-loop μ-loop
+loop-holds c = (laying-none _ _ _ _ _ _ (c .before .before .before .pre .room), refl, refl, refl)
 
-returns : tie.Need-returns
-returns c = let s = c .before .before .before .before in shape-empty (s .args .rule) (s .args .points .now) (s .args .ranges .now) _ (c .if1 .taken)
-
-named-requires : tie.Need-named-requires
+named-requires : tie.Need-named-requires Inv-loop μ-loop
 named-requires c κs =
-    let s = c .before .before .before .before in
-    first-named (s .args .rule) (s .args .points .now) (s .args .ranges .now) (s .args .at) (s .args .next .now) (s .args .prev .now) (s .args .mark .now) (s .args .out .now) (s .args .records .now) (s .pre) (c .if1 .left)
+    let named = c .before .before .before .before .before .pre .named in
+    named .names _ (there (c .before .loop .inv .0) named (c .loop-test .taken))
 
-behind-requires : tie.Need-behind-requires
+behind-requires : tie.Need-behind-requires Inv-loop μ-loop
 behind-requires c κs =
     let named = c .before .before .before .before .before in
-    let s = head named in
-    rw (same-numbers (named .named .ensures)) (first-placeable (s .args .rule) (s .args .points .now) (s .args .ranges .now) (s .args .at) (s .args .next .now) (s .args .prev .now) (s .args .mark .now) (s .args .out .now) (s .args .records .now) (s .pre) (named .before .if1 .left))
+    let v = round named .loop .inv in
+    let going = head named .pre in
+    rw (same-numbers (named .named .ensures))
+    (laying-placeable (v .0) (going .named) (named .before .loop-test .taken) _ _ _
+    (record { in-next = omega (arith, v .1, going .scratch .in-next); in-prev = omega (arith, v .2, going .scratch .in-prev); in-mark = omega (arith, v .3, going .scratch .in-mark) }))
 
-reach-requires : tie.Need-reach-requires
-reach-requires c κs = search needs
+-- from the end of a round to the contour that was cleaned in it
+abbrev cleaned-of : tie.After-progress Inv-loop μ-loop → tie.After-behind Inv-loop μ-loop
+cleaned-of c = c .before .before .before .before .before .before .before .before .before .before
 
-sub-others : tie.Need-sub-others
-sub-others c = ends-of c .0
+there-of : (c : tie.After-progress Inv-loop μ-loop) → let named = due (cleaned-of c) in round named .loop .i < length (head named .args .ranges .now)
+there-of c = let named = due (cleaned-of c) in there (round named .loop .inv .0) (head named .pre .named) (named .before .loop-test .taken)
 
-part-others-start : tie.Need-part-others-start
-part-others-start c = omega (arith, ends-of c .0, ends-of c .1)
+add-i : tie.Need-add-i Inv-loop μ-loop
+add-i c =
+    let s = head (due (cleaned-of c)) in
+    omega (arith, there-of c, s .pre .room .narrow, length-map (spans (s .args .ranges .now)) (contour (s .args .points .now)), length-map (s .args .ranges .now) span)
 
-part-others-end : tie.Need-part-others-end
-part-others-end c = omega (arith, ends-of c .0, ends-of c .1)
+loop-less : tie.Need-loop-less Inv-loop μ-loop
+loop-less c = omega (arith, there-of c)
 
-later-requires : tie.Need-later-requires
-later-requires c κs =
-    let reach = c .before .before .before .before .before .before in
-    let first = first-said reach in
-    let named = outline first in
-    let s = head named in
-    let long = first .behind .kept .1 .1 .1 in
-    rest-going (s .args .rule) (s .args .points .now) (s .args .ranges .now) (s .args .at) (s .args .next .now) (s .args .prev .now) (s .args .mark .now) (s .args .out .now) (s .args .records .now) (s .pre) (named .before .if1 .left) _ (same-numbers (named .named .ensures)) _ _ _ (first .behind .ensures) _ (reach .reach .ensures)
-    (long .1 .1 .1 .0) (long .1 .1 .1 .1 .0) _ _ _ (long .0) (long .1 .0) (long .1 .1 .0)
+loop-again : tie.Need-loop-again Inv-loop μ-loop
+loop-again c =
+    let cleaned = cleaned-of c in
+    let long = cleaned .behind .kept .1 .1 .1 in
+    let named = due cleaned in
+    let v = round named .loop .inv in (
+      laying-more (v .0) (head named .pre .named) (named .before .loop-test .taken) _ (same-numbers (named .named .ensures)) _ _ _ (cleaned .behind .ensures) (long .1 .1 .1 .0) (long .1 .1 .1 .1 .0),
+      long .0 ∙ v .1,
+      long .1 .0 ∙ v .2,
+      long .1 .1 .0 ∙ v .3,
+    )
 
-same-length : tie.Need-same-length
-same-length c = let later = later-said c in later .later .kept .1 .1 .1 .1 .0 ∙ first-said (reached-by later) .behind .kept .1 .1 .1 .0
+same-length : tie.Need-same-length Inv-loop μ-loop
+same-length c = c .before .loop .inv .1
 
-same-length-2 : tie.Need-same-length-2
-same-length-2 c = let later = later-said c in later .later .kept .1 .1 .1 .1 .1 .0 ∙ first-said (reached-by later) .behind .kept .1 .1 .1 .1 .0
+same-length-2 : tie.Need-same-length-2 Inv-loop μ-loop
+same-length-2 c = c .before .loop .inv .2
 
-same-length-3 : tie.Need-same-length-3
-same-length-3 c = let later = later-said c in later .later .kept .1 .1 .1 .1 .1 .1 .0 ∙ first-said (reached-by later) .behind .kept .1 .1 .1 .1 .1 .0
+same-length-3 : tie.Need-same-length-3 Inv-loop μ-loop
+same-length-3 c = c .before .loop .inv .3
 
-same-length-4 : tie.Need-same-length-4
-same-length-4 c = let later = later-said c in later .later .kept .1 .1 .1 .1 .1 .1 .1 .0 ∙ first-said (reached-by later) .behind .kept .1 .1 .1 .1 .1 .1 .0
+same-length-4 : tie.Need-same-length-4 Inv-loop μ-loop
+same-length-4 c = c .before .loop .inv .0 .out-long
 
-same-length-5 : tie.Need-same-length-5
-same-length-5 c = let later = later-said c in later .later .kept .1 .1 .1 .1 .1 .1 .1 .1 .0 ∙ first-said (reached-by later) .behind .kept .1 .1 .1 .1 .1 .1 .1 .0
+same-length-5 : tie.Need-same-length-5 Inv-loop μ-loop
+same-length-5 c = c .before .loop .inv .0 .records-long
 
-returns-2 : tie.Need-returns-2
-returns-2 c =
-    let later = later-said c in
-    let reach = reached-by later in
-    let first = first-said reach in
-    let named = outline first in
-    let s = head named in
-    shape-is (s .args .rule) (s .args .points .now) (s .args .ranges .now) (s .args .at) (s .args .next .now) (s .args .prev .now) (s .args .mark .now) (s .args .out .now) (s .args .records .now) (s .pre) (named .before .if1 .left) _ (same-numbers (named .named .ensures)) _ _ _ (first .behind .ensures) _ (reach .reach .ensures) _ (later .later .ensures)
+returns : tie.Need-returns Inv-loop μ-loop
+returns c = laying-all (c .before .loop .inv .0) (c .loop-test .left)
 
 pub shape-spec : {M : Type 1} → statement M
 shape-spec =
     tie.close
     (tie.spec
-    returns
+    Inv-loop
+    μ-loop
+    loop-holds
     named-requires
     behind-requires
-    reach-requires
-    sub-others
-    part-others-start
-    part-others-end
-    later-requires
+    add-i
+    loop-less
+    loop-again
     same-length
     same-length-2
     same-length-3
     same-length-4
     same-length-5
-    returns-2)
+    returns)
