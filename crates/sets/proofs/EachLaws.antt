@@ -1,24 +1,26 @@
 -- Shapes that are cleaned one after the other.
-use mathlib.Core.Path.{_≡_, refl, sym, _∙_, ap, subst}
+use mathlib.Core.Path.{_≡_, refl, sym, _∙_, ap, ap₂, subst}
 use mathlib.Core.Bool.{Bool, true, false}
-use mathlib.Core.List.{List, [], _∷_, _++_, map}
+use mathlib.Core.List.{List, [], _∷_, _++_, map, append-nil}
 use Prim.Native.Nat.{ℕ, zero, suc, _+_, _-_, _≤_, _<_}
 use native.Mathlib.Omega.{arith}
 use native.Mathlib.Numerals.{add-one}
+use lib.Dec.{eqb}
 use lib.IntN.{ℤ}
-use lib.ListN.{length, getD, take, drop, length-append, length-drop, length-set}
-use lib.Seq.{drop-cons, drop-length, getD-drop, getD-take, length-take-le}
+use lib.ListN.{length, getD, take, drop, length-append, length-drop, length-map, length-set}
+use lib.Seq.{drop-cons, drop-length, getD-drop, getD-take, length-take-le, take-all}
+use borrow.Author.Tests.{eq-eqb, ne-eqb}
 use borrow.Rule.Slice.PartMut.{midOf}
 use Rattle.grid.specs.Domain.{count}
 use Rattle.ring.specs.declared.Rule.{Rule}
-use Rattle.buffer.specs.Spans.{span, spans}
-use Rattle.buffer.specs.Sets.{cut, joined, contour, contours, shapes}
+use Rattle.buffer.specs.Spans.{span, spans, row}
+use Rattle.buffer.specs.Sets.{cut, joined, contour, contours, shapes, every}
 use Rattle.sets.specs.declared.inner.contour.Progress.{Progress}
 use Rattle.sets.specs.declared.inner.shapes.Total.{Total}
 use Rattle.sets.specs.Fates.{Fate, fate}
 use Rattle.sets.specs.Fates.Fate.{stays, gone}
 use Rattle.sets.specs.inside.Contour.{Reached, reached, placing, none-yet}
-use Rattle.sets.specs.inside.Shape.{run, outline, run-shape, Room, Named}
+use Rattle.sets.specs.inside.Shape.{run, tested, outline, run-shape, Room, Named, Going}
 use Rattle.sets.specs.inside.Shapes.{Grouped, grouped, adding, added, run-shapes, Addable, Each}
 use Rattle.sets.specs.Promises.{Contours}
 use Rattle.sets.proofs.FateLaws.{fate-smaller}
@@ -184,3 +186,40 @@ module _ {rule : Rule} {p : List ℤ} {cs ss : List (List ℕ)} {out₀ : List �
   grouping-all h =
       let e : i ≡ length ss = omega (arith, x .high) in
       ap (λ (l : List (List ℕ)). run-shapes rule (shapes p (spans cs) (spans l)) (grouped (at .shapes) (reached (at .progress) out records) groups)) (sym (ap (λ (k : ℕ). drop k ss) e ∙ drop-length ss)) ∙ x .is
+
+-- one shape, as the only one of a set
+module _ (p : List ℤ) (cs : List (List ℕ)) where
+  abbrev pub alone : List (List ℕ)
+  alone = row (every cs) ∷ []
+
+  all-is : cut (contours p (spans cs)) (every cs) ≡ contours p (spans cs)
+  all-is =
+      let n : length (contours p (spans cs)) ≡ length cs = length-map (spans cs) (contour p) ∙ length-map cs span in
+      take-all (length cs - 0) (contours p (spans cs)) (omega arith)
+
+  module _ (out : List ℤ) (records groups : List (List ℕ)) where
+    pub alone-each : (next prev mark : List ℕ) → Going p cs none-yet next prev mark out records → length groups ≡ 1 → Each p cs alone next prev mark out records groups
+    unfolding joined
+    alone-each next prev mark g e = record {
+      named = g .named;
+      scratch = g .scratch;
+      within = λ k h. let z : k ≡ 0 = omega arith in rw z (record { forward = omega arith; ends = omega arith });
+      room = subst (λ (l : List (List ℤ)). Room l none-yet out records) (sym (ap (λ (c : List (List ℤ)). joined (c ∷ [])) all-is ∙ append-nil (contours p (spans cs)))) (g .room);
+      space = omega arith;
+      narrow = omega arith;
+    }
+
+    -- it stands where it is written
+    pub alone-tested : (rule : Rule) (t : Total) (out′ : List ℤ) (records′ groups′ : List (List ℕ))
+        → grouped (t .shapes) (reached (t .progress) out′ records′) groups′ ≡ run-shapes rule (shapes p (spans cs) (spans alone)) (grouped 0 (reached none-yet out records) groups)
+        → tested (eqb (t .shapes) 1) (reached (t .progress) out′ records′) ≡ run-shape rule (contours p (spans cs)) (reached none-yet out records)
+    unfolding run-shapes
+    alone-tested rule t out′ records′ groups′ e =
+        let start = grouped 0 (reached none-yet out records) groups in
+        let u = run-shape rule (contours p (spans cs)) (reached none-yet out records) in
+        go (u .stands) (u .reached) (e ∙ ap (λ (c : List (List ℤ)). run-shapes rule (c ∷ []) start) all-is)
+      where
+        go : (b : Bool) (r : Reached) → grouped (t .shapes) (reached (t .progress) out′ records′) groups′ ≡ adding b r (grouped 0 (reached none-yet out records) groups)
+            → tested (eqb (t .shapes) 1) (reached (t .progress) out′ records′) ≡ tested b r
+        go true r f = ap₂ tested (eq-eqb (t .shapes) 1 (ap (λ (w : Grouped). w .count) f)) (ap (λ (w : Grouped). w .reached) f)
+        go false r f = ap₂ tested (ne-eqb (t .shapes) 1 (λ h. absurd (omega (arith, h, ap (λ (w : Grouped). w .count) f)))) (ap (λ (w : Grouped). w .reached) f)

@@ -6,7 +6,6 @@ ghost use Rattle.clean.specs.Outcome.{scratch};
 ghost use Rattle.sets.specs.Outcome.{answer, lent, leaving, shape-outcome, shapes-outcome};
 ghost use Rattle.sets.specs.inside.Shape.{shape-answer};
 use crate::inner::contour::Tried;
-use crate::inner::shape;
 use crate::inner::shapes;
 use crate::inner::shapes::Total;
 use ring::Rule;
@@ -116,7 +115,7 @@ pub fn clean_shape(
     if refused != 0 {
         return nothing(refused, 0);
     }
-    let tried = shape::sweep_shape(
+    let tried = shapes::sweep_shape(
         rule,
         points,
         ranges,

@@ -2,8 +2,8 @@
 ghost use mathlib.Core.Path.{_≡_};
 ghost use Rattle.buffer.specs.Spans.{spans};
 ghost use Rattle.buffer.specs.Sets.{contours};
-ghost use Rattle.sets.specs.inside.Contour.{reached, none-yet};
-ghost use Rattle.sets.specs.inside.Shape.{Going, tested, run-shape, Zeroed};
+ghost use Rattle.sets.specs.inside.Contour.{reached};
+ghost use Rattle.sets.specs.inside.Shape.{Going, tested, run-shape};
 use crate::inner::contour;
 use crate::inner::contour::Progress;
 use crate::inner::contour::Tried;
@@ -42,50 +42,4 @@ pub fn shape(
         stays: stands,
         progress,
     }
-}
-
-// All of the scratch is zeroed.
-pub fn zero_scratch(next: &mut [u32], prev: &mut [u32], mark: &mut [u8])
-    ensures { λ r. ⌜
-        Zeroed (now (next .entry)) (now (prev .entry)) (now (mark .entry))
-        (now (next .exit)) (now (prev .exit)) (now (mark .exit))
-        ⌝ }
-{
-    rows::inner::zero(next);
-    rows::inner::zero(prev);
-    rows::inner::zero_bytes(mark);
-}
-
-// A shape in front of the rows, with the scratch zeroed after it.
-pub fn sweep_shape(
-    rule: Rule,
-    points: &[i32],
-    ranges: &[[usize; 2]],
-    next: &mut [u32],
-    prev: &mut [u32],
-    mark: &mut [u8],
-    out: &mut [i32],
-    records: &mut [[usize; 2]],
-) -> Tried
-    requires { ⌜
-        Going (now points) (now ranges) none-yet (now next) (now prev) (now mark) (now out) (now records)
-        ⌝ }
-    ensures { λ r. ⌜
-        tested (r .stays) (reached (r .progress) (now (out .exit)) (now (records .exit)))
-        ≡ run-shape rule (contours (now (points .entry)) (spans (now (ranges .entry))))
-        (reached none-yet (now (out .entry)) (now (records .entry)))
-        ⌝ }
-    ensures { λ r. ⌜
-        Zeroed (now (next .entry)) (now (prev .entry)) (now (mark .entry))
-        (now (next .exit)) (now (prev .exit)) (now (mark .exit))
-        ⌝ }
-{
-    let at = Progress {
-        points: 0,
-        contours: 0,
-        decisions: 0,
-    };
-    let tried = shape(rule, points, ranges, at, next, prev, mark, out, records);
-    zero_scratch(next, prev, mark);
-    tried
 }

@@ -6,7 +6,7 @@ ghost use lib.ListN.{length, getD};
 ghost use Rattle.buffer.specs.Spans.{span, spans};
 ghost use Rattle.buffer.specs.Sets.{cut, contours, shapes as shapes-of};
 ghost use Rattle.sets.specs.inside.Contour.{reached, none-yet};
-ghost use Rattle.sets.specs.inside.Shape.{run-shape, Zeroed};
+ghost use Rattle.sets.specs.inside.Shape.{Going, tested, run-shape, Zeroed};
 ghost use Rattle.sets.specs.inside.Shapes.{Groupable, Addable, Within, Each, grouped, adding, added, run-shapes};
 use crate::inner::contour::Progress;
 use crate::inner::contour::Tried;
@@ -138,6 +138,18 @@ fn each(
     at
 }
 
+// All of the scratch is zeroed.
+fn zero_scratch(next: &mut [u32], prev: &mut [u32], mark: &mut [u8])
+    ensures { λ r. ⌜
+        Zeroed (now (next .entry)) (now (prev .entry)) (now (mark .entry))
+        (now (next .exit)) (now (prev .exit)) (now (mark .exit))
+        ⌝ }
+{
+    rows::inner::zero(next);
+    rows::inner::zero(prev);
+    rows::inner::zero_bytes(mark);
+}
+
 // The shapes in front of the rows, with the scratch zeroed after them.
 pub fn sweep_shapes(
     rule: Rule,
@@ -178,6 +190,51 @@ pub fn sweep_shapes(
         records,
         groups,
     );
-    shape::zero_scratch(next, prev, mark);
+    zero_scratch(next, prev, mark);
     at
+}
+
+// A shape in front of the rows, as the only one of a set.
+pub fn sweep_shape(
+    rule: Rule,
+    points: &[i32],
+    ranges: &[[usize; 2]],
+    next: &mut [u32],
+    prev: &mut [u32],
+    mark: &mut [u8],
+    out: &mut [i32],
+    records: &mut [[usize; 2]],
+) -> Tried
+    requires { ⌜
+        Going (now points) (now ranges) none-yet (now next) (now prev) (now mark) (now out) (now records)
+        ⌝ }
+    ensures { λ r. ⌜
+        tested (r .stays) (reached (r .progress) (now (out .exit)) (now (records .exit)))
+        ≡ run-shape rule (contours (now (points .entry)) (spans (now (ranges .entry))))
+        (reached none-yet (now (out .entry)) (now (records .entry)))
+        ⌝ }
+    ensures { λ r. ⌜
+        Zeroed (now (next .entry)) (now (prev .entry)) (now (mark .entry))
+        (now (next .exit)) (now (prev .exit)) (now (mark .exit))
+        ⌝ }
+{
+    let whole = [[0, ranges.len()]];
+    let mut group = [[0usize; 2]; 1];
+    let at = sweep_shapes(
+        rule,
+        points,
+        ranges,
+        &whole,
+        next,
+        prev,
+        mark,
+        out,
+        records,
+        &mut group,
+    );
+    let progress = at.progress;
+    Tried {
+        stays: at.shapes == 1,
+        progress,
+    }
 }
