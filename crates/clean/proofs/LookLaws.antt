@@ -1,6 +1,6 @@
 -- The look along a contour: for spikes among the points that are left without equal neighbours, and for what the verdicts say of the vertices that stand.
 use mathlib.Core.Path.{_≡_, refl, sym, _∙_, ap, ap₂}
-use mathlib.Core.Bool.{Bool, true, false, not, _&&_, _||_, and-false}
+use mathlib.Core.Bool.{Bool, true, false, not, _&&_, _||_, and-false, true≢false}
 use mathlib.Core.List.{List, _∷_}
 use Prim.Native.Nat.{ℕ, zero, suc, _+_, _-_, _<_, _≤_}
 use native.Mathlib.Omega.{arith}
@@ -28,6 +28,7 @@ use Rattle.ring.specs.Rule.{goes, goes-at, goes-along}
 use Rattle.ring.specs.inside.Rows.{FirstStand, Standing}
 use Rattle.ring.proofs.Filling.{fresh-next, fresh-before, fresh-last}
 use Rattle.ring.proofs.RuleLaws.{goes-edges}
+use Rattle.clean.specs.declared.inner.look.Look.{Look}
 use Rattle.clean.specs.Verdicts.{no-spike-left, passes}
 use Rattle.clean.specs.inside.Looking.{Onward, LookedOver}
 use Rattle.clean.proofs.OutcomeLaws.{contour-count}
@@ -137,6 +138,13 @@ module _ (row : List ℤ) where
     stands-pass : (rule : Rule) → 3 ≤ n → FirstStand (goes rule row) n n → passes rule (points row) ≡ true
     stands-pass Collinear m f = stands-simple (points row) (omega (arith, points-length c)) (front-stands (goes-at Collinear) row c f)
     stands-pass Spike m f = stands-spike-free (points row) (omega (arith, points-length c)) (front-stands (goes-at Spike) row c f) .0
+
+    -- so of one that does not pass some vertex is to go
+    pub failing-goes : (rule : Rule) → 3 ≤ n → (r : Look) → LookedOver rule row n r → r .passes ≡ false → r .standing < n
+    failing-goes rule m r l f = omega (arith, l .standing .within, not-all)
+      where
+        not-all : r .standing ≡ n → ⊥
+        not-all e = true≢false (sym (stands-pass rule m (rw e at (l .standing .stand))) ∙ sym (l .verdict) ∙ f)
 
     module _ (rule : Rule) (many : 3 ≤ n) (k : ℕ) (x : Standing (goes rule row) n k) where
       pub looked-all : k ≡ n → LookedOver rule row n (record { passes = true; standing = k })

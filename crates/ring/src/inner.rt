@@ -128,23 +128,10 @@ fn spike_along(to: Edge, from: Edge) -> bool
     grid::inner::backward(to, from)
 }
 
-// Whether a vertex is to go, by the edges to it and from it. With a cross that is not 0 it stays by either rule, and
-// neither edge leads to an equal point.
-fn goes_along(rule: Rule, to: Edge, from: Edge) -> bool
-    requires { ⌜ Short to from ⌝ }
-    ensures { λ r. ⌜ r ≡ goes-along-by rule to from ⌝ }
-{
-    if !grid::inner::aligned(to, from) {
-        return false;
-    }
-    match rule {
-        Rule::Collinear => true,
-        Rule::Spike => spike_along(to, from),
-    }
-}
-
-// The same by the rule Collinear, or by the rule Spike. LLVM passes on a bool that is a constant, and no enum.
-fn goes_along_by(collinear: bool, to: Edge, from: Edge) -> bool
+// Whether a vertex is to go by the rule Collinear, or by the rule Spike, by the edges to it and from it. With a cross that
+// is not 0 it stays by either rule, and neither edge leads to an equal point. LLVM passes on a bool that is a constant,
+// and no enum.
+fn goes_along(collinear: bool, to: Edge, from: Edge) -> bool
     requires { ⌜ Short to from ⌝ }
     ensures { λ r. ⌜ r ≡ goes-along-by (by collinear) to from ⌝ }
 {
@@ -158,13 +145,13 @@ fn goes_along_by(collinear: bool, to: Edge, from: Edge) -> bool
 }
 
 // Whether the vertex at a position is to go, with these neighbours.
-pub fn goes(rule: Rule, points: &[i32], before: usize, at: usize, after: usize) -> bool
+pub fn goes(collinear: bool, points: &[i32], before: usize, at: usize, after: usize) -> bool
     requires { ⌜ Vertices (now points) before at after ⌝ }
-    ensures { λ r. ⌜ r ≡ goes-by rule (now (points .entry)) before at after ⌝ }
+    ensures { λ r. ⌜ r ≡ goes-by (by collinear) (now (points .entry)) before at after ⌝ }
 {
     let to = grid::inner::edge_at(points, before, at);
     let from = grid::inner::edge_at(points, at, after);
-    goes_along(rule, to, from)
+    goes_along(collinear, to, from)
 }
 
 // How many vertices stand from the front of a contour, by the rule Collinear or by the rule Spike: the position of the first
@@ -179,13 +166,13 @@ pub fn standing_by(collinear: bool, points: &[i32], n: usize) -> usize
     let mut i: usize = 0;
     while i < last {
         let from = grid::inner::edge_at(points, i, i + 1);
-        if goes_along_by(collinear, to, from) {
+        if goes_along(collinear, to, from) {
             return i;
         }
         to = from;
         i += 1;
     }
-    if goes_along_by(collinear, to, closing) {
+    if goes_along(collinear, to, closing) {
         return last;
     }
     n
@@ -221,9 +208,9 @@ fn unmarked(mark: &[u8]) -> usize
 
 // The walk of a ring that is linked, from position k on: the first k stand, and are marked. It stops where it meets a
 // marked position: from there on nothing goes any more, and each position that is not marked yet takes one decision.
-// These are counted beforehand, so that only a removal changes the count.
+// These are counted beforehand, so that only a removal changes the count. Each rule has a loop of its own.
 fn round(
-    rule: Rule,
+    collinear: bool,
     points: &[i32],
     k: usize,
     next: &mut [u32],
@@ -232,11 +219,11 @@ fn round(
 ) -> Ending
     requires { ⌜ Contour (now points) (length (now mark)) × (3 ≤ length (now mark)) ⌝ }
     requires { ⌜
-        Begun (goes-by rule (now points)) (length (now mark)) k
+        Begun (goes-by (by collinear) (now points)) (length (now mark)) k
         (now mark) (now next) (now prev)
         ⌝ }
     ensures { λ r. ⌜
-        walk-of (goes-by rule (now (points .entry))) (length (now (mark .entry)))
+        walk-of (goes-by (by collinear) (now (points .entry))) (length (now (mark .entry)))
         ≡ ended-as r (now (mark .exit))
         ⌝ }
 {
@@ -246,7 +233,7 @@ fn round(
     while mark[at] == 0 {
         let before = wide(prev[at]);
         let after = wide(next[at]);
-        if goes(rule, points, before, at, after) {
+        if goes(collinear, points, before, at, after) {
             if remaining <= 3 {
                 return Ending {
                     kept: false,
@@ -287,5 +274,8 @@ pub fn walk(
 {
     link(next, prev, mark);
     mark_first(mark, k);
-    round(rule, points, k, next, prev, mark)
+    match rule {
+        Rule::Collinear => round(true, points, k, next, prev, mark),
+        Rule::Spike => round(false, points, k, next, prev, mark),
+    }
 }

@@ -6,7 +6,7 @@ ghost use lib.ListN.{length, getD, set};
 ghost use Rattle.rows.specs.Rows.{front};
 ghost use Rattle.ring.specs.Walk.{survivors};
 ghost use Rattle.ring.specs.Rule.{goes};
-ghost use Rattle.ring.specs.inside.Rows.{Standing};
+ghost use Rattle.ring.specs.inside.Rows.{FirstStand};
 ghost use Rattle.clean.specs.Outcome.{chosen};
 ghost use Rattle.clean.specs.inside.Settling.{Ready, Settled, Swept};
 use crate::cleaning::Cleaned;
@@ -50,8 +50,7 @@ fn write(points: &[i32], mark: &[u8], out: &mut [i32]) -> usize
 }
 
 // The walk and what it writes, with scratch of exactly the points' count, of three points or more that were looked over
-// already. Where all stand the contour is copied, after as many decisions, and nothing is linked; otherwise the walk
-// begins at the first that is to go.
+// already, from one on before which all stand.
 pub fn settle_from(
     rule: Rule,
     points: &[i32],
@@ -62,17 +61,12 @@ pub fn settle_from(
     out: &mut [i32],
 ) -> Cleaned
     requires { ⌜ Ready (now points) (now next) (now prev) (now mark) (now out) × (3 ≤ length (now mark)) ⌝ }
-    requires { ⌜ Standing (goes rule (now points)) (length (now mark)) standing ⌝ }
+    requires { ⌜
+        (standing < length (now mark))
+        × FirstStand (goes rule (now points)) (length (now mark)) standing
+        ⌝ }
     ensures { λ r. ⌜ Settled rule (now (points .entry)) (now (out .entry)) r (now (out .exit)) ⌝ }
 {
-    if standing == mark.len() {
-        rows::inner::copy(points, out, 0);
-        return Cleaned {
-            reply: replies::DONE,
-            points: mark.len(),
-            decisions: mark.len(),
-        };
-    }
     let walked = ring::inner::walk(rule, points, standing, next, prev, mark);
     let decisions = walked.decisions;
     if walked.kept {
@@ -90,7 +84,8 @@ pub fn settle_from(
     }
 }
 
-// The same of any count of points, looked over first.
+// The same of any count of points, looked over first. Where all stand the contour is copied, after as many decisions, and
+// nothing is linked; otherwise the walk begins at the first that is to go.
 pub fn settle(
     rule: Rule,
     points: &[i32],
@@ -110,6 +105,14 @@ pub fn settle(
         };
     }
     let standing = ring::inner::standing(rule, points, mark.len());
+    if standing == mark.len() {
+        rows::inner::copy(points, out, 0);
+        return Cleaned {
+            reply: replies::DONE,
+            points: mark.len(),
+            decisions: mark.len(),
+        };
+    }
     settle_from(rule, points, standing, next, prev, mark, out)
 }
 

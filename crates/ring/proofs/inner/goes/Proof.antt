@@ -3,7 +3,7 @@ use mathlib.Core.Path.{sym, _∙_, ap₂}
 use Rattle.grid.specs.Points.{at}
 use Rattle.grid.proofs.PointLaws.{at-on}
 use Rattle.grid.proofs.EdgeLaws.{corner-short}
-use Rattle.ring.specs.Rule.{goes-along}
+use Rattle.ring.specs.Rule.{by, goes-along}
 use Rattle.ring.proofs.RuleLaws.{goes-edges}
 use Rattle.ring.proofs.inner.goes.Statement.{statement}
 use Rattle.ring.proofs.inner.goes.Tie as tie
@@ -25,8 +25,8 @@ returns : tie.Need-returns
 returns c =
     let s = c .before .before .before in
     let row = s .args .points .now in
-    c .goes-along .ensures ∙ ap₂ (goes-along (s .args .rule)) (c .before .before .edge-at .ensures) (c .before .edge-at2 .ensures)
-    ∙ sym (goes-edges (s .args .rule) (at row (s .args .before)) (at row (s .args .at)) (at row (s .args .after)))
+    c .goes-along .ensures ∙ ap₂ (goes-along (by (s .args .collinear))) (c .before .before .edge-at .ensures) (c .before .edge-at2 .ensures)
+    ∙ sym (goes-edges (by (s .args .collinear)) (at row (s .args .before)) (at row (s .args .at)) (at row (s .args .after)))
 
 pub goes-spec : {M : Type 1} → statement M
 goes-spec = tie.close (tie.spec edge-at-requires edge-at-requires-2 goes-along-requires returns)

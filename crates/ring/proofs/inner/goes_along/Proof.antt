@@ -2,10 +2,9 @@
 use borrow.Author.Needs.{needs}
 use borrow.Author.Tests.{not-true, not-false}
 use mathlib.Core.Path.{_≡_, sym, _∙_, ap}
-use mathlib.Core.Bool.{true}
+use mathlib.Core.Bool.{Bool, true}
 use Rattle.grid.specs.Edges.{aligned}
-use Rattle.ring.specs.declared.Rule.{Rule}
-use Rattle.ring.specs.Rule.{goes-along}
+use Rattle.ring.specs.Rule.{by, goes-along}
 use Rattle.ring.proofs.RuleLaws.{along-turning, along-aligned}
 use Rattle.ring.proofs.inner.goes_along.Statement.{statement}
 use Rattle.ring.proofs.inner.goes_along.Tie as tie
@@ -20,22 +19,16 @@ aligned-requires c κs = search needs
 returns : tie.Need-returns
 returns c = along-turning _ _ _ (sym (c .before .aligned .ensures) ∙ not-true _ (c .if1 .taken))
 
-enum-told : tie.Need-enum-told
-enum-told c = search needs
-
-enum-told-2 : tie.Need-enum-told-2
-enum-told-2 c = search needs
+returns-2 : tie.Need-returns-2
+returns-2 c = along-aligned _ _ _ (lined-up (c .before)) (ap by (c .if2 .taken))
 
 spike-along-requires : tie.Need-spike-along-requires
-spike-along-requires c κs = (c .before .before .before .before .pre, lined-up (c .before .before))
-
-returns-2 : tie.Need-returns-2
-returns-2 c = along-aligned _ _ _ (lined-up (c .before .before)) (c .enum-told .given .1)
+spike-along-requires c κs = (c .before .before .before .pre, lined-up (c .before))
 
 returns-3 : tie.Need-returns-3
-returns-3 c = let e = c .before in c .spike-along .ensures ∙ ap (λ (r : Rule). goes-along r (e .before .before .before .before .args .to) (e .before .before .before .before .args .from)) (sym (e .enum-told2 .given .1))
+returns-3 c = let s = c .before .before .before .before in c .spike-along .ensures ∙ ap (λ (b : Bool). goes-along (by b) (s .args .to) (s .args .from)) (sym (c .before .if2 .left))
 
 pub goes-along-spec : {M : Type 1} → statement M
 goes-along-spec =
     tie.close
-    (tie.spec aligned-requires returns enum-told enum-told-2 spike-along-requires returns-2 returns-3)
+    (tie.spec aligned-requires returns returns-2 spike-along-requires returns-3)

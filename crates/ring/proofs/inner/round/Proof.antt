@@ -5,16 +5,16 @@ use Prim.Native.Nat.{_+_, _*_, _<_, _≤_, _^_}
 use native.Mathlib.Omega.{arith}
 use lib.ListN.{length}
 use Rattle.ring.specs.Walk.{unmarked, mark-at, occurrences, to-go}
-use Rattle.ring.specs.Rule.{goes}
+use Rattle.ring.specs.Rule.{by, goes}
 use Rattle.ring.proofs.Loop.{Turn, Known, known, turn-start, turn-idle, turn-stay, stay-less, turn-removable, turn-go, go-less, turn-fall}
 use Rattle.ring.proofs.inner.round.Statement.{statement}
 use Rattle.ring.proofs.inner.round.Tie as tie
 
 abbrev Inv-loop : tie.InvT-loop
-Inv-loop rule row k next₀ prev₀ mark₀ remaining₀ decisions₀ at₀ next prev mark remaining decisions at = Turn (goes rule row) (length mark₀) next prev mark remaining decisions at
+Inv-loop collinear row k next₀ prev₀ mark₀ remaining₀ decisions₀ at₀ next prev mark remaining decisions at = Turn (goes (by collinear) row) (length mark₀) next prev mark remaining decisions at
 
 abbrev μ-loop : tie.MeasureT-loop
-μ-loop rule row k next₀ prev₀ mark₀ remaining₀ decisions₀ at₀ next prev mark remaining decisions at = 3 * remaining + occurrences unmarked mark
+μ-loop collinear row k next₀ prev₀ mark₀ remaining₀ decisions₀ at₀ next prev mark remaining decisions at = 3 * remaining + occurrences unmarked mark
 
 -- the ring has three positions or more
 many : (c : tie.At-loop Inv-loop μ-loop) → 3 ≤ length (c .before .before .before .before .args .mark .now)
@@ -33,7 +33,7 @@ due c = sym (head (c .before .before) .0 .read) ∙ c .if1 .taken
 
 -- what the rule said
 said : (c : tie.After-goes Inv-loop μ-loop) → let l = c .before .before .before .before .before .before .before in let s = l .before .before .before .before in
-    c .goes .result ≡ to-go (goes (s .args .rule) (s .args .points .now)) (l .loop .mark) (l .loop .at)
+    c .goes .result ≡ to-go (goes (by (s .args .collinear)) (s .args .points .now)) (l .loop .mark) (l .loop .at)
 said c =
     let w = c .before in
     let h = head (w .before .before .before .before .before .before) .0 .at in

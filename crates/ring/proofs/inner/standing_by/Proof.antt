@@ -31,8 +31,8 @@ edge-at-requires-2 c κs =
     let p = c .before .before .before .pre .0 in
     (p .on, omega (arith, p .even, c .loop-test .taken), omega (arith, p .even, c .loop-test .taken))
 
-goes-along-by-requires : tie.Need-goes-along-by-requires Inv-loop μ-loop
-goes-along-by-requires c κs =
+goes-along-requires : tie.Need-goes-along-requires Inv-loop μ-loop
+goes-along-requires c κs =
     let l = c .before .before in
     let s = l .before .before in
     short-on (by (s .args .collinear)) (s .args .points .now) (s .pre .0) (l .loop .inv) _ (c .edge-at2 .ensures)
@@ -42,7 +42,7 @@ returns c =
     let g = c .before in
     let l = g .before .before .before in
     let s = l .before .before in
-    going-met (by (s .args .collinear)) (s .args .points .now) (s .pre .0) (l .loop .inv) (g .before .before .loop-test .taken) (g .before .edge-at2 .ensures) (sym (g .goes-along-by .ensures) ∙ c .if1 .taken)
+    going-met (by (s .args .collinear)) (s .args .points .now) (s .pre .0) (l .loop .inv) (g .before .before .loop-test .taken) (g .before .edge-at2 .ensures) (sym (g .goes-along .ensures) ∙ c .if1 .taken)
 
 add-i : tie.Need-add-i Inv-loop μ-loop
 add-i c = search needs
@@ -55,10 +55,10 @@ loop-again c =
     let g = c .before in
     let l = g .before .before .before in
     let s = l .before .before in
-    passed-more (by (s .args .collinear)) (s .args .points .now) (s .pre .0) (l .loop .inv) (g .before .before .loop-test .taken) (g .before .edge-at2 .ensures) (sym (g .goes-along-by .ensures) ∙ c .if1 .left)
+    passed-more (by (s .args .collinear)) (s .args .points .now) (s .pre .0) (l .loop .inv) (g .before .before .loop-test .taken) (g .before .edge-at2 .ensures) (sym (g .goes-along .ensures) ∙ c .if1 .left)
 
-goes-along-by-requires-2 : tie.Need-goes-along-by-requires-2 Inv-loop μ-loop
-goes-along-by-requires-2 c κs =
+goes-along-requires-2 : tie.Need-goes-along-requires-2 Inv-loop μ-loop
+goes-along-requires-2 c κs =
     let l = c .before in
     let s = l .before .before in
     short-on (by (s .args .collinear)) (s .args .points .now) (s .pre .0) (l .loop .inv) 0 (closing-from (by (s .args .collinear)) (s .args .points .now) (s .pre .0) (l .loop .inv) (c .loop-test .left))
@@ -68,14 +68,14 @@ returns-2 c =
     let g = c .before in
     let l = g .before .before in
     let s = l .before .before in
-    last-met (by (s .args .collinear)) (s .args .points .now) (s .pre .0) (l .loop .inv) (g .before .loop-test .left) (sym (g .goes-along-by2 .ensures) ∙ c .if2 .taken)
+    last-met (by (s .args .collinear)) (s .args .points .now) (s .pre .0) (l .loop .inv) (g .before .loop-test .left) (sym (g .goes-along2 .ensures) ∙ c .if2 .taken)
 
 returns-3 : tie.Need-returns-3 Inv-loop μ-loop
 returns-3 c =
     let g = c .before in
     let l = g .before .before in
     let s = l .before .before in
-    passed-all (by (s .args .collinear)) (s .args .points .now) (s .pre .0) (l .loop .inv) (g .before .loop-test .left) (sym (g .goes-along-by2 .ensures) ∙ c .if2 .left)
+    passed-all (by (s .args .collinear)) (s .args .points .now) (s .pre .0) (l .loop .inv) (g .before .loop-test .left) (sym (g .goes-along2 .ensures) ∙ c .if2 .left)
 
 pub standing-by-spec : {M : Type 1} → statement M
 standing-by-spec =
@@ -88,11 +88,11 @@ standing-by-spec =
     loop-holds
     add-edge-at
     edge-at-requires-2
-    goes-along-by-requires
+    goes-along-requires
     returns
     add-i
     loop-less
     loop-again
-    goes-along-by-requires-2
+    goes-along-requires-2
     returns-2
     returns-3)

@@ -3,6 +3,7 @@ use borrow.Author.Needs.{needs}
 use mathlib.Core.Path.{sym}
 use lib.Seq.{length-take-le}
 use Rattle.grid.specs.Domain.{count}
+use Rattle.clean.proofs.LookLaws.{failing-goes}
 use Rattle.sets.proofs.FateLaws.{fated-few, fated-copied, fated-walked}
 use Rattle.sets.proofs.BehindLaws.{back-long, ready}
 use Rattle.sets.proofs.inner.contour.one.Statement.{statement}
@@ -60,7 +61,11 @@ settle-from-requires c κs =
     let looked = failing .before in
     let s = head failing in
     let long = length-take-le _ (s .args .mark .now) (s .pre .scratch .in-mark) in
-    ((ready _ _ _ _ _ (s .pre), rw long (looked .before .if1 .left)), rw long (looked .look-over .ensures .standing))
+    let many = looked .before .if1 .left in
+    let over = looked .look-over .ensures in (
+      (ready _ _ _ _ _ (s .pre), rw long many),
+      (rw long (failing-goes (s .args .contour .now) (s .pre .contour) (s .args .rule) many _ over (failing .if2 .left)), rw long (over .standing .stand)),
+    )
 
 same-length-2 : tie.Need-same-length-2
 same-length-2 c =
