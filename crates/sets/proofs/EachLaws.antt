@@ -16,12 +16,13 @@ use Rattle.ring.specs.declared.Rule.{Rule}
 use Rattle.buffer.specs.Spans.{span, spans, row}
 use Rattle.buffer.specs.Sets.{cut, joined, contour, contours, shapes, every}
 use Rattle.sets.specs.declared.inner.contour.Progress.{Progress}
+use Rattle.sets.specs.declared.inner.contour.Tried.{Tried}
 use Rattle.sets.specs.declared.inner.shapes.Total.{Total}
 use Rattle.sets.specs.Fates.{Fate, fate}
 use Rattle.sets.specs.Fates.Fate.{stays, gone}
 use Rattle.sets.specs.inside.Contour.{Reached, reached, placing, none-yet}
 use Rattle.sets.specs.inside.Shape.{run, tested, outline, run-shape, Room, Named, Going}
-use Rattle.sets.specs.inside.Shapes.{Grouped, grouped, adding, added, run-shapes, Addable, Each}
+use Rattle.sets.specs.inside.Shapes.{Grouped, grouped, adding, added, run-shapes, Addable, Each, only}
 use Rattle.sets.specs.Promises.{Contours}
 use Rattle.sets.proofs.FateLaws.{fate-smaller}
 use Rattle.sets.proofs.BehindLaws.{joined-more, all-named}
@@ -209,15 +210,15 @@ module _ (p : List ℤ) (cs : List (List ℕ)) where
       narrow = omega arith;
     }
 
-    -- it stands where it is written
     pub alone-tested : (rule : Rule) (t : Total) (out′ : List ℤ) (records′ groups′ : List (List ℕ))
         → grouped (t .shapes) (reached (t .progress) out′ records′) groups′ ≡ run-shapes rule (shapes p (spans cs) (spans alone)) (grouped 0 (reached none-yet out records) groups)
-        → tested (eqb (t .shapes) 1) (reached (t .progress) out′ records′) ≡ run-shape rule (contours p (spans cs)) (reached none-yet out records)
+        → (r : Tried) → r ≡ only t → tested (r .stays) (reached (r .progress) out′ records′) ≡ run-shape rule (contours p (spans cs)) (reached none-yet out records)
     unfolding run-shapes
-    alone-tested rule t out′ records′ groups′ e =
+    alone-tested rule t out′ records′ groups′ e r o =
         let start = grouped 0 (reached none-yet out records) groups in
         let u = run-shape rule (contours p (spans cs)) (reached none-yet out records) in
-        go (u .stands) (u .reached) (e ∙ ap (λ (c : List (List ℤ)). run-shapes rule (c ∷ []) start) all-is)
+        ap (λ (r : Tried). tested (r .stays) (reached (r .progress) out′ records′)) o
+        ∙ go (u .stands) (u .reached) (e ∙ ap (λ (c : List (List ℤ)). run-shapes rule (c ∷ []) start) all-is)
       where
         go : (b : Bool) (r : Reached) → grouped (t .shapes) (reached (t .progress) out′ records′) groups′ ≡ adding b r (grouped 0 (reached none-yet out records) groups)
             → tested (eqb (t .shapes) 1) (reached (t .progress) out′ records′) ≡ tested b r

@@ -31,27 +31,26 @@ pub names-moved : (p : List ℤ) (ranges others : List (List ℕ)) (k i : ℕ) �
 names-moved p ranges others k i e h n = record { there = h; forward = rw e (n .forward); fits = rw e (n .fits) }
 
 -- a shape whose contours from number i on are left, by whether it stands so far
-abbrev rest : Bool → ℕ → Rule → List (List ℤ) → Reached → Tested
-rest true zero rule l s = run-shape rule l s
-rest true (suc i) rule l s = tested true (run rule l s)
-rest false i rule l s = tested false s
+abbrev from-here : Bool → ℕ → Rule → List (List ℤ) → Reached → Tested
+from-here true zero rule l s = run-shape rule l s
+from-here true (suc i) rule l s = tested true (run rule l s)
+from-here false i rule l s = tested false s
 
-rest-none : (b : Bool) (i : ℕ) (rule : Rule) (s : Reached) → tested b s ≡ rest b i rule [] s
+from-here-none : (i : ℕ) (rule : Rule) (s : Reached) → tested true s ≡ from-here true i rule [] s
 unfolding run run-shape
-rest-none true zero rule s = refl
-rest-none true (suc i) rule s = refl
-rest-none false i rule s = refl
+from-here-none zero rule s = refl
+from-here-none (suc i) rule s = refl
 
 -- with its first contour it stands or falls, and with a later one it stands
-rest-more : (rule : Rule) (c : List ℤ) (l : List (List ℤ)) (s t : Reached) (b : Bool) (i : ℕ) → t ≡ placing (fate rule c) s → b ≡ stayed (fate rule c)
-    → rest (b || ltb 0 i) (suc i) rule l t ≡ rest true i rule (c ∷ l) s
+from-here-more : (rule : Rule) (c : List ℤ) (l : List (List ℤ)) (s t : Reached) (b : Bool) (i : ℕ) → t ≡ placing (fate rule c) s → b ≡ stayed (fate rule c)
+    → from-here (b || ltb 0 i) (suc i) rule l t ≡ from-here true i rule (c ∷ l) s
 unfolding run run-shape
-rest-more rule c l s t b zero e f = go (fate rule c) e f
+from-here-more rule c l s t b zero e f = go (fate rule c) e f
   where
-    go : (w : Fate) → t ≡ placing w s → b ≡ stayed w → rest (b || ltb 0 0) 1 rule l t ≡ outline w rule l s
+    go : (w : Fate) → t ≡ placing w s → b ≡ stayed w → from-here (b || ltb 0 0) 1 rule l t ≡ outline w rule l s
     go (stays d k) e f = rw f (ap (λ (u : Reached). tested true (run rule l u)) e)
     go (gone k) e f = rw f (ap (tested false) e)
-rest-more rule c l s t b (suc i) e f = rw (lt-ltb 0 (suc i) (omega arith), or-true b) (ap (λ (u : Reached). tested true (run rule l u)) e)
+from-here-more rule c l s t b (suc i) e f = rw (lt-ltb 0 (suc i) (omega arith), or-true b) (ap (λ (u : Reached). tested true (run rule l u)) e)
 
 -- the contours of the ranges from i on are left
 pub record Laying (rule : Rule) (p : List ℤ) (ranges : List (List ℕ)) (at₀ : Progress) (out₀ : List ℤ) (records₀ : List (List ℕ)) (stands : Bool) (at : Progress) (out : List ℤ) (records : List (List ℕ)) (i : ℕ) : Type 0 where
@@ -59,7 +58,7 @@ pub record Laying (rule : Rule) (p : List ℤ) (ranges : List (List ℕ)) (at₀
   pub out-long : length out ≡ length out₀
   pub records-long : length records ≡ length records₀
   pub room : Room (contours p (spans (drop i ranges))) at out records
-  pub is : rest stands i rule (contours p (spans (drop i ranges))) (reached at out records) ≡ run-shape rule (contours p (spans ranges)) (reached at₀ out₀ records₀)
+  pub is : from-here stands i rule (contours p (spans (drop i ranges))) (reached at out records) ≡ run-shape rule (contours p (spans ranges)) (reached at₀ out₀ records₀)
 
 pub laying-none : (rule : Rule) (p : List ℤ) (ranges : List (List ℕ)) (at : Progress) (out : List ℤ) (records : List (List ℕ))
     → Room (contours p (spans ranges)) at out records → Laying rule p ranges at out records true at out records 0
@@ -67,9 +66,9 @@ laying-none rule p ranges at out records r = record { high = omega arith; out-lo
 
 module _ {rule : Rule} {p : List ℤ} {ranges : List (List ℕ)} {at₀ : Progress} {out₀ : List ℤ} {records₀ : List (List ℕ)} {stands : Bool} {at : Progress} {out : List ℤ} {records : List (List ℕ)} {i : ℕ}
     (x : Laying rule p ranges at₀ out₀ records₀ stands at out records i) where
-  module _ (n : Named p ranges) (onward : (stands && ltb i (length ranges)) ≡ true) where
+  module _ (n : Named p ranges) (test : (stands && ltb i (length ranges)) ≡ true) where
     pub there : i < length ranges
-    there = ltb-true i (length ranges) (and-right stands _ onward)
+    there = ltb-true i (length ranges) (and-right stands _ test)
 
     next-is : contours p (spans (drop i ranges)) ≡ contour p (span (getD ranges i [])) ∷ contours p (spans (drop (suc i) ranges))
     next-is = ap (λ (l : List (List ℕ)). contours p (spans l)) (drop-cons ranges i [] there)
@@ -88,23 +87,19 @@ module _ {rule : Rule} {p : List ℤ} {ranges : List (List ℕ)} {at₀ : Progre
           records-long = v ∙ x .records-long;
           room = rw (add-one i) (room-rest rule _ _ at out records (rw next-is at (x .room)) (named-contour p ranges n i there) (t .progress) out′ records′ e u v);
           is = rw (add-one i)
-              (rest-more rule _ (contours p (spans (drop (suc i) ranges))) (reached at out records) _ (t .stays) i e f
-              ∙ ap₂ (λ (b : Bool) (l : List (List ℤ)). rest b i rule l (reached at out records)) (sym (and-left stands _ onward)) (sym next-is) ∙ x .is);
+              (from-here-more rule _ (contours p (spans (drop (suc i) ranges))) (reached at out records) _ (t .stays) i e f
+              ∙ ap₂ (λ (b : Bool) (l : List (List ℤ)). from-here b i rule l (reached at out records)) (sym (and-left stands _ test)) (sym next-is) ∙ x .is);
         }
 
   pub laying-all : (stands && ltb i (length ranges)) ≡ false → tested stands (reached at out records) ≡ run-shape rule (contours p (spans ranges)) (reached at₀ out₀ records₀)
-  laying-all h = go stands h (x .is)
+  laying-all h = go stands h ∙ x .is
     where
-      done : (b : Bool) → length ranges ≤ i → rest b i rule (contours p (spans (drop i ranges))) (reached at out records) ≡ run-shape rule (contours p (spans ranges)) (reached at₀ out₀ records₀)
-          → tested b (reached at out records) ≡ run-shape rule (contours p (spans ranges)) (reached at₀ out₀ records₀)
-      done b l e =
-          let all : i ≡ length ranges = omega (arith, x .high) in
-          rest-none b i rule (reached at out records) ∙ ap (λ (l : List (List ℕ)). rest b i rule (contours p (spans l)) (reached at out records)) (sym (ap (λ (k : ℕ). drop k ranges) all ∙ drop-length ranges)) ∙ e
-
-      go : (b : Bool) → (b && ltb i (length ranges)) ≡ false → rest b i rule (contours p (spans (drop i ranges))) (reached at out records) ≡ run-shape rule (contours p (spans ranges)) (reached at₀ out₀ records₀)
-          → tested b (reached at out records) ≡ run-shape rule (contours p (spans ranges)) (reached at₀ out₀ records₀)
-      go true l e = done true (ltb-false i (length ranges) l) e
-      go false l e = e
+      go : (b : Bool) → (b && ltb i (length ranges)) ≡ false → tested b (reached at out records) ≡ from-here b i rule (contours p (spans (drop i ranges))) (reached at out records)
+      go true l =
+          let e : i ≡ length ranges = omega (arith, x .high, ltb-false i (length ranges) l) in
+          from-here-none i rule (reached at out records)
+          ∙ ap (λ (l : List (List ℕ)). from-here true i rule (contours p (spans l)) (reached at out records)) (sym (ap (λ (k : ℕ). drop k ranges) e ∙ drop-length ranges))
+      go false l = refl
 
 pub same-grouped : {a b : ℕ} {r t : Reached} {k l : List (List ℕ)} → a ≡ b → r ≡ t → k ≡ l → grouped a r k ≡ grouped b t l
 same-grouped e f g = cc

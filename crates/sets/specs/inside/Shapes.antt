@@ -3,12 +3,14 @@ use mathlib.Core.Bool.{Bool, true, false}
 use mathlib.Core.List.{List, [], _∷_}
 use Prim.Native.Nat.{ℕ, _+_, _*_, _<_, _≤_, _^_}
 use lib.ListN.{length, getD, set}
+use lib.Dec.{eqb}
 use lib.IntN.{ℤ}
 use Rattle.grid.specs.Domain.{count}
 use Rattle.ring.specs.declared.Rule.{Rule}
 use Rattle.buffer.specs.declared.ranges.Span.{Span}
 use Rattle.buffer.specs.Spans.{span, spans}
 use Rattle.buffer.specs.Sets.{joined, shapes}
+use Rattle.sets.specs.declared.inner.contour.Tried.{Tried}
 use Rattle.sets.specs.declared.inner.shapes.Total.{Total}
 use Rattle.sets.specs.inside.Contour.{Scratch, Reached, none-yet}
 use Rattle.sets.specs.inside.Shape.{Room, Named, Going, Tested, run-shape}
@@ -58,3 +60,7 @@ pub record Each (p : List ℤ) (cs ss : List (List ℕ)) (next prev mark : List 
   pub room : Room (joined (shapes p (spans cs) (spans ss))) none-yet out records
   pub space : length ss ≤ length groups
   pub narrow : length ss * 16 < 2 ^ 64
+
+-- the only shape of a set stands where it is written
+abbrev pub only : Total → Tried
+only at = record { stays = eqb (at .shapes) 1; progress = at .progress }

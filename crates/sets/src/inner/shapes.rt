@@ -7,7 +7,7 @@ ghost use Rattle.buffer.specs.Spans.{span, spans};
 ghost use Rattle.buffer.specs.Sets.{cut, contours, shapes as shapes-of};
 ghost use Rattle.sets.specs.inside.Contour.{reached, none-yet};
 ghost use Rattle.sets.specs.inside.Shape.{Going, tested, run-shape, Zeroed};
-ghost use Rattle.sets.specs.inside.Shapes.{Groupable, Addable, Within, Each, grouped, adding, added, run-shapes};
+ghost use Rattle.sets.specs.inside.Shapes.{Groupable, Addable, Within, Each, grouped, adding, added, run-shapes, only as only-of};
 use crate::inner::contour::Progress;
 use crate::inner::contour::Tried;
 use crate::inner::shape;
@@ -194,6 +194,17 @@ pub fn sweep_shapes(
     at
 }
 
+// The only shape of a set stands where it is written.
+fn only(at: Total) -> Tried
+    ensures { λ r. ⌜ r ≡ only-of at ⌝ }
+{
+    let progress = at.progress;
+    Tried {
+        stays: at.shapes == 1,
+        progress,
+    }
+}
+
 // A shape in front of the rows, as the only one of a set.
 pub fn sweep_shape(
     rule: Rule,
@@ -232,9 +243,5 @@ pub fn sweep_shape(
         records,
         &mut group,
     );
-    let progress = at.progress;
-    Tried {
-        stays: at.shapes == 1,
-        progress,
-    }
+    only(at)
 }

@@ -20,6 +20,9 @@ sweep-shapes-requires c κs =
     let s = head c in
     alone-each (s .args .points .now) (s .args .ranges .now) (s .args .out .now) (s .args .records .now) _ (s .args .next .now) (s .args .prev .now) (s .args .mark .now) (s .pre) refl
 
+only-requires : tie.Need-only-requires
+only-requires c κs = search needs
+
 same-length : tie.Need-same-length
 same-length c = search needs
 
@@ -37,10 +40,10 @@ same-length-5 c = search needs
 
 returns : tie.Need-returns
 returns c =
-    let cleaned = c .before .before .before .before .before .before .before .before .before .before .before in
+    let cleaned = c .before .before .before .before .before .before .before .before .before .before in
     let s = head (cleaned .before) in
     let said = cleaned .sweep-shapes .ensures in
-    (alone-tested (s .args .points .now) (s .args .ranges .now) (s .args .out .now) (s .args .records .now) _ (s .args .rule) (cleaned .sweep-shapes .result) _ _ _ (said .0), said .1)
+    (alone-tested (s .args .points .now) (s .args .ranges .now) (s .args .out .now) (s .args .records .now) _ (s .args .rule) (cleaned .sweep-shapes .result) _ _ _ (said .0) _ (c .only .ensures), said .1)
 
 pub sweep-shape-spec : {M : Type 1} → statement M
 sweep-shape-spec =
@@ -49,6 +52,7 @@ sweep-shape-spec =
     slice-aggregate-sweep-shapes
     slice-aggregate-sweep-shapes-2
     sweep-shapes-requires
+    only-requires
     same-length
     same-length-2
     same-length-3
