@@ -76,7 +76,7 @@ pub fn answer(contour: &[i32], next: &mut [u32], prev: &mut [u32], mark: &mut [u
             decisions: 0,
         };
     }
-    let standing = ring::inner::standing_by(true, contour, n);
+    let standing = ring::inner::standing(Rule::Collinear, contour, n);
     if standing == n {
         return Cleaned {
             reply: replies::DONE,

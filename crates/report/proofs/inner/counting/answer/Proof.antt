@@ -14,21 +14,21 @@ returns c =
     let start = c .before .before .before .before in
     settled-few R.Rule.Collinear (start .args .contour .now) [] (start .pre .0) (c .if1 .taken) .answer
 
-standing-by-requires : tie.Need-standing-by-requires
-standing-by-requires c κs = (c .before .before .before .before .pre .0, omega (arith, c .if1 .left))
+standing-requires : tie.Need-standing-requires
+standing-requires c κs = (c .before .before .before .before .pre .0, omega (arith, c .if1 .left))
 
 returns-2 : tie.Need-returns-2
 returns-2 c =
     let look = c .before in
     let start = look .before .before .before .before .before in
-    settled-untouched R.Rule.Collinear (start .args .contour .now) [] (start .pre .0) (look .before .if1 .left) (look .standing-by .ensures) (c .if2 .taken) _ refl .answer
+    settled-untouched R.Rule.Collinear (start .args .contour .now) [] (start .pre .0) (look .before .if1 .left) (look .standing .ensures) (c .if2 .taken) _ refl .answer
 
 walked-requires : tie.Need-walked-requires
 walked-requires c κs =
     let else = c .before .before .before in
     let look = else .before in
     let start = look .before .before .before .before .before in
-    let x = look .standing-by .ensures in
+    let x = look .standing .ensures in
     ((start .pre .0, look .before .if1 .left), (start .pre .1, (omega (arith, x .within, else .if2 .left), x .stand)))
 
 same-length : tie.Need-same-length
@@ -48,7 +48,7 @@ answer-spec =
     tie.close
     (tie.spec
     returns
-    standing-by-requires
+    standing-requires
     returns-2
     walked-requires
     same-length
