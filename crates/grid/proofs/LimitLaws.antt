@@ -3,11 +3,11 @@ use borrow.Author.Tests.{le-leb}
 use mathlib.Core.Path.{_≡_, refl}
 use mathlib.Core.Bool.{Bool, true, _&&_}
 use mathlib.Core.List.{List, [], _∷_}
-use Prim.Native.Nat.{ℕ, zero, suc, _+_, _-_, _*_, _<_}
+use Prim.Native.Nat.{ℕ, zero, suc, _+_, _-_, _*_, _<_, _≤_}
 use native.Mathlib.Omega.{arith}
 use native.Mathlib.Numerals.{add-one}
 use lib.ListN.{length, getD, take, drop}
-use lib.Seq.{drop-cons, drop-length}
+use lib.Seq.{drop-cons, drop-length, take-all}
 use lib.IntN.{ℤ, pos, negsuc, negℤ}
 use lib.Signed.{leZ}
 use mir.Syntax.{w32}
@@ -64,3 +64,13 @@ unfolding all-on-grid
 on-taken zero row e = refl
 on-taken (suc n) [] e = e
 on-taken (suc n) (z ∷ row) e = rw (and-left (on-grid z) (all-on-grid row) e) (on-taken n row (and-right (on-grid z) (all-on-grid row) e))
+
+-- a row is on the grid where its front is, and its end from there on or before
+pub on-parts : (k j m : ℕ) (row : List ℤ) → j ≤ k → length row ≤ j + m → all-on-grid (take k row) ≡ true → all-on-grid (take m (drop j row)) ≡ true → all-on-grid row ≡ true
+unfolding all-on-grid
+on-parts k zero m row h l e f = rw (take-all m row (omega arith)) at f
+on-parts zero (suc j) m row h l e f = absurd (omega arith)
+on-parts (suc k) (suc j) m [] h l e f = e
+on-parts (suc k) (suc j) m (z ∷ row) h l e f =
+    rw (and-left (on-grid z) (all-on-grid (take k row)) e)
+    (on-parts k j m row (omega arith) (omega arith) (and-right (on-grid z) (all-on-grid (take k row)) e) f)

@@ -8,7 +8,7 @@ ghost use Rattle.grid.specs.Limits.{limit, on-grid, all-on-grid};
 ghost use Rattle.grid.specs.Points.{on};
 ghost use Rattle.grid.specs.Edges.{still as still-of};
 ghost use Rattle.replies.specs.Ladder.{first-of};
-ghost use Rattle.grid.specs.Domain.{domain as domain-of, Contour};
+ghost use Rattle.grid.specs.Domain.{domain as domain-of};
 ghost use Rattle.grid.specs.inside.Rows.{raised as raised-of};
 
 // The largest coordinate, either side of 0.
@@ -78,34 +78,37 @@ fn each_on_grid(row: &[i32]) -> bool
     true
 }
 
-// Only a row with a coordinate of LIMIT or off the grid is read a second time.
+// Whether the bits of its coordinates show that a row is on the grid. Most contours are boxes: of four to eight numbers the
+// first four and the last four are all, and with the lengths known LLVM reads them in one step.
+fn shown_on_grid(row: &[i32]) -> bool
+    ensures { λ r. ⌜ (r ≡ true → all-on-grid (now (row .entry)) ≡ true) ⌝ }
+{
+    let n = row.len();
+    if n <= 8 {
+        if n < 4 {
+            return false;
+        }
+        let first = raised_bits(&row[..4]);
+        let last = raised_bits(&row[n - 4..]);
+        return first | last < 2 * LIMIT as u32;
+    }
+    raised_bits(row) < 2 * LIMIT as u32
+}
+
+// Only a row with a coordinate of LIMIT or off the grid, or of less than two points, is read one by one.
 fn all_on_grid(row: &[i32]) -> bool
     ensures { λ r. ⌜ r ≡ all-on-grid (now (row .entry)) ⌝ }
 {
-    if raised_bits(row) < 2 * LIMIT as u32 {
+    if shown_on_grid(row) {
         return true;
     }
     each_on_grid(row)
-}
-
-// Whether a row has four points, and the bits of their coordinates show that all are on the grid. With the length known
-// LLVM reads the row in one step: most contours are boxes.
-fn four_on_grid(row: &[i32]) -> bool
-    ensures { λ r. ⌜ (r ≡ true → Contour (now (row .entry)) 4) ⌝ }
-{
-    if row.len() != 8 {
-        return false;
-    }
-    raised_bits(row) < 2 * LIMIT as u32
 }
 
 // What every call asks of a row of coordinates: 0, or the number of its first refusal.
 pub fn domain(points: &[i32]) -> u32
     ensures { λ r. ⌜ r ≡ first-of (domain-of (now (points .entry))) ⌝ }
 {
-    if four_on_grid(points) {
-        return replies::DONE;
-    }
     if points.len() % 2 == 1 {
         return replies::ODD;
     }

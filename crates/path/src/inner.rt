@@ -177,7 +177,8 @@ fn parity(points: &[i32], n: usize, p: Point) -> bool
     }
 }
 
-// Whether a contour that no call refuses contains a point on the grid.
+// Whether a contour that no call refuses contains a point on the grid. It is handed on as a part, for which LLVM passes the
+// row in registers.
 pub fn holds(points: &[i32], p: Point) -> bool
     requires { ⌜ (first-of (domain (now points)) ≡ 0) × (on p ≡ true) ⌝ }
     ensures { λ r. ⌜ r ≡ contained p (points-of (now (points .entry))) ⌝ }
@@ -186,7 +187,7 @@ pub fn holds(points: &[i32], p: Point) -> bool
     if n == 0 {
         return false;
     }
-    parity(points, n, p)
+    parity(&points[..2 * n], n, p)
 }
 
 // The parity of four points. Most contours are boxes: with the count known LLVM makes no loop of the search.
