@@ -1,7 +1,7 @@
 -- The line of a contour, by what was answered of it.
 use mathlib.Core.Path.{_≡_, refl, sym, _∙_}
 use mathlib.Core.List.{List, [], _∷_, _++_, append-assoc, append-nil}
-use Prim.Native.Nat.{ℕ}
+use Prim.Native.Nat.{ℕ, _≤_}
 use lib.ListN.{length, take}
 use lib.Seq.{length-take-le}
 use borrow.Author.Tests.{eq-eqb, ne-eqb}
@@ -74,7 +74,8 @@ line-is k c out r e =
 
 -- the parts of the scratch that are lent on are as long as the contour
 pub lent-parts : (c : List ℤ) (next prev mark : List ℕ) → Cleanable c next prev mark
-    → Contour c (length (take (count c) mark)) × ((length (take (count c) next) ≡ length (take (count c) mark)) × (length (take (count c) prev) ≡ length (take (count c) mark)))
+    → Contour c (length (take (count c) mark))
+    × (((length (take (count c) next) ≡ length (take (count c) mark)) × (length (take (count c) prev) ≡ length (take (count c) mark))) × (length (take (count c) mark) ≤ 8191))
 lent-parts c next prev mark x =
     let m = length-take-le (count c) mark (x .in-mark) in
-    (rw m (x .contour), (length-take-le (count c) next (x .in-next) ∙ sym m, length-take-le (count c) prev (x .in-prev) ∙ sym m))
+    (rw m (x .contour), ((length-take-le (count c) next (x .in-next) ∙ sym m, length-take-le (count c) prev (x .in-prev) ∙ sym m), rw m (x .few)))

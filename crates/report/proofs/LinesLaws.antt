@@ -75,7 +75,7 @@ module _ {f : List ℕ} {n from : ℕ} {text₀ : List ℕ} {behind : ℕ} {text
           lining-within,
           x .low,
         ) in
-        record { contour = all-sound .0; in-next = omega arith; in-prev = omega arith; in-mark = omega arith }
+        record { contour = all-sound .0; few = k; in-next = omega arith; in-prev = omega arith; in-mark = omega arith }
 
     lining-next : Going from (lines 1 (contours-of (contained f))) text₀ behind text (line (i + 1) (contour-at f at) ∷ lines (suc (i + 1)) (contours-of (coming .rest)) ∷ [])
     unfolding joined lines

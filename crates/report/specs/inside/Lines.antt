@@ -38,9 +38,10 @@ abbrev pub Contours : List (List ℤ) → Type 0
 Contours [] = Unit {0}
 Contours (c ∷ l) = Contour c (count c) × Contours l
 
--- a contour of the domain, with room for cleaning it
+-- a contour of the domain, with as few points as a file can carry and room for cleaning it
 pub record Cleanable (c : List ℤ) (next prev mark : List ℕ) : Type 0 where
   pub contour : Contour c (count c)
+  pub few : count c ≤ 8191
   pub in-next : count c ≤ length next
   pub in-prev : count c ≤ length prev
   pub in-mark : count c ≤ length mark

@@ -12,12 +12,12 @@ ghost use Rattle.clean.specs.inside.Settling.{alone};
 use clean::Cleaned;
 use ring::Rule;
 
-// How many positions survive. Counted in 32 bits, four at a time.
+// How many positions survive. A file has so few points that 16 bits count them, eight at a time.
 fn survivors(mark: &[u8]) -> usize
-    requires { ⌜ length (now mark) ≤ 65536 ⌝ }
+    requires { ⌜ length (now mark) ≤ 8191 ⌝ }
     ensures { λ r. ⌜ r ≡ length (survivors-of (now (mark .entry))) ⌝ }
 {
-    let mut kept: u32 = 0;
+    let mut kept: u16 = 0;
     let mut i: usize = 0;
     while i < mark.len() {
         if mark[i] < 2 {
@@ -44,6 +44,7 @@ fn walked(
         (standing < length (now mark))
         × FirstStand (goes R.Rule.Collinear (now contour)) (length (now mark)) standing
         ⌝ }
+    requires { ⌜ length (now mark) ≤ 8191 ⌝ }
     ensures { λ r. ⌜ r ≡ alone R.Rule.Collinear (now (contour .entry)) [] .answer ⌝ }
 {
     let ending = ring::inner::walk(Rule::Collinear, contour, standing, next, prev, mark);
@@ -66,6 +67,7 @@ fn walked(
 pub fn answer(contour: &[i32], next: &mut [u32], prev: &mut [u32], mark: &mut [u8]) -> Cleaned
     requires { ⌜ Contour (now contour) (length (now mark)) ⌝ }
     requires { ⌜ (length (now next) ≡ length (now mark)) × (length (now prev) ≡ length (now mark)) ⌝ }
+    requires { ⌜ length (now mark) ≤ 8191 ⌝ }
     ensures { λ r. ⌜ r ≡ alone R.Rule.Collinear (now (contour .entry)) [] .answer ⌝ }
 {
     let n = mark.len();

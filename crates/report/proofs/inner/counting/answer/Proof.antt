@@ -29,7 +29,7 @@ walked-requires c κs =
     let look = else .before in
     let start = look .before .before .before .before .before in
     let x = look .standing .ensures in
-    ((start .pre .0, look .before .if1 .left), (start .pre .1, (omega (arith, x .within, else .if2 .left), x .stand)))
+    ((start .pre .0, look .before .if1 .left), (start .pre .1 .0, ((omega (arith, x .within, else .if2 .left), x .stand), start .pre .1 .1)))
 
 same-length : tie.Need-same-length
 same-length c = search needs

@@ -3,21 +3,19 @@ use mathlib.Core.Path.{refl}
 use mathlib.Core.List.{[]}
 use native.Mathlib.Omega.{arith}
 use borrow.Author.Needs.{needs}
-use Rattle.grid.specs.Limits.{most}
 use Rattle.ring.specs.declared.Rule as R
 use Rattle.clean.proofs.OutcomeLaws.{settled-kept, settled-fallen}
 use Rattle.report.proofs.inner.counting.walked.Statement.{statement}
 use Rattle.report.proofs.inner.counting.walked.Tie as tie
 
 walk-requires : tie.Need-walk-requires
-walk-requires c κs = c .before .before .before .before .before .before .pre
+walk-requires c κs = let p = c .before .before .before .before .before .before .pre in (p .0, (p .1 .0, p .1 .1 .0))
 
 survivors-requires : tie.Need-survivors-requires
-unfolding most
 survivors-requires c κs =
     let walk = c .before .before .before .before .before .before .before .before in
     let start = walk .before .before .before .before .before .before .before in
-    omega (arith, start .pre .0 .0 .few, walk .walk .kept .1 .1 .1 .1 .1 .0)
+    omega (arith, start .pre .1 .1 .1, walk .walk .kept .1 .1 .1 .1 .1 .0)
 
 same-length : tie.Need-same-length
 same-length c = search needs
