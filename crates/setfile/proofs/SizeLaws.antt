@@ -84,6 +84,13 @@ promised-few f =
     let a : 2 ^ length (take 12 (drop 4 (bits f))) ≤ 2 ^ 12 = pow-le-pow-right (lit< tt) {i = length (take 12 (drop 4 (bits f)))} {j = 12} (omega (arith, length-take 12 (drop 4 (bits f)))) in
     omega (arith, value-below (take 12 (drop 4 (bits f))))
 
+-- and under two bytes fewer yet
+pub promised-fewer : (f : List ℕ) → length f < 2 → promised f < 16
+promised-fewer f h =
+    let a : 2 ^ length (take 12 (drop 4 (bits f))) ≤ 2 ^ 4 =
+    pow-le-pow-right (lit< tt) {i = length (take 12 (drop 4 (bits f)))} {j = 4} (omega (arith, length-take 12 (drop 4 (bits f)), length-drop 4 (bits f), bits-length f)) in
+    omega (arith, value-below (take 12 (drop 4 (bits f))))
+
 pub come-carried : (f : List ℕ) → length f ≤ 65536 → Carried (come f .contours)
 come-carried f h =
     sized-carried (length (drop 16 (bits f))) (promised f) (come f) (complete-sized (promised f) (drop 16 (bits f))) (promised-few f) (omega (arith, length-drop 16 (bits f), bits-length f))

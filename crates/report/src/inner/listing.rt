@@ -4,18 +4,18 @@ ghost use Prim.Native.Nat.{_≤_};
 ghost use lib.ListN.{length};
 ghost use Rattle.rows.specs.Rows.{front};
 ghost use Rattle.report.specs.Listing.{listing};
-use crate::TEXT;
 use crate::inner::table;
 use crate::inner::text;
 use setfile::inner::head;
 use setfile::inner::judging;
 
-// At most how long the listing of a file is: the heading, and 45 characters for each contour that it promises.
+// At most how long the listing of a file is: the heading, and 45 characters for each contour that it promises. One byte
+// promises at most 15.
 pub fn longest(bytes: &[u8]) -> usize
     ensures { λ r. ⌜ (length (listing (now (bytes .entry))) ≤ r) × (r ≤ 184312) ⌝ }
 {
     if bytes.len() < 2 {
-        return TEXT;
+        return 712;
     }
     37 + 45 * head::promised(bytes)
 }

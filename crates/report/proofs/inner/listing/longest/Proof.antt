@@ -3,8 +3,9 @@ use borrow.Author.Needs.{needs}
 use native.Mathlib.Omega.{arith}
 use Prim.Native.Nat.{_+_, _*_, _≤_}
 use lib.ListN.{length}
+use Rattle.setfile.proofs.SizeLaws.{promised-fewer}
 use Rattle.report.specs.Listing.{listing}
-use Rattle.report.proofs.ReportLaws.{listing-length, listing-by-bytes}
+use Rattle.report.proofs.ReportLaws.{listing-promised, listing-by-bytes}
 use Rattle.report.proofs.inner.listing.longest.Statement.{statement}
 use Rattle.report.proofs.inner.listing.longest.Tie as tie
 
@@ -13,7 +14,9 @@ bounded : (c : tie.After-promised) → (length (listing (c .before .before .befo
 bounded c = let known = c .before .before in listing-by-bytes (known .before .args .bytes .now) (λ i h. known .shared-slice-known .given i .fits) (c .before .if1 .left) (c .promised .result) (c .promised .ensures)
 
 returns : tie.Need-returns
-returns c = (listing-length _, omega arith)
+returns c =
+    let f = c .before .before .args .bytes .now in
+    (omega (arith, listing-promised f, promised-fewer f (c .if1 .taken)), omega arith)
 
 promised-requires : tie.Need-promised-requires
 promised-requires c κs = c .if1 .left
