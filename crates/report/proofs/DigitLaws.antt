@@ -84,12 +84,13 @@ pub one-digit : (n : ℕ) → n < 10 → Fewest 10 1 n 1
 one-digit n h = (omega arith, h, λ q. absurd (omega arith))
 
 -- one digit is put
-pub one-put : (text : List ℕ) (at n v : ℕ) → at + 1 ≤ length text → v ≡ 48 + n % 10 → Put at (digits 10 1 n) text (at + 1) (set text at v)
-one-put text at n v h e =
+pub one-put : (text : List ℕ) (at n : ℕ) → n < 10 → at + 1 ≤ length text → Put at (digits 10 1 n) text (at + 1) (set text at (48 + n))
+one-put text at n small h =
+    let e : 48 + n ≡ 48 + n % 10 = omega (arith, small) in
     let g : glyph (n % 10) ≡ 48 + n % 10 = rw (lt-ltb (n % 10) 10 (mod-lt n (lit< tt))) in
     record {
       behind = refl;
-      is = set-placed text at v (omega arith) ∙ ap (λ (d : ℕ). placed at (d ∷ []) text) (e ∙ sym g);
+      is = set-placed text at (48 + n) (omega arith) ∙ ap (λ (d : ℕ). placed at (d ∷ []) text) (e ∙ sym g);
     }
 
 -- j digits are put, and k behind them
@@ -100,8 +101,8 @@ module _ {at : ℕ} {text : List ℕ} (j k n : ℕ) {r : ℕ} {t : List ℕ} (h 
   pub digits-room : r + k ≤ length t
   digits-room = omega (arith, room-behind p (digits 10 k n) roomy, digits-length k n)
 
-  pub digits-put : {e : ℕ} {exit : List ℕ} → Put r (digits 10 k n) t e exit → Put at (digits 10 (j + k) n) text e exit
-  digits-put q = rw (digits-more j k n) (both-put p (digits 10 k n) roomy q)
+  pub digits-put : {e : ℕ} {exit : List ℕ} → Put r (digits 10 k (n % 10 ^ k)) t e exit → Put at (digits 10 (j + k) n) text e exit
+  digits-put q = rw (digits-more j k n) (both-put p (digits 10 k n) roomy (rw (sym (digits-left k n)) q))
 
 -- a number of more than k digits is put: what stands before the last k, and those
 module _ (at : ℕ) (text : List ℕ) (k n : ℕ) (small : n < 2 ^ 64) (high : 10 ^ k ≤ n) (h : at + length (decimal n) ≤ length text) where
@@ -115,5 +116,5 @@ module _ (at : ℕ) (text : List ℕ) (k n : ℕ) (small : n < 2 ^ 64) (high : 1
     pub last-room : r + k ≤ length t
     last-room = omega (arith, room-behind p (digits 10 k n) room-for-both, digits-length k n)
 
-    pub last-put : (m : ℕ) {e : ℕ} {exit : List ℕ} → digits 10 k m ≡ digits 10 k n → Put r (digits 10 k m) t e exit → Put at (decimal n) text e exit
-    last-put m s q = rw (decimal-more k n small high) (both-put p (digits 10 k n) room-for-both (rw (sym s) q))
+    pub last-put : {e : ℕ} {exit : List ℕ} → Put r (digits 10 k (n % 10 ^ k)) t e exit → Put at (decimal n) text e exit
+    last-put q = rw (decimal-more k n small high) (both-put p (digits 10 k n) room-for-both (rw (sym (digits-left k n)) q))

@@ -19,40 +19,40 @@ pub fn put(text: &mut [u8], at: usize, word: &[u8]) -> usize
     at + i
 }
 
-// Puts the last digit of a number.
+// Puts a number of one digit.
 pub fn put_one(text: &mut [u8], at: usize, n: u32) -> usize
-    requires { ⌜ at + 1 ≤ length (now text) ⌝ }
+    requires { ⌜ (n < 10) × (at + 1 ≤ length (now text)) ⌝ }
     ensures { λ r. ⌜ Put at (digits 10 1 n) (now (text .entry)) r (now (text .exit)) ⌝ }
 {
-    text[at] = 48 + (n % 10) as u8;
+    text[at] = 48 + n as u8;
     at + 1
 }
 
-// Puts the last two digits of a number.
+// Puts a number as two digits.
 fn put_two(text: &mut [u8], at: usize, n: u32) -> usize
-    requires { ⌜ at + 2 ≤ length (now text) ⌝ }
+    requires { ⌜ (n < 100) × (at + 2 ≤ length (now text)) ⌝ }
     ensures { λ r. ⌜ Put at (digits 10 2 n) (now (text .entry)) r (now (text .exit)) ⌝ }
 {
     let behind = put_one(text, at, n / 10);
-    put_one(text, behind, n)
+    put_one(text, behind, n % 10)
 }
 
-// Puts the last four digits of a number.
+// Puts a number as four digits.
 fn put_four(text: &mut [u8], at: usize, n: u32) -> usize
-    requires { ⌜ at + 4 ≤ length (now text) ⌝ }
+    requires { ⌜ (n < 10000) × (at + 4 ≤ length (now text)) ⌝ }
     ensures { λ r. ⌜ Put at (digits 10 4 n) (now (text .entry)) r (now (text .exit)) ⌝ }
 {
     let behind = put_two(text, at, n / 100);
-    put_two(text, behind, n)
+    put_two(text, behind, n % 100)
 }
 
-// Puts the last eight digits of a number.
+// Puts a number as eight digits.
 fn put_eight(text: &mut [u8], at: usize, n: u32) -> usize
-    requires { ⌜ at + 8 ≤ length (now text) ⌝ }
+    requires { ⌜ (n < 100000000) × (at + 8 ≤ length (now text)) ⌝ }
     ensures { λ r. ⌜ Put at (digits 10 8 n) (now (text .entry)) r (now (text .exit)) ⌝ }
 {
     let behind = put_four(text, at, n / 10_000);
-    put_four(text, behind, n)
+    put_four(text, behind, n % 10_000)
 }
 
 // Puts a number of at most four digits.
@@ -68,7 +68,7 @@ fn put_short(text: &mut [u8], at: usize, n: u32) -> usize
     }
     if n < 1_000 {
         let behind = put_one(text, at, n / 100);
-        return put_two(text, behind, n);
+        return put_two(text, behind, n % 100);
     }
     put_four(text, at, n)
 }
@@ -82,7 +82,7 @@ fn put_middling(text: &mut [u8], at: usize, n: u32) -> usize
         return put_short(text, at, n);
     }
     let behind = put_short(text, at, n / 10_000);
-    put_four(text, behind, n)
+    put_four(text, behind, n % 10_000)
 }
 
 // Puts a number of at most sixteen digits.

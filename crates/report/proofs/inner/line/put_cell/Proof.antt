@@ -17,7 +17,7 @@ put-one-requires c κs =
     let then = c .before in
     let start = then .before .before in
     let n = start .args .n in
-    omega (arith, start .pre, length-append (decimal n) space, decimal-long 1 n (start .fits .n .fits) (one-digit n (then .if1 .taken)))
+    (then .if1 .taken, omega (arith, start .pre, length-append (decimal n) space, decimal-long 1 n (start .fits .n .fits) (one-digit n (then .if1 .taken))))
 
 slice-aggregate-put : tie.Need-slice-aggregate-put
 slice-aggregate-put c = search needs

@@ -1,8 +1,7 @@
 -- `report::inner::text::put_long` meets its contract: what stands before the last eight digits, and those.
-use Prim.Native.Nat.{_%_, _^_}
 use native.Mathlib.Omega.{arith}
 use borrow.Author.Needs.{needs}
-use Rattle.report.proofs.DigitLaws.{digits-left, rest-room, last-room, last-put}
+use Rattle.report.proofs.DigitLaws.{rest-room, last-room, last-put}
 use Rattle.report.proofs.inner.text.put_long.Statement.{statement}
 use Rattle.report.proofs.inner.text.put_long.Tie as tie
 
@@ -35,7 +34,7 @@ put-eight-requires c κs =
     let first = c .before .before .before in
     let else = first .before .before in
     let start = else .before .before in
-    last-room (start .args .at) (start .args .text .now) 8 (start .args .n) (omega (arith, start .pre .0)) (else .if1 .left) (start .pre .1) (first .put-middling2 .ensures)
+    (omega arith, last-room (start .args .at) (start .args .text .now) 8 (start .args .n) (omega (arith, start .pre .0)) (else .if1 .left) (start .pre .1) (first .put-middling2 .ensures))
 
 same-length-2 : tie.Need-same-length-2
 same-length-2 c = search needs
@@ -47,7 +46,7 @@ returns-2 c =
     let else = first .before .before in
     let start = else .before .before in
     let n = start .args .n in
-    last-put (start .args .at) (start .args .text .now) 8 n (omega (arith, start .pre .0)) (else .if1 .left) (start .pre .1) (first .put-middling2 .ensures) (n % 10 ^ 8) (digits-left 8 n) (last .put-eight .ensures)
+    last-put (start .args .at) (start .args .text .now) 8 n (omega (arith, start .pre .0)) (else .if1 .left) (start .pre .1) (first .put-middling2 .ensures) (last .put-eight .ensures)
 
 pub put-long-spec : {M : Type 1} → statement M
 put-long-spec =

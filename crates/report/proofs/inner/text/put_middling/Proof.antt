@@ -1,5 +1,4 @@
 -- `report::inner::text::put_middling` meets its contract: what stands before the last four digits, and those.
-use mathlib.Core.Path.{refl}
 use native.Mathlib.Omega.{arith}
 use borrow.Author.Needs.{needs}
 use Rattle.report.proofs.DigitLaws.{rest-room, last-room, last-put}
@@ -26,7 +25,7 @@ put-four-requires c κs =
     let first = c .before .before .before in
     let else = first .before .before in
     let start = else .before .before in
-    last-room (start .args .at) (start .args .text .now) 4 (start .args .n) (omega (arith, start .pre .0)) (else .if1 .left) (start .pre .1) (first .put-short2 .ensures)
+    (omega arith, last-room (start .args .at) (start .args .text .now) 4 (start .args .n) (omega (arith, start .pre .0)) (else .if1 .left) (start .pre .1) (first .put-short2 .ensures))
 
 same-length-2 : tie.Need-same-length-2
 same-length-2 c = search needs
@@ -38,7 +37,7 @@ returns-2 c =
     let else = first .before .before in
     let start = else .before .before in
     let n = start .args .n in
-    last-put (start .args .at) (start .args .text .now) 4 n (omega (arith, start .pre .0)) (else .if1 .left) (start .pre .1) (first .put-short2 .ensures) n refl (last .put-four .ensures)
+    last-put (start .args .at) (start .args .text .now) 4 n (omega (arith, start .pre .0)) (else .if1 .left) (start .pre .1) (first .put-short2 .ensures) (last .put-four .ensures)
 
 pub put-middling-spec : {M : Type 1} → statement M
 put-middling-spec =

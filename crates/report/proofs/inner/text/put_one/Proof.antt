@@ -1,5 +1,4 @@
 -- `report::inner::text::put_one` meets its contract.
-use mathlib.Core.Path.{refl}
 use borrow.Author.Needs.{needs}
 use Rattle.report.proofs.DigitLaws.{one-put}
 use Rattle.report.proofs.inner.text.put_one.Statement.{statement}
@@ -21,7 +20,7 @@ same-length : tie.Need-same-length
 same-length c = search needs
 
 returns : tie.Need-returns
-returns c = let s = c .args in one-put (s .text .now) (s .at) (s .n) _ (c .pre) refl
+returns c = let s = c .args in one-put (s .text .now) (s .at) (s .n) (c .pre .0) (c .pre .1)
 
 pub put-one-spec : {M : Type 1} → statement M
 put-one-spec =

@@ -26,7 +26,7 @@ put-one-requires c κs =
     let then = c .before in
     let start = then .before .before in
     let n = start .args .n in
-    omega (arith, start .pre .1, decimal-long 1 n (omega (arith, start .pre .0)) (one-digit n (then .if1 .taken)))
+    (then .if1 .taken, omega (arith, start .pre .1, decimal-long 1 n (omega (arith, start .pre .0)) (one-digit n (then .if1 .taken))))
 
 same-length : tie.Need-same-length
 same-length c = search needs
@@ -44,7 +44,7 @@ put-two-requires c κs =
     let then = c .before in
     let start = then .before .before .before in
     let n = start .args .n in
-    omega (arith, start .pre .1, decimal-long 2 n (omega (arith, start .pre .0)) (two n (then .before .if1 .left) (then .if2 .taken)))
+    (then .if2 .taken, omega (arith, start .pre .1, decimal-long 2 n (omega (arith, start .pre .0)) (two n (then .before .if1 .left) (then .if2 .taken))))
 
 same-length-2 : tie.Need-same-length-2
 same-length-2 c = search needs
@@ -65,14 +65,14 @@ three-room c =
     omega (arith, start .pre .1, decimal-long 3 n (omega (arith, start .pre .0)) (three n (c .before .if2 .left) (c .if3 .taken)))
 
 put-one-requires-2 : tie.Need-put-one-requires-2
-put-one-requires-2 c κs = omega (arith, three-room (c .before))
+put-one-requires-2 c κs = (omega (arith, c .before .if3 .taken), omega (arith, three-room (c .before)))
 
 put-two-requires-2 : tie.Need-put-two-requires-2
 put-two-requires-2 c κs =
     let first = c .before .before .before in
     let then = first .before .before in
     let start = then .before .before .before .before in
-    digits-room 1 2 (start .args .n) (three-room then) (first .put-one2 .ensures)
+    (omega arith, digits-room 1 2 (start .args .n) (three-room then) (first .put-one2 .ensures))
 
 same-length-3 : tie.Need-same-length-3
 same-length-3 c = search needs
@@ -92,7 +92,7 @@ put-four-requires c κs =
     let else = c .before in
     let start = else .before .before .before .before in
     let n = start .args .n in
-    omega (arith, start .pre .1, decimal-long 4 n (omega (arith, start .pre .0)) (four n (else .if3 .left) (start .pre .0)))
+    (start .pre .0, omega (arith, start .pre .1, decimal-long 4 n (omega (arith, start .pre .0)) (four n (else .if3 .left) (start .pre .0))))
 
 same-length-4 : tie.Need-same-length-4
 same-length-4 c = search needs
