@@ -32,14 +32,14 @@ contour-read f at k row e =
     ap (take (2 * k)) (placed-front row c) ∙ take-at c _ (2 * k) (decoded-length (2 * k) (drop (at + 2) f))
     ∙ ap₂ (λ (k : ℕ) (g : List ℕ). decoded (2 * k) g) e (sym (drop-drop 2 at f))
 
--- behind i of a file's n contours, from position at on, the lines of the others are left
+-- behind i of a file's n contours, from position at on, the lines of the rest are due
 pub record Lining (f : List ℕ) (n from : ℕ) (text₀ : List ℕ) (behind : ℕ) (text : List ℕ) (i at : ℕ) : Type 0 where
   pub low : 2 ≤ at
   pub high : i ≤ n
-  pub left : List Entry
-  pub rest : Rest f n i at left
-  pub sound : Contours (contours-of left)
-  pub going : Going from (lines 1 (contours-of (contained f))) text₀ behind text (lines (suc i) (contours-of left) ∷ [])
+  pub rest : List Entry
+  pub due : Rest f n i at rest
+  pub sound : Contours (contours-of rest)
+  pub going : Going from (lines 1 (contours-of (contained f))) text₀ behind text (lines (suc i) (contours-of rest) ∷ [])
 
 pub lining-none : (f : List ℕ) (n from : ℕ) (text : List ℕ) → Listable f n → from + length (lines 1 (contours-of (contained f))) ≤ length text
     → Lining f n from text from text 0 2
@@ -47,20 +47,20 @@ unfolding joined
 lining-none f n from text x h = record {
   low = omega arith;
   high = omega arith;
-  left = contained f;
-  rest = rest-all (x .readable);
+  rest = contained f;
+  due = rest-all (x .readable);
   sound = x .sound;
   going = going-none from text _ (sym (append-nil _)) h;
 }
 
 module _ {f : List ℕ} {n from : ℕ} {text₀ : List ℕ} {behind : ℕ} {text : List ℕ} {i at : ℕ} (x : Lining f n from text₀ behind text i at) where
   module _ (h : i < n) where
-    coming : Next f n i at (x .left)
-    coming = next (x .rest) h
+    coming : Next f n i at (x .rest)
+    coming = next (x .due) h
 
     -- the contour that is met ends within the file
     pub lining-within : at + (2 + 8 * held (drop at f)) ≤ length f
-    lining-within = coming .left .within
+    lining-within = coming .due .within
 
     all-sound : Contour (contour-at f at) (count (contour-at f at)) × Contours (contours-of (coming .rest))
     all-sound = subst (λ (l : List Entry). Contours (contours-of l)) (coming .is) (x .sound)
@@ -91,8 +91,8 @@ module _ {f : List ℕ} {n from : ℕ} {text₀ : List ℕ} {behind : ℕ} {text
     lining-more q k e = record {
       low = omega (arith, x .low);
       high = omega arith;
-      left = coming .rest;
-      rest = subst (λ (k : ℕ). Rest f n (i + 1) (at + (2 + 8 * k)) (coming .rest)) (sym e) (coming .left);
+      rest = coming .rest;
+      due = subst (λ (k : ℕ). Rest f n (i + 1) (at + (2 + 8 * k)) (coming .rest)) (sym e) (coming .due);
       sound = all-sound .1;
       going = going-more lining-next q;
     }
@@ -100,5 +100,5 @@ module _ {f : List ℕ} {n from : ℕ} {text₀ : List ℕ} {behind : ℕ} {text
   pub lining-all : n ≤ i → Put from (lines 1 (contours-of (contained f))) text₀ behind text
   unfolding joined lines
   lining-all h =
-      let e : x .left ≡ [] = done (x .rest) (omega (arith, x .high)) in
+      let e : x .rest ≡ [] = done (x .due) (omega (arith, x .high)) in
       going-all (going-same [] (rw e) (x .going))

@@ -13,9 +13,11 @@ walk-requires c κs = let p = c .before .before .before .before .before .before 
 
 survivors-requires : tie.Need-survivors-requires
 survivors-requires c κs =
-    let walk = c .before .before .before .before .before .before .before .before in
-    let start = walk .before .before .before .before .before .before .before in
-    omega (arith, start .pre .1 .1 .1, walk .walk .kept .1 .1 .1 .1 .1 .0)
+    let back = c .before .before in
+    let walked = back .before .before .before .before .before .before in
+    let lent = walked .before .before .before in
+    let start = lent .before .before .before .before in
+    omega (arith, start .pre .1 .1 .1, walked .walk .kept .1 .1 .1 .1 .1 .0)
 
 same-length : tie.Need-same-length
 same-length c = search needs
@@ -28,10 +30,13 @@ same-length-3 c = search needs
 
 returns : tie.Need-returns
 returns c =
-    let then = c .before .before in
-    let walk = then .before .before .before .before .before .before .before in
-    let start = walk .before .before .before .before .before .before .before in
-    settled-kept R.Rule.Collinear (start .args .contour .now) [] (start .pre .0 .0) (walk .walk .result) _ (walk .walk .ensures) (then .if1 .taken) _ _ (c .survivors .ensures) refl .answer
+    let kept = c .before .before in
+    let back = kept .before in
+    let walked = back .before .before .before .before .before .before in
+    let lent = walked .before .before .before in
+    let start = lent .before .before .before .before in
+    settled-kept R.Rule.Collinear (start .args .contour .now) [] (start .pre .0 .0) (walked .walk .result) _ (walked .walk .ensures)
+    (kept .if1 .taken) _ _ (c .survivors .ensures) refl .answer
 
 same-length-4 : tie.Need-same-length-4
 same-length-4 c = search needs
@@ -44,9 +49,12 @@ same-length-6 c = search needs
 
 returns-2 : tie.Need-returns-2
 returns-2 c =
-    let walk = c .before .before .before .before .before .before .before in
-    let start = walk .before .before .before .before .before .before .before in
-    settled-fallen R.Rule.Collinear (start .args .contour .now) [] (start .pre .0 .0) (walk .walk .result) _ (walk .walk .ensures) (c .if1 .left) .answer
+    let back = c .before in
+    let walked = back .before .before .before .before .before .before in
+    let lent = walked .before .before .before in
+    let start = lent .before .before .before .before in
+    settled-fallen R.Rule.Collinear (start .args .contour .now) [] (start .pre .0 .0) (walked .walk .result) _ (walked .walk .ensures)
+    (c .if1 .left) .answer
 
 pub walked-spec : {M : Type 1} → statement M
 walked-spec =

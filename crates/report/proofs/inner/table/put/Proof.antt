@@ -11,9 +11,10 @@ use Rattle.report.proofs.inner.table.put.Statement.{statement}
 use Rattle.report.proofs.inner.table.put.Tie as tie
 
 -- the heading and the lines are to be put
-begun : (c : tie.Start) → let s = c .args in
-    let rest = lines 1 (contours-of (contained (s .bytes .now))) in
-    Going 0 (heading ++ rest) (s .text .now) 0 (s .text .now) (heading ∷ rest ∷ [])
+begun : (c : tie.Start) →
+    let s = c .args in
+    let due = lines 1 (contours-of (contained (s .bytes .now))) in
+    Going 0 (heading ++ due) (s .text .now) 0 (s .text .now) (heading ∷ due ∷ [])
 begun c =
     let s = c .args in
     going-none 0 (s .text .now) (heading ∷ lines 1 (contours-of (contained (s .bytes .now))) ∷ []) (two-words _ _) (omega (arith, c .pre .1))
@@ -36,12 +37,20 @@ slice-aggregate-put-4 c = search needs
 slice-aggregate-put-5 : tie.Need-slice-aggregate-put-5
 slice-aggregate-put-5 c = search needs
 
+-- the lines are
+lines-due : (c : tie.After-put) →
+    let s = c .before .before .before .before .before .args in
+    let due = lines 1 (contours-of (contained (s .bytes .now))) in
+    Going 0 (heading ++ due) (s .text .now) (c .put .result) (c .put .last .0) (due ∷ [])
+lines-due c = going-more (begun (c .before .before .before .before .before)) (c .put .ensures)
+
 put-requires-2 : tie.Need-put-requires-2
 put-requires-2 c κs =
-    let word = c .before .before .before .before .before .before .before in
-    let start = word .before .before .before .before .before in (
+    let rows = c .before .before .before .before .before in
+    let headed = rows .before .before in
+    let start = headed .before .before .before .before .before in (
       (start .pre .0, record { in-points = omega arith; in-next = omega arith; in-prev = omega arith; in-mark = omega arith }),
-      going-room (going-more (begun start) (word .put .ensures)),
+      going-room (lines-due headed),
     )
 
 same-length : tie.Need-same-length
@@ -50,9 +59,8 @@ same-length c = search needs
 returns : tie.Need-returns
 returns c =
     let last = c .before .before .before .before .before .before in
-    let word = last .before .before .before .before .before .before .before .before in
-    let start = word .before .before .before .before .before in
-    going-all (going-more (going-more (begun start) (word .put .ensures)) (last .put2 .ensures))
+    let rows = last .before .before .before .before .before in
+    going-all (going-more (lines-due (rows .before .before .before)) (last .put2 .ensures))
 
 pub put-spec : {M : Type 1} → statement M
 put-spec =
