@@ -15,6 +15,7 @@ use Rattle.integers.proofs.Polynomial.{ring}
 use Rattle.grid.specs.declared.Point.{Point}
 use Rattle.grid.specs.Points.{at, on, points}
 use Rattle.grid.specs.Edges.{between, cross, turns-left}
+use Rattle.grid.specs.Corners.{last}
 use Rattle.grid.specs.Domain.{count, domain, Contour}
 use Rattle.replies.specs.Ladder.{first-of}
 use Rattle.grid.proofs.RowLaws.{points-count, points-more, points-done}
@@ -43,7 +44,7 @@ xor-self true = refl
 xor-self false = refl
 
 module _ (p a b : Point) where
-  crosses-not : above p a ≡ above p b → crosses p a b ≡ false
+  pub crosses-not : above p a ≡ above p b → crosses p a b ≡ false
   unfolding crosses
   crosses-not e = rw (e, xor-self (above p b))
 
@@ -60,7 +61,7 @@ module _ (p a b : Point) where
       let t : ltZ (a .y) (b .y) ≡ false = lt-fails (of (a .y)) (of (b .y)) (omega (arith, lt-means (of (p .y)) (of (a .y)) e, lt-denies (of (p .y)) (of (b .y)) f)) in
       rw (e, f, t)
 
-xor-assoc : (a b c : Bool) → xor (xor a b) c ≡ xor a (xor b c)
+pub xor-assoc : (a b c : Bool) → xor (xor a b) c ≡ xor a (xor b c)
 unfolding xor
 xor-assoc true true true = refl
 xor-assoc true true false = refl
@@ -71,91 +72,112 @@ xor-assoc false true false = refl
 xor-assoc false false true = refl
 xor-assoc false false false = refl
 
+pub xor-swap : (a b : Bool) → xor a b ≡ xor b a
+unfolding xor
+xor-swap true true = refl
+xor-swap true false = refl
+xor-swap false true = refl
+xor-swap false false = refl
+
 xor-false : (a : Bool) → xor a false ≡ a
 unfolding xor
 xor-false true = refl
 xor-false false = refl
 
-false-xor : (a : Bool) → xor false a ≡ a
+pub false-xor : (a : Bool) → xor false a ≡ a
 unfolding xor
 false-xor true = refl
 false-xor false = refl
 
+-- what an edge from the last point on begins with, of a contour that is not empty
+pub from-last : {row : List ℤ} {n : ℕ} → Contour row n → 0 < n → (f : Point → List Point → Bool) (g : List Point → Bool) → ((o : Point) (l : List Point) → g (o ∷ l) ≡ f (last o l) (o ∷ l)) → g (points row) ≡ f (at row (n - 1)) (points row)
+from-last {row} {n} c h f g is =
+    let e = points-more c 0 h in
+    ap g e ∙ is _ _ ∙ ap (λ (l : Point). f l (at row 0 ∷ drop 1 (points row))) (last-from c (n - 1) 0 (omega arith)) ∙ ap (f (at row (n - 1))) (sym e)
+
 module _ (row : List ℤ) (p : Point) where
   -- the parity so far, and that of the edges from a by position i on
-  record Counted (n : ℕ) (sofar : Bool) (a : Point) (i : ℕ) : Type 0 where
-    within : i ≤ n
-    is : contained p (points row) ≡ xor sofar (odd p a (drop i (points row)))
+  pub record Counted (n : ℕ) (sofar : Bool) (a : Point) (i : ℕ) : Type 0 where
+    pub within : i ≤ n
+    pub is : contained p (points row) ≡ xor sofar (odd p a (drop i (points row)))
 
   module _ {n : ℕ} (c : Contour row n) where
-    counted-none : 0 < n → Counted n false (at row (n - 1)) 0
+    pub counted-none : 0 < n → Counted n false (at row (n - 1)) 0
     unfolding contained
-    counted-none h =
-        let e = points-more c 0 h in
-        record {
-          within = omega arith;
-          is = ap (contained p) e ∙ ap (λ (l : Point). odd p l (at row 0 ∷ drop 1 (points row))) (last-from c (n - 1) 0 (omega arith))
-              ∙ ap (odd p (at row (n - 1))) (sym e) ∙ sym (false-xor (odd p (at row (n - 1)) (points row)));
-        }
+    counted-none h = record {
+      within = omega arith;
+      is = from-last c h (odd p) (contained p) (λ o l. refl) ∙ sym (false-xor (odd p (at row (n - 1)) (points row)));
+    }
 
     module _ {sofar : Bool} {a : Point} {i : ℕ} (k : Counted n sofar a i) where
-      counted-more : i < n → Counted n (xor sofar (crosses p a (at row i))) (at row i) (i + 1)
+      pub counted-more : i < n → Counted n (xor sofar (crosses p a (at row i))) (at row i) (i + 1)
       unfolding odd
       counted-more h = record {
         within = omega arith;
         is = k .is ∙ ap (λ (l : List Point). xor sofar (odd p a l)) (points-more c i h) ∙ sym (xor-assoc sofar (crosses p a (at row i)) (odd p (at row i) (drop (i + 1) (points row))));
       }
 
-      counted-all : n ≤ i → sofar ≡ contained p (points row)
+      -- a point on the same side
+      pub counted-beside : i < n → above p a ≡ above p (at row i) → Counted n sofar (at row i) (i + 1)
+      counted-beside h e = rw (xor-false sofar) at (rw (crosses-not p a (at row i) e) at (counted-more h))
+
+      pub counted-all : n ≤ i → sofar ≡ contained p (points row)
       unfolding odd
       counted-all h =
           let e : i ≡ n = omega (arith, k .within) in
           sym (k .is ∙ ap (λ (l : List Point). xor sofar (odd p a l)) (points-done c i e) ∙ xor-false sofar)
 
-module _ (row : List ℤ) (p : Point) {n : ℕ} (c : Contour row n) where
-  -- a point on the same side
-  beside : {sofar : Bool} {a : Point} {i : ℕ} → Counted row p n sofar a i → i < n → above p a ≡ above p (at row i) → Counted row p n sofar (at row i) (i + 1)
-  beside {sofar} {a} {i} k h e = rw (xor-false sofar) at (rw (crosses-not p a (at row i) e) at (counted-more row p c k h))
+pub before-in : (n r : ℕ) → 0 < n → r ≤ n → before n r < n
+unfolding before
+before-in n zero h l = omega arith
+before-in n (suc k) h l = omega arith
 
-  -- a run of points on the same side
-  run : {sofar up : Bool} (k i : ℕ) → Counted row p n sofar (at row i) (i + 1) → above p (at row i) ≡ up → i + 1 + k ≤ n
-      → ((j : ℕ) → i + 1 ≤ j → j < i + 1 + k → above p (at row j) ≡ up) → Counted row p n sofar (at row (i + k)) (i + k + 1) × (above p (at row (i + k)) ≡ up)
-  run zero i x e h s = let f : i + 0 ≡ i = omega arith in rw f (x, e)
-  run (suc k) i x e h s =
+-- what is known of a point, and of the edges from it by a position on, along a run of points on one side of q's horizontal
+module _ (row : List ℤ) {n : ℕ} (q : Point) (up : Bool) (Known : Point → ℕ → Type 0) (step : (a : Point) (i : ℕ) → Known a i → i < n → above q (at row i) ≡ up → Known (at row i) (i + 1)) where
+  run : (k i : ℕ) → Known (at row i) (i + 1) → i + 1 + k ≤ n → ((j : ℕ) → i + 1 ≤ j → j < i + 1 + k → above q (at row j) ≡ up) → Known (at row (i + k)) (i + k + 1)
+  run zero i x h s = let f : i + 0 ≡ i = omega arith in rw f x
+  run (suc k) i x h s =
       let f : i + 1 + k ≡ i + suc k = omega arith in
-      let next = s (i + 1) (omega arith) (omega arith) in
-      rw f at (run k (i + 1) (beside x (omega arith) (e ∙ sym next)) next (omega arith) (λ j l m. s j (omega arith) (omega arith)))
+      rw f at (run k (i + 1) (step _ _ x (omega arith) (s (i + 1) (omega arith) (omega arith))) (omega arith) (λ j l m. s j (omega arith) (omega arith)))
 
-  -- on to the next edge that changes side
-  reaching : {sofar up : Bool} {r : ℕ} (i : ℕ) → Counted row p n sofar (at row i) (i + 1) → above p (at row i) ≡ up → Across row n (i + 1) p up r → Changing row n p sofar (r - 1) r
-  reaching {sofar} {up} {r} i x e y =
+  pub past-run : {r : ℕ} (i : ℕ) → Known (at row i) (i + 1) → Across row n (i + 1) q up r → Known (at row (r - 1)) r
+  past-run {r} i x y =
       let k = r - (i + 1) in
       let f : i + k ≡ r - 1 = omega (arith, y .from) in
       let g : r - 1 + 1 ≡ r = omega (arith, y .from) in
-      let z = run k i x e (omega (arith, y .from, y .within)) (λ j l m. y .skipped j l (omega (arith, y .from))) in
-      record {
-        a-in = omega (arith, y .from, y .within);
-        within = y .within;
-        changes = λ h. y .changed h ∙ ap not (sym (rw f at (z .1)));
-        is = rw g at (rw f at (z .0 .is));
-      }
+      rw g at (rw f at (run k i x (omega (arith, y .from, y .within)) (λ j l m. y .skipped j l (omega (arith, y .from)))))
 
-  pub changing-first : 0 < n → (r : ℕ) → Across row n 0 p (above p (at row (n - 1))) r → Changing row n p false (before n r) r
+  -- one that begins with the closing edge
+  pub past-first-run : 0 < n → Known (at row (n - 1)) 0 → (r : ℕ) → Across row n 0 q up r → Known (at row (before n r)) r
   unfolding before
-  changing-first h zero y = record { a-in = omega arith; within = y .within; changes = y .changed; is = counted-none row p c h .is }
-  changing-first h (suc k) y =
-      let first = y .skipped 0 (omega arith) (omega arith) in
+  past-first-run h x zero y = x
+  past-first-run h x (suc k) y =
       let e : suc k - 1 ≡ k = omega arith in
       rw e at
-      (reaching 0 (beside (counted-none row p c h) h (sym first)) first
+      (past-run 0 (step _ _ x h (y .skipped 0 (omega arith) (omega arith)))
       (record { from = omega arith; within = y .within; skipped = λ j l m. y .skipped j (omega arith) m; changed = y .changed }))
+
+module _ (row : List ℤ) (p : Point) {n : ℕ} (c : Contour row n) where
+  -- the parity so far, and the side of the last point
+  abbrev Sided : Bool → Bool → Point → ℕ → Type 0
+  Sided sofar up a i = Counted row p n sofar a i × (above p a ≡ up)
+
+  sided-beside : {sofar up : Bool} (a : Point) (i : ℕ) → Sided sofar up a i → i < n → above p (at row i) ≡ up → Sided sofar up (at row i) (i + 1)
+  sided-beside a i x h e = (counted-beside row p c (x .0) h (x .1 ∙ sym e), e)
+
+  pub changing-first : 0 < n → (r : ℕ) → Across row n 0 p (above p (at row (n - 1))) r → Changing row n p false (before n r) r
+  changing-first h r y =
+      let x = past-first-run row p (above p (at row (n - 1))) (Sided false (above p (at row (n - 1)))) sided-beside h (counted-none row p c h, refl) r y in
+      record { a-in = before-in n r h (y .within); within = y .within; changes = λ l. y .changed l ∙ ap not (sym (x .1)); is = x .0 .is }
 
   module _ {sofar : Bool} {a i : ℕ} (x : Changing row n p sofar a i) where
     counted : Counted row p n sofar (at row a) i
     counted = record { within = x .within; is = x .is }
 
     pub changing-next : {t up : Bool} {r : ℕ} → i < n → t ≡ crosses p (at row a) (at row i) → above p (at row i) ≡ up → Across row n (i + 1) p up r → Changing row n p (xor sofar t) (r - 1) r
-    changing-next h e f y = reaching i (rw (sym e) at (counted-more row p c counted h)) f y
+    changing-next {t} {up} {r} h e f y =
+        let z = past-run row p up (Sided (xor sofar t) up) sided-beside i (rw (sym e) at (counted-more row p c counted h), f) y in
+        record { a-in = omega (arith, y .from, y .within); within = y .within; changes = λ l. y .changed l ∙ ap not (sym (z .1)); is = z .0 .is }
 
     pub changing-done : n ≤ i → sofar ≡ contained p (points row)
     changing-done h = counted-all row p c counted h
@@ -204,18 +226,30 @@ module _ (row : List ℤ) (x y : ℤ) where
   abbrev asked : Point
   asked = record { x = x; y = y }
 
+  -- the refusals, one by one
+  pub refused-domain : (k : ℕ) → k ≡ first-of (domain row) → (k ≡ 0 → ⊥) → k ≡ first-of (refusals asked row)
+  refused-domain k e n = first-is _ k (stopped _ _ k e n)
+
+  module _ (e : first-of (domain row) ≡ 0) where
+    pub refused-off : on asked ≡ false → 3 ≡ first-of (refusals asked row)
+    refused-off f = first-is _ 3 (onward (domain row) _ 3 tt e (here (ap not f)))
+
+    pub refused-none : on asked ≡ true → first-of (refusals asked row) ≡ 0
+    refused-none f = sym (first-is _ 0 (onward (domain row) _ 0 tt e (past (ap not f) foot)))
+
+  -- what is answered
   pub contains-refused : (k : ℕ) → k ≡ first-of (domain row) → (k ≡ 0 → ⊥) → record { reply = k; yes = false } ≡ contains row x y
   unfolding contains
-  contains-refused k e n = verdict-refused (refusals asked row) _ k (first-is _ k (stopped _ _ k e n)) n
+  contains-refused k e n = verdict-refused (refusals asked row) _ k (refused-domain k e n) n
 
   module _ (e : first-of (domain row) ≡ 0) where
     pub contains-off : on asked ≡ false → record { reply = 3; yes = false } ≡ contains row x y
     unfolding contains
-    contains-off f = verdict-refused (refusals asked row) _ 3 (first-is _ 3 (onward (domain row) _ 3 tt e (here (ap not f)))) (λ z. absurd (omega arith))
+    contains-off f = verdict-refused (refusals asked row) _ 3 (refused-off e f) (λ z. absurd (omega arith))
 
     pub contains-given : (b : Bool) → on asked ≡ true → b ≡ contained asked (points row) → record { reply = 0; yes = b } ≡ contains row x y
     unfolding contains
-    contains-given b f g = verdict-given (refusals asked row) _ b (sym (first-is _ 0 (onward (domain row) _ 0 tt e (past (ap not f) foot)))) g
+    contains-given b f g = verdict-given (refusals asked row) _ b (refused-none e f) g
 
 pub nothing-contained : (p : Point) (row : List ℤ) → count row ≡ 0 → false ≡ contained p (points row)
 unfolding contained

@@ -1,3 +1,7 @@
 pub mod ConvexLaws
 pub mod ContainsLaws
+pub mod OnEdge
+pub mod LocateLaws
+pub mod Round
+pub mod Theorems
 pub mod Cases

@@ -1,4 +1,5 @@
 pub mod Convex
 pub mod Clockwise
 pub mod Contains
+pub mod Locate
 pub mod inside

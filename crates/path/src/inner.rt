@@ -1,4 +1,5 @@
-// The corners of a contour, and the edges that cross a point's horizontal, of contours that no call refuses.
+// The corners of a contour, the edges that cross a point's horizontal, and those that have the point, of contours that
+// no call refuses.
 ghost use mathlib.Core.Path.{_≡_};
 ghost use mathlib.Core.Bool.{true, false};
 ghost use Prim.Native.Nat.{_-_, _<_, _≤_};
@@ -11,7 +12,13 @@ ghost use Rattle.grid.specs.inside.Rows.{FirstOther};
 ghost use Rattle.path.specs.Convex.{convex-left};
 ghost use Rattle.path.specs.inside.Contains.{Across, Changing, before as before-of};
 ghost use Rattle.path.specs.inside.Convex.{looked, one-sided};
+ghost use Rattle.path.specs.inside.Locate.{under, Untouched};
 ghost use Rattle.path.specs.Contains.{above, meets-right as meets-right-of, contained};
+ghost use Rattle.path.specs.Locate.{amid as amid-of, on-edge, location as location-of};
+ghost use Rattle.grid.specs.Edges.{between, turn as turn-of};
+use crate::BOUNDARY;
+use crate::INSIDE;
+use crate::OUTSIDE;
 use grid::Edge;
 use grid::Point;
 
@@ -89,7 +96,6 @@ pub fn one_way(points: &[i32], n: usize, first: usize) -> bool
 
 // Whether a lies above p's horizontal.
 fn lies_above(p: Point, a: Point) -> bool
-    requires { ⌜ (on p ≡ true) × (on a ≡ true) ⌝ }
     ensures { λ r. ⌜ r ≡ above p a ⌝ }
 {
     p.y < a.y
@@ -105,7 +111,7 @@ fn meets_right(p: Point, l: Point, h: Point) -> bool
 
 // The first position from i on whose point lies on the other side of p's horizontal than `up` says; n where there is none.
 fn next_across(points: &[i32], n: usize, i: usize, p: Point, up: bool) -> usize
-    requires { ⌜ Contour (now points) n × (i ≤ n) × (on p ≡ true) ⌝ }
+    requires { ⌜ Contour (now points) n × (i ≤ n) ⌝ }
     ensures { λ r. ⌜ Across (now (points .entry)) n i p up r ⌝ }
 {
     let mut here = i;
@@ -122,7 +128,7 @@ fn next_across(points: &[i32], n: usize, i: usize, p: Point, up: bool) -> usize
 // The first position whose point lies on another side of p's horizontal than the last point; n where there is none. Each
 // side has a call of its own, so that its loop compares with nothing but p.
 fn first_across(points: &[i32], n: usize, p: Point) -> usize
-    requires { ⌜ Contour (now points) n × (0 < n) × (on p ≡ true) ⌝ }
+    requires { ⌜ Contour (now points) n × (0 < n) ⌝ }
     ensures { λ r. ⌜ Across (now (points .entry)) n 0 p (above p (at (now (points .entry)) (n - 1))) r ⌝ }
 {
     if lies_above(p, grid::inner::point_at(points, n - 1)) {
@@ -200,5 +206,125 @@ pub fn parity_of_four(points: &[i32], p: Point) -> bool
         parity_from(points, 4, p, before(4, first), first)
     } else {
         false
+    }
+}
+
+// Whether z lies from a to b, both included, whichever is the smaller.
+fn amid(a: i32, b: i32, z: i32) -> bool
+    ensures { λ r. ⌜ r ≡ amid-of a b z ⌝ }
+{
+    ((a <= z) & (z <= b)) | ((b <= z) & (z <= a))
+}
+
+// Whether p lies on the edge from a to b.
+fn touches(p: Point, a: Point, b: Point) -> bool
+    requires { ⌜ (on p ≡ true) × (on a ≡ true) × (on b ≡ true) ⌝ }
+    ensures { λ r. ⌜ r ≡ on-edge p a b ⌝ }
+{
+    if amid(a.y, b.y, p.y) & amid(a.x, b.x, p.x) {
+        grid::inner::aligned(grid::inner::between(a, b), grid::inner::between(a, p))
+    } else {
+        false
+    }
+}
+
+// How the way along the edge from l up to h turns on to p: left where the edge meets p's horizontal to the right of p,
+// and not at all where it meets p.
+fn turn_on(p: Point, l: Point, h: Point) -> i32
+    requires { ⌜ (on p ≡ true) × (on l ≡ true) × (on h ≡ true) ⌝ }
+    ensures { λ r. ⌜ r ≡ turn-of (between l h) (between h p) ⌝ }
+{
+    grid::inner::turn(grid::inner::between(l, h), grid::inner::between(h, p))
+}
+
+// The first position from i on whose point does not lie below p's horizontal; n where there is none.
+fn next_reached(points: &[i32], n: usize, i: usize, p: Point) -> usize
+    requires { ⌜ Contour (now points) n × (i ≤ n) × (on p ≡ true) ⌝ }
+    ensures { λ r. ⌜ Across (now (points .entry)) n i (under p) false r ⌝ }
+{
+    next_across(points, n, i, Point { x: p.x, y: p.y - 1 }, false)
+}
+
+// The first position whose edge, from the point before it, may have p or change side; n where there is none.
+fn first_met(points: &[i32], n: usize, p: Point) -> usize
+    requires { ⌜ Contour (now points) n × (0 < n) × (on p ≡ true) ⌝ }
+    ensures { λ r. ⌜ Untouched (now (points .entry)) n p false (before-of n r) r ⌝ }
+{
+    let last = grid::inner::point_at(points, n - 1);
+    if lies_above(p, last) {
+        next_across(points, n, 0, p, true)
+    } else if lies_above(last, p) {
+        next_reached(points, n, 0, p)
+    } else {
+        0
+    }
+}
+
+// Where p lies, once no edge up to position `from` has it, and the next that may leads from `from` to `to`. Of an edge
+// that changes side one turn tells whether it has p and whether it counts.
+fn location_from(points: &[i32], n: usize, p: Point, from: usize, to: usize) -> u8
+    requires { ⌜ Contour (now points) n × (on p ≡ true) × Untouched (now points) n p false from to ⌝ }
+    ensures { λ r. ⌜ r ≡ location-of p (points-of (now (points .entry))) ⌝ }
+{
+    let mut odd = false;
+    let mut a = from;
+    let mut i = to;
+    while i < n {
+        let start = grid::inner::point_at(points, a);
+        let end = grid::inner::point_at(points, i);
+        if lies_above(p, end) {
+            let turn = turn_on(p, start, end);
+            if turn == 0 {
+                return BOUNDARY;
+            }
+            odd = odd != (turn > 0);
+            i = next_across(points, n, i + 1, p, true);
+            a = i - 1;
+        } else if lies_above(p, start) {
+            let turn = turn_on(p, end, start);
+            if turn == 0 {
+                return BOUNDARY;
+            }
+            odd = odd != (turn > 0);
+            i = next_reached(points, n, i + 1, p);
+            a = i - 1;
+        } else {
+            if touches(p, start, end) {
+                return BOUNDARY;
+            }
+            i = next_reached(points, n, i + 1, p);
+            a = i - 1;
+        }
+    }
+    if odd { INSIDE } else { OUTSIDE }
+}
+
+// Where a point on the grid lies to a contour that no call refuses.
+pub fn location(points: &[i32], p: Point) -> u8
+    requires { ⌜ (first-of (domain (now points)) ≡ 0) × (on p ≡ true) ⌝ }
+    ensures { λ r. ⌜ r ≡ location-of p (points-of (now (points .entry))) ⌝ }
+{
+    let n = points.len() / 2;
+    if n == 0 {
+        return OUTSIDE;
+    }
+    let first = first_met(points, n, p);
+    if first < n {
+        location_from(points, n, p, before(n, first), first)
+    } else {
+        OUTSIDE
+    }
+}
+
+// The same of four points, where LLVM makes no loop of the search.
+pub fn location_of_four(points: &[i32], p: Point) -> u8
+    requires { ⌜ Contour (now points) 4 × (on p ≡ true) ⌝ }
+    ensures { λ r. ⌜ r ≡ location-of p (points-of (now (points .entry))) ⌝ }
+{
+    let first = first_met(points, 4, p);
+    if first < 4 {
+        location_from(points, 4, p, before(4, first), first)
+    } else {
+        OUTSIDE
     }
 }

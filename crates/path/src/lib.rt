@@ -1,12 +1,26 @@
-// Whether a contour is convex, wound clockwise, or contains a point.
+// Whether a contour is convex, wound clockwise, or contains a point, and where a point lies.
 pub mod inner;
 
 ghost use mathlib.Core.Path.{_≡_};
 ghost use Rattle.path.specs.Convex.{convex as convex-verdict};
 ghost use Rattle.path.specs.Clockwise.{clockwise};
 ghost use Rattle.path.specs.Contains.{contains as contains-verdict};
+ghost use Rattle.path.specs.Locate.{located};
 use grid::Point;
 pub use replies::Verdict;
+
+pub const OUTSIDE: u8 = 0;
+
+pub const BOUNDARY: u8 = 1;
+
+pub const INSIDE: u8 = 2;
+
+// Where a point lies: the reply number, and one of the three places, OUTSIDE where it is refused.
+#[repr(C)]
+pub struct Located {
+    pub reply: u32,
+    pub place: u8,
+}
 
 // Whether all turns have one sign and no edge reverses, equal neighbours skipped.
 pub fn is_convex(points: &[i32]) -> Verdict
@@ -83,5 +97,35 @@ pub fn contains_point(points: &[i32], x: i32, y: i32) -> Verdict
     Verdict {
         reply: replies::DONE,
         yes: inner::holds(points, p),
+    }
+}
+
+// Where the point x, y lies: outside the contour, on its boundary or inside.
+pub fn locate(points: &[i32], x: i32, y: i32) -> Located
+    ensures { λ r. ⌜ r ≡ located (now (points .entry)) x y ⌝ }
+{
+    let refusal = grid::domain(points);
+    if refusal != 0 {
+        return Located {
+            reply: refusal,
+            place: OUTSIDE,
+        };
+    }
+    let p = Point { x, y };
+    if !grid::point_on_grid(p) {
+        return Located {
+            reply: replies::OFF_GRID,
+            place: OUTSIDE,
+        };
+    }
+    if points.len() == 8 {
+        return Located {
+            reply: replies::DONE,
+            place: inner::location_of_four(points, p),
+        };
+    }
+    Located {
+        reply: replies::DONE,
+        place: inner::location(points, p),
     }
 }

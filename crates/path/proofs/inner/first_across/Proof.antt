@@ -4,7 +4,6 @@ use mathlib.Core.Path.{_≡_, sym, _∙_, ap, subst}
 use mathlib.Core.Bool.{Bool}
 use Prim.Native.Nat.{_-_}
 use Rattle.grid.specs.Points.{at}
-use Rattle.grid.proofs.PointLaws.{at-on}
 use Rattle.path.specs.Contains.{above}
 use Rattle.path.specs.inside.Contains.{Across}
 use Rattle.path.proofs.inner.first_across.Statement.{statement}
@@ -21,9 +20,7 @@ point-at-requires : tie.Need-point-at-requires
 point-at-requires c κs = search needs
 
 lies-above-requires : tie.Need-lies-above-requires
-lies-above-requires c κs =
-    let s = c .before in
-    (s .pre .2, rw (c .point-at .ensures) (at-on (s .args .points .now) (s .args .n - 1) (s .pre .0 .on)))
+lies-above-requires c κs = search needs
 
 next-across-requires : tie.Need-next-across-requires
 next-across-requires c κs = search needs

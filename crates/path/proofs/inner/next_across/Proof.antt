@@ -4,7 +4,6 @@ use mathlib.Core.Path.{_≡_, sym, _∙_, ap}
 use Prim.Native.Nat.{_-_}
 use native.Mathlib.Omega.{arith}
 use Rattle.grid.specs.Points.{at}
-use Rattle.grid.proofs.PointLaws.{at-on}
 use Rattle.path.specs.Contains.{above}
 use Rattle.path.proofs.ContainsLaws.{Passing, passing-none, passing-more, passing-found, passing-out, one-side, other-side}
 use Rattle.path.proofs.inner.next_across.Statement.{statement}
@@ -28,10 +27,7 @@ point-at-requires : tie.Need-point-at-requires Inv-loop μ-loop
 point-at-requires c κs = omega (arith, c .before .before .pre .0 .even)
 
 lies-above-requires : tie.Need-lies-above-requires Inv-loop μ-loop
-lies-above-requires c κs =
-    let l = c .before .before in
-    let s = l .before in
-    (s .pre .2, rw (c .point-at .ensures) (at-on (s .args .points .now) (l .loop .here) (s .pre .0 .on)))
+lies-above-requires c κs = search needs
 
 add-here : tie.Need-add-here Inv-loop μ-loop
 add-here c = search needs

@@ -1,4 +1,5 @@
 -- `path::inner::parity_from` meets its contract: from edge to edge that changes side, the parity so far and that of the edges left make up the whole.
+use borrow.Author.Needs.{needs}
 use mathlib.Core.Path.{_≡_, sym, _∙_, ap, ap₂}
 use mathlib.Core.Bool.{not, xor}
 use Prim.Native.Nat.{_-_}
@@ -38,10 +39,7 @@ point-at-requires-2 : tie.Need-point-at-requires-2 Inv-loop μ-loop
 point-at-requires-2 c κs = omega (arith, c .before .before .before .pre .0 .even, c .before .loop-test .taken)
 
 lies-above-requires : tie.Need-lies-above-requires Inv-loop μ-loop
-lies-above-requires c κs =
-    let l = c .before .before .before in
-    let s = l .before in
-    (s .pre .1, rw (c .point-at2 .ensures) (at-on (s .args .points .now) (l .loop .i) (s .pre .0 .on)))
+lies-above-requires c κs = search needs
 
 meets-right-requires : tie.Need-meets-right-requires Inv-loop μ-loop
 meets-right-requires c κs =
@@ -55,7 +53,7 @@ add-next-across : tie.Need-add-next-across Inv-loop μ-loop
 add-next-across c = omega (arith, c .before .before .before .before .before .loop-test .taken, c .before .before .before .before .before .before .before .fits .n)
 
 next-across-requires : tie.Need-next-across-requires Inv-loop μ-loop
-next-across-requires c κs = let s = c .before .before .before .before .before .before .before in (s .pre .0, omega (arith, c .before .before .before .before .before .loop-test .taken), s .pre .1)
+next-across-requires c κs = (c .before .before .before .before .before .before .before .pre .0, omega (arith, c .before .before .before .before .before .loop-test .taken))
 
 sub-a : tie.Need-sub-a Inv-loop μ-loop
 sub-a c = omega (arith, c .next-across .ensures .from)
@@ -90,7 +88,7 @@ add-next-across-2 : tie.Need-add-next-across-2 Inv-loop μ-loop
 add-next-across-2 c = omega (arith, c .before .before .before .before .before .loop-test .taken, c .before .before .before .before .before .before .before .fits .n)
 
 next-across-requires-2 : tie.Need-next-across-requires-2 Inv-loop μ-loop
-next-across-requires-2 c κs = let s = c .before .before .before .before .before .before .before in (s .pre .0, omega (arith, c .before .before .before .before .before .loop-test .taken), s .pre .1)
+next-across-requires-2 c κs = (c .before .before .before .before .before .before .before .pre .0, omega (arith, c .before .before .before .before .before .loop-test .taken))
 
 sub-a-2 : tie.Need-sub-a-2 Inv-loop μ-loop
 sub-a-2 c = omega (arith, c .next-across2 .ensures .from)

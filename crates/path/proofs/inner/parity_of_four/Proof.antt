@@ -6,7 +6,7 @@ use Rattle.path.proofs.inner.parity_of_four.Statement.{statement}
 use Rattle.path.proofs.inner.parity_of_four.Tie as tie
 
 first-across-requires : tie.Need-first-across-requires
-first-across-requires c κs = (c .pre .0, omega arith, c .pre .1)
+first-across-requires c κs = (c .pre .0, omega arith)
 
 before-requires : tie.Need-before-requires
 before-requires c κs = search needs
