@@ -1,5 +1,5 @@
-/* A worked example: ask about a contour, clean it, clean a shape with a hole, ask about shapes, build a set, bring in a
- * drawing, and salvage a damaged file. */
+/* A worked example: ask about a contour, clean it, ask where pins lie, clean a shape with a hole, ask about shapes,
+ * build a set, bring in a drawing, and salvage a damaged file. */
 #include <inttypes.h>
 #include <math.h>
 #include <stdio.h>
@@ -41,6 +41,23 @@ static void one_contour(void)
     free(prev);
     free(mark);
     free(out);
+}
+
+/* A plate with a hole, asked about locating pins: on the hole's left and right rim, in the plate and in the hole. */
+static void pins(void)
+{
+    const int32_t points[] = {0, 0, 9, 0, 9, 9, 0, 9, /* hole */ 3, 3, 3, 6, 6, 6, 6, 3};
+    const UkmRange ranges[] = {{0, 4}, {4, 8}};
+    const int32_t asked[][2] = {{3, 4}, {6, 4}, {1, 1}, {4, 4}};
+    const char *const places[] = {"outside", "on the boundary of", "inside"};
+
+    for (size_t i = 0; i < LENGTH(asked); i++) {
+        int32_t x = asked[i][0], y = asked[i][1];
+        UkmLocated hole = ukm_locate(points + 8, 8, x, y);
+        bool held = ukm_in_shape(points, LENGTH(points), ranges, LENGTH(ranges), x, y).yes;
+        printf("a pin at (%" PRId32 ",%" PRId32 "), %s the hole: %s\n", x, y, places[hole.place],
+               held ? "material" : "no material");
+    }
 }
 
 /* An outline with a spike, and a hole that collapses. */
@@ -134,6 +151,7 @@ static void a_damaged_file(void)
 int main(void)
 {
     one_contour();
+    pins();
     one_shape();
     two_shapes();
     a_set();

@@ -45,6 +45,8 @@ int main(void)
     DUE(ukm_has_no_spikes(NO), a.reply == 0 && !a.yes);
     DUE(ukm_contains(NO, 1, 1), a.reply == 0 && !a.yes);
     DUE(ukm_contains(NO, UKM_LIMIT + 1, 1), a.reply == 3 && !a.yes);
+    DUE(ukm_locate(NO, 1, 1), a.reply == 0 && a.place == UKM_OUTSIDE);
+    DUE(ukm_locate(NO, 1, UKM_LIMIT + 1), a.reply == 3 && a.place == 0);
     DUE(ukm_simplified(NO, NO_SCRATCH, NO), a.reply == 7 && a.points == 0 && a.decisions == 0);
     DUE(ukm_despiked(NO, NO_SCRATCH, NO), a.reply == 7 && a.points == 0 && a.decisions == 0);
     DUE(ukm_simplified(triangle, 6, NO, NO, NO, out, 6), a.reply == 4);

@@ -64,6 +64,13 @@ enum {
     UKM_CLOSE = 2 /* ends the open contour */
 };
 
+/* Where a point lies of a contour. */
+enum {
+    UKM_OUTSIDE = 0,  /* neither of these */
+    UKM_BOUNDARY = 1, /* on a closed edge: its ends and all between; a single point is one too */
+    UKM_INSIDE = 2    /* on no edge, and an odd count of edges is to its right */
+};
+
 /* A part of a row: from start up to end, which is not part of it. Points for a contour, contours for a shape. */
 typedef struct UkmRange {
     size_t start;
@@ -74,6 +81,12 @@ typedef struct UkmVerdict {
     uint32_t reply;
     bool yes;
 } UkmVerdict;
+
+/* place: UKM_OUTSIDE, UKM_BOUNDARY or UKM_INSIDE; 0 where the reply is not 0. */
+typedef struct UkmLocated {
+    uint32_t reply;
+    uint8_t place;
+} UkmLocated;
 
 typedef struct UkmArea {
     uint32_t reply;
@@ -157,9 +170,15 @@ UkmVerdict ukm_is_simple(const int32_t *points, size_t points_len);
  * 1, 2, 3. */
 UkmVerdict ukm_has_no_spikes(const int32_t *points, size_t points_len);
 
-/* Whether the point x, y is inside, by the parity of the edges to its right. Refuses with 1, 2, and 3 also for a point
- * x, y off the grid. */
+/* Whether the point x, y is inside, by the parity of the edges to its right. On the boundary the answer is half-open,
+ * as i_shape's is: of a square yes on its left and lower edges and no on the others; ukm_locate tells the boundary.
+ * Refuses with 1, 2, and 3 also for a point x, y off the grid. */
 UkmVerdict ukm_contains(const int32_t *points, size_t points_len, int32_t x, int32_t y);
+
+/* Where the point x, y lies: on the boundary if it is on any closed edge, the closing one, single points and doubled
+ * edges included; else inside or outside, as ukm_contains says. An empty contour has no boundary and no inside. Refuses
+ * as ukm_contains does. */
+UkmLocated ukm_locate(const int32_t *points, size_t points_len, int32_t x, int32_t y);
 
 /* The contour without the vertices whose two edges have cross product 0. Refuses with 1, 2, 3, with 4 if a scratch row
  * has fewer entries than there are points, with 5 if out is shorter than points, and with 7 if fewer than three
@@ -196,8 +215,9 @@ UkmArea ukm_set_area_two(const int32_t *points, size_t points_len, const UkmRang
 /* Its half, cut toward zero. Refuses as ukm_set_area_two does. */
 UkmArea ukm_set_area(const int32_t *points, size_t points_len, const UkmRange *ranges, size_t ranges_len);
 
-/* Whether the point x, y is in the first contour and in no later one. Refuses with 1, 2, 6, and 3 also for a point x, y
- * off the grid. */
+/* Whether the shape of these contours has the point x, y: it is inside the first or on its boundary, and inside no
+ * later one. So the rims of the outline and of the holes belong to the shape. Refuses with 1, 2, 6, and 3 also for a
+ * point x, y off the grid. */
 UkmVerdict ukm_in_shape(const int32_t *points, size_t points_len, const UkmRange *ranges, size_t ranges_len,
                         int32_t x, int32_t y);
 

@@ -1,6 +1,6 @@
 use ukmerelt::int::area::Area;
 use ukmerelt::int::despike::DeSpikeContour;
-use ukmerelt::int::path::ContourExtension;
+use ukmerelt::int::path::{ContourExtension, Location};
 use ukmerelt::int::shape::IntContour;
 use ukmerelt::int::simple::{ContourSimplifier, SimpleContour};
 use ukmerelt::{Cleaned, IntPoint, Refused};
@@ -58,19 +58,33 @@ fn a_spike() {
 #[test]
 fn the_edges_of_a_square() {
     let c = contour([[0, 0], [4, 0], [4, 4], [0, 4]]);
-    for (x, y, inside) in [
-        (0, 2, true),
-        (2, 0, true),
-        (2, 2, true),
-        (4, 2, false),
-        (2, 4, false),
+    for (x, y, inside, location) in [
+        (0, 2, true, Location::Boundary),
+        (2, 0, true, Location::Boundary),
+        (2, 2, true, Location::Inside),
+        (4, 2, false, Location::Boundary),
+        (2, 4, false, Location::Boundary),
+        (4, 4, false, Location::Boundary),
+        (5, 4, false, Location::Outside),
     ] {
-        assert_eq!(
-            c.contains_point(IntPoint::new(x, y)),
-            Ok(inside),
-            "({x},{y})"
-        );
+        let point = IntPoint::new(x, y);
+        assert_eq!(c.contains_point(point), Ok(inside), "({x},{y})");
+        assert_eq!(c.locate(point), Ok(location), "({x},{y})");
     }
+}
+
+#[test]
+fn what_has_no_inside_has_a_boundary() {
+    let on = IntPoint::new(1, 1);
+    for c in [
+        contour([[1, 1]]),
+        contour([[0, 0], [2, 2]]),
+        contour([[1, 0], [1, 4], [1, 1]]),
+    ] {
+        assert_eq!(c.locate(on), Ok(Location::Boundary));
+        assert_eq!(c.locate(IntPoint::new(0, 1)), Ok(Location::Outside));
+    }
+    assert_eq!(contour([]).locate(on), Ok(Location::Outside));
 }
 
 #[test]
@@ -118,6 +132,14 @@ fn the_limits() {
     assert_eq!(
         on.contains_point(IntPoint::new(0, LIMIT + 1)),
         Err(Refused::OffGrid)
+    );
+    assert_eq!(
+        on.locate(IntPoint::new(LIMIT + 1, 0)),
+        Err(Refused::OffGrid)
+    );
+    assert_eq!(
+        on.locate(IntPoint::new(LIMIT, -LIMIT)),
+        Ok(Location::Boundary)
     );
 
     let most: IntContour = (0..65_536).map(|i| IntPoint::new(i, i % 2)).collect();

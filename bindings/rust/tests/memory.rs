@@ -103,6 +103,7 @@ fn every_call(n: usize) -> Vec<Asked> {
         contour.is_convex();
         contour.is_clockwise_ordered();
         contour.contains_point(point);
+        contour.locate(point);
         contour.is_simple();
         contour.has_no_spikes();
         contour.simplified();
@@ -127,7 +128,7 @@ fn every_call(n: usize) -> Vec<Asked> {
         contours.area();
         contours.is_simple();
         contours.has_no_spikes();
-        contours.contains_point(point);
+        contours.in_shape(point);
         contours.simplified();
         contours.despiked_shape();
         contours.to_contours();

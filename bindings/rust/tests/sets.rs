@@ -34,9 +34,32 @@ fn a_shape_with_a_hole() {
     flat.set_with_shape(&shape).unwrap();
     assert_eq!(flat.ranges, [[0, 4], [4, 8]]);
     assert_eq!(flat.to_contours(), Ok(shape));
-    assert_eq!(flat.contains_point(IntPoint::new(1, 1)), Ok(true));
-    assert_eq!(flat.contains_point(IntPoint::new(3, 3)), Ok(false));
+    assert_eq!(flat.in_shape(IntPoint::new(1, 1)), Ok(true));
+    assert_eq!(flat.in_shape(IntPoint::new(3, 3)), Ok(false));
     assert_eq!(flat.as_first_contour(), square(0, 8));
+}
+
+#[test]
+fn a_pin_on_a_rim_has_material() {
+    let mut plate = FlatContoursBuffer::default();
+    plate
+        .set_with_shape(&[square(0, 8), square(2, 6), contour([])])
+        .unwrap();
+    for (x, y, held) in [
+        (2, 4, true),
+        (6, 4, true),
+        (4, 2, true),
+        (4, 6, true),
+        (6, 6, true),
+        (4, 4, false),
+        (0, 4, true),
+        (8, 8, true),
+        (9, 4, false),
+    ] {
+        assert_eq!(plate.in_shape(IntPoint::new(x, y)), Ok(held), "({x},{y})");
+    }
+    let off = IntPoint::new(0, 536_870_913);
+    assert_eq!(plate.in_shape(off), Err(Refused::OffGrid));
 }
 
 #[test]

@@ -48,7 +48,7 @@ fn lines<C: Display>(cases: Vec<C>) -> Vec<String> {
 /// What is answered to a line, whose first letter is its kind.
 pub fn answer(line: &str) -> Result<String, String> {
     match line.chars().next() {
-        Some('c' | 'w' | 'k') => answered(line, contours::answer),
+        Some('c' | 'w' | 'k' | 'l') => answered(line, contours::answer),
         Some('s' | 'p') => answered(line, sets::answer),
         Some('q' | 'W') => answered(line, cleaning::answer),
         Some('r' | 'f' | 'm') => answered(line, files::answer),

@@ -1,12 +1,13 @@
 //! What the original does not have, written from the sentences of documents 01 and 02 alone:
-//! the replies, whether ranges are sound, the set file, what is sound of a damaged one, and
-//! drawings in millimetres.
+//! the replies, whether ranges are sound, the set file, what is sound of a damaged one,
+//! drawings in millimetres, and where a point lies.
 
 mod bits;
 pub mod drawing;
 pub mod edition;
 pub mod exact;
 pub mod grid;
+pub mod locate;
 pub mod ranges;
 pub mod reply;
 pub mod salvage;

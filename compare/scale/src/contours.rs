@@ -7,9 +7,10 @@ use lists::cleaner::Cleaner;
 use lists::contours::case::{Case, Kind};
 use lists::contours::lent::{beside, need};
 use lists::contours::rows::{self, Lengths};
-use lists::contours::Verdicts;
+use lists::contours::{contains, Verdicts};
 use lists::counted::COUNTED;
 use lists::point::Point;
+use requests::locate::{locate, Place};
 
 impl Input for Case {
     fn compare(&self) -> Found {
@@ -18,11 +19,13 @@ impl Input for Case {
         match self.kind {
             Kind::Contour { asked } => {
                 verdicts(&mut found, asked, &row);
+                located(&mut found, asked, &row);
                 for cleaner in Cleaner::BOTH {
                     cleaning(&mut found, cleaner, longer(row.len()), &row);
                 }
             }
             Kind::Cleaning { cleaner, lent } => cleaning(&mut found, cleaner, lent, &row),
+            Kind::Located { asked } => located(&mut found, asked, &row),
             Kind::Kept(_) => unreachable!("the library does not export the second call"),
         }
         found.hold_unchanged(&self.of.all(), &row);
@@ -49,17 +52,25 @@ fn verdicts(found: &mut Found, asked: Point, row: &[i32]) {
         library::is_clockwise(row),
     );
     found.hold("is_convex", original.convex.into(), library::is_convex(row));
-    found.hold(
-        "contains",
-        original.contains.into(),
-        library::contains(row, asked),
-    );
     found.hold("is_simple", original.simple.into(), library::is_simple(row));
     found.hold(
         "has_no_spikes",
         original.no_spikes.into(),
         library::has_no_spikes(row),
     );
+}
+
+/// Off the boundary inside and outside are the original's yes and no; on it, and everywhere else, `contains` is the
+/// original's still.
+fn located(found: &mut Found, asked: Point, row: &[i32]) {
+    let place = locate(row, asked);
+    found.hold("locate", place.into(), library::locate(row, asked));
+    let contains = contains(asked, row);
+    found.hold("contains", contains.into(), library::contains(row, asked));
+    if let Ok(Place::Inside | Place::Outside) = place {
+        let inside = place.map(|place| place == Place::Inside);
+        found.hold("off the boundary", contains, inside);
+    }
 }
 
 fn cleaning(found: &mut Found, cleaner: Cleaner, lent: Lengths, row: &[i32]) {

@@ -7,7 +7,7 @@ use crate::library::{Flat, Rows, Scratch};
 use crate::ranges;
 use lists::cleaner::Cleaner;
 use lists::cleaning::case::{Form, Lengths};
-use lists::cleaning::{self, cleaned, Verdicts};
+use lists::cleaning::{self, cleaned, off_every_boundary, Verdicts};
 use lists::counted::COUNTED;
 use lists::point::Point;
 use lists::sets::flat::Set;
@@ -68,6 +68,11 @@ fn verdicts(found: &mut Found, asked: Point, set: &Set, points: &[i32]) {
     );
     found.hold("set_area_two", contours.area_two.into(), library.area_two());
     found.hold("set_area", contours.area.into(), library.area());
+    if in_shape.is_ok() {
+        if let Some(has) = off_every_boundary(&set.to_contours(), asked) {
+            found.hold("off every boundary", Ok(has), in_shape);
+        }
+    }
     found.hold("in_shape", in_shape.into(), library.in_shape(asked));
     found.hold(
         "shapes_is_simple",

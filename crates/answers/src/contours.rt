@@ -1,4 +1,4 @@
-// The kinds `c`, `w` and `k`: contours.
+// The kinds `c`, `l`, `w` and `k`: contours.
 use crate::column;
 use cases::answer;
 use cases::answer::Answer;
@@ -21,6 +21,15 @@ pub fn asked(head: [usize; HEAD], points: &[i32]) -> Answer {
     let areas = with_areas(points);
     let verdicts = with_verdicts(areas, points, x, y);
     with_cleaning(with_cleaning(verdicts, 0, points), 1, points)
+}
+
+// The kind `l`: where a point lies to a contour.
+pub fn located(head: [usize; HEAD], points: &[i32]) -> Answer {
+    let x = number::of_bits(head[0]);
+    let y = number::of_bits(head[1]);
+    let located = path::locate(points, x, y);
+    let numbers = [located.reply as u64, located.place as u64];
+    answer::begin().numbers(&numbers)
 }
 
 fn with_areas(points: &[i32]) -> Answer {

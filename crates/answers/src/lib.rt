@@ -1,5 +1,4 @@
-// What the library answers to a case of contours or of sets, and the columns of an answer.
-pub mod cleaning;
+// What the library answers to a case of a contour, or of a set that is asked or packed, and the columns of an answer.
 pub mod column;
 pub mod contours;
 pub mod packing;

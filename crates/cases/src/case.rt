@@ -78,7 +78,7 @@ pub fn read(
 // How many lists of records a case of this kind has; 4 where there is no such kind.
 fn lists(kind: u8) -> usize {
     match kind {
-        b'c' | b'w' | b'k' | b'r' | b'm' | b'i' => 0,
+        b'c' | b'l' | b'w' | b'k' | b'r' | b'm' | b'i' => 0,
         b'e' => 1,
         b's' | b'q' | b'W' | b'f' => 2,
         b'p' => 3,
@@ -95,7 +95,7 @@ fn read_head(line: &[u8], kind: u8, lists: usize) -> Head {
         };
     }
     match kind {
-        b'c' | b'q' => read_point(line),
+        b'c' | b'l' | b'q' => read_point(line),
         _ => read_limited(line, limits(kind)),
     }
 }

@@ -10,9 +10,11 @@ use Rattle.replies.specs.declared.Verdict.{Verdict}
 use Rattle.replies.specs.Verdicts.{verdict}
 use Rattle.area.specs.declared.answer.Area.{Area}
 use Rattle.area.specs.Answers.{answer}
+use Rattle.path.specs.declared.Located.{Located}
+use Rattle.path.specs.Locate.{placed}
 use Rattle.buffer.specs.declared.answer.Counted.{Counted}
 use Rattle.buffer.specs.Answers.{counted}
-use Rattle.promises.specs.Calls.{Kind, verdicts, areas, counts, Numbered, Follows}
+use Rattle.promises.specs.Calls.{Kind, verdicts, areas, locations, counts, Numbered, Follows}
 
 -- a contract that equates what is seen with a rule allows one outcome
 module _ {K T R O : Type 0} {Learnt : K → T → R → T → Type 0} {seen : R → T → O} {rule : T → O} where
@@ -36,6 +38,9 @@ verdict-numbered {l} b = numbered verdicts l (λ k. verdict k b) (λ k. refl) (i
 
 pub area-numbered : {l : List Rung} (z : ℤ) {x : Area} → x ≡ answer (first-of l) z → Numbered areas l x
 area-numbered {l} z = numbered areas l (λ k. answer k z) (λ k. refl) (inl refl)
+
+pub location-numbered : {l : List Rung} (n : ℕ) {x : Located} → x ≡ placed (first-of l) n → Numbered locations l x
+location-numbered {l} n = numbered locations l (λ k. placed k n) (λ k. refl) (inl refl)
 
 pub count-numbered : {l : List Rung} (n : ℕ) {x : Counted} → x ≡ counted (first-of l) n → Numbered counts l x
 count-numbered {l} n = numbered counts l (λ k. counted k n) (λ k. refl) (inl refl)

@@ -10,6 +10,7 @@ use Rattle.area.specs.Answers as Areas
 use Rattle.path.specs.Convex.{convex}
 use Rattle.path.specs.Clockwise.{clockwise}
 use Rattle.path.specs.Contains.{contains}
+use Rattle.path.specs.Locate.{located}
 use Rattle.clean.specs.Verdicts as Verdicts
 use Rattle.buffer.specs.Contours as Contours
 use Rattle.buffer.specs.Shapes as Shapes
@@ -26,7 +27,7 @@ use Rattle.salvage.proofs as salvage
 use Rattle.drawing.proofs as drawing
 use Rattle.promises.specs.Calls.{numbers, _and_}
 use Rattle.promises.specs.Demand1.{NothingTraps, TheOrderOfTheNumbers, EveryBadInputGetsItsNumber, OutputAndScratchAreThenUntouched, ACollapsedContourLeavesOutputUntouchedAndItsScratchZeroed, Demand1}
-use Rattle.promises.proofs.Calls.{numbered, verdict-numbered, area-numbered, count-numbered}
+use Rattle.promises.proofs.Calls.{numbered, verdict-numbered, area-numbered, location-numbered, count-numbered}
 use Rattle.promises.proofs.Refusals.{handed-none, first-none, packing-numbered, packing-untouched, cleaning-numbered, cleaning-collapsed, shape-numbered, shape-collapsed, shapes-numbered, writing-numbered, writing-untouched, salvage-numbered, salvage-untouched, export-numbered, export-untouched}
 
 nothing-traps : NothingTraps
@@ -38,6 +39,7 @@ nothing-traps = record {
   clean·despike·has-no-spikes = record { is-proved = clean.despike.has_no_spikes.Met.met; asks-nothing = λ κs a. tt };
   path·is-convex = record { is-proved = path.is_convex.Met.met; asks-nothing = λ κs a. tt };
   path·contains-point = record { is-proved = path.contains_point.Met.met; asks-nothing = λ κs a. tt };
+  path·locate = record { is-proved = path.locate.Met.met; asks-nothing = λ κs a. tt };
   sets·in-shape = record { is-proved = sets.in_shape.Met.met; asks-nothing = λ κs a. tt };
   sets·simple·is-simple = record { is-proved = sets.simple.is_simple.Met.met; asks-nothing = λ κs a. tt };
   sets·despike·has-no-spikes = record { is-proved = sets.despike.has_no_spikes.Met.met; asks-nothing = λ κs a. tt };
@@ -107,7 +109,7 @@ the-order-of-the-numbers = record {
 }
 
 every-bad-input-gets-its-number : EveryBadInputGetsItsNumber
-unfolding Areas.doubled Areas.half convex clockwise contains Verdicts.simple Verdicts.spike-free in-shape verdict-by doubled-by half-by Contours.is-empty Contours.is-single Contours.points-count Contours.contours-count Contours.contour-at Shapes.is-empty Shapes.points-count Shapes.contours-count Shapes.shapes-count Shapes.contours-in Shapes.contour-of
+unfolding Areas.doubled Areas.half convex clockwise contains located Verdicts.simple Verdicts.spike-free in-shape verdict-by doubled-by half-by Contours.is-empty Contours.is-single Contours.points-count Contours.contours-count Contours.contour-at Shapes.is-empty Shapes.points-count Shapes.contours-count Shapes.shapes-count Shapes.contours-in Shapes.contour-of
 every-bad-input-gets-its-number = record {
   area·area-two = λ κs a x e h. area-numbered _ h;
   area·area = λ κs a x e h. area-numbered _ h;
@@ -116,7 +118,6 @@ every-bad-input-gets-its-number = record {
   clean·despike·has-no-spikes = λ κs a x e h. verdict-numbered _ h;
   path·is-convex = λ κs a x e h. verdict-numbered _ h;
   path·contains-point = λ κs a x e h. verdict-numbered _ h;
-  sets·in-shape = λ κs a x e h. verdict-numbered _ h;
   sets·simple·is-simple = λ κs a x e h. verdict-numbered _ h;
   sets·despike·has-no-spikes = λ κs a x e h. verdict-numbered _ h;
   sets·shapes·is-simple = λ κs a x e h. verdict-numbered _ h;
@@ -155,6 +156,8 @@ every-bad-input-gets-its-number = record {
   sets·despike·despiked-shapes = λ κs a x e h. shapes-numbered Spike _ _ _ _ _ h;
   setfile·read = λ κs a x e h. packing-numbered _ _ _ _ _ _ _ _ h;
   setfile·write = λ κs a x e h. writing-numbered _ _ _ _ _ h;
+  path·locate = λ κs a x e h. location-numbered _ h;
+  sets·in-shape = λ κs a x e h. verdict-numbered _ h;
   salvage·mend = λ κs a x e h. salvage-numbered _ _ _ _ h;
   drawing·import = λ κs a x e h. packing-numbered _ _ _ _ _ _ _ _ h;
   drawing·export = λ κs a x e h. export-numbered _ _ _ _ _ h;

@@ -9,6 +9,7 @@ no-export-traps = record {
   ukm-is-convex = record { is-proved = ukmerelt.contours.ukm_is_convex.Met.met; asks-nothing = λ κs a. tt };
   ukm-is-clockwise = record { is-proved = ukmerelt.contours.ukm_is_clockwise.Met.met; asks-nothing = λ κs a. tt };
   ukm-contains = record { is-proved = ukmerelt.contours.ukm_contains.Met.met; asks-nothing = λ κs a. tt };
+  ukm-locate = record { is-proved = ukmerelt.contours.ukm_locate.Met.met; asks-nothing = λ κs a. tt };
   ukm-is-simple = record { is-proved = ukmerelt.contours.ukm_is_simple.Met.met; asks-nothing = λ κs a. tt };
   ukm-has-no-spikes = record { is-proved = ukmerelt.contours.ukm_has_no_spikes.Met.met; asks-nothing = λ κs a. tt };
   ukm-simplified = record { is-proved = ukmerelt.contours.ukm_simplified.Met.met; asks-nothing = λ κs a. tt };
@@ -45,6 +46,7 @@ every-export-hands-on = record {
   ukm-is-convex = λ κs a x e h. h;
   ukm-is-clockwise = λ κs a x e h. h;
   ukm-contains = λ κs a x e h. h;
+  ukm-locate = λ κs a x e h. h;
   ukm-is-simple = λ κs a x e h. h;
   ukm-has-no-spikes = λ κs a x e h. h;
   ukm-simplified = λ κs a x e h. h;

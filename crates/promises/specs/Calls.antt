@@ -10,6 +10,7 @@ use Rattle.replies.specs.Ladder.{Rung, first-of}
 use Rattle.replies.specs.declared.Verdict.{Verdict}
 use Rattle.replies.proofs.OneOutcome.{five, seven, nine}
 use Rattle.area.specs.declared.answer.Area.{Area}
+use Rattle.path.specs.declared.Located.{Located}
 use Rattle.rows.specs.Parts.{Part, part, none}
 use Rattle.buffer.specs.declared.answer.Counted.{Counted}
 use Rattle.buffer.specs.declared.answer.Packed.{Packed}
@@ -74,6 +75,10 @@ verdicts = record { Answer = Verdict; reply = λ x. x .reply; only = λ k. recor
 -- an area
 abbrev pub areas : Kind
 areas = record { Answer = Area; reply = λ x. x .reply; only = λ k. record { reply = k; value = pos 0 } }
+
+-- where a point lies
+abbrev pub locations : Kind
+locations = record { Answer = Located; reply = λ x. x .reply; only = λ k. record { reply = k; place = 0 } }
 
 -- a count
 abbrev pub counts : Kind

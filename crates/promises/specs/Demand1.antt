@@ -42,7 +42,7 @@ use Rattle.sets.proofs as sets
 use Rattle.setfile.proofs as setfile
 use Rattle.salvage.proofs as salvage
 use Rattle.drawing.proofs as drawing
-use Rattle.promises.specs.Calls.{of-contour, of-set, of-shapes, Always, NeverTraps, numbers, verdicts, areas, counts, packings, cleanings, set-cleanings, writings, salvagings, drawings, Refuses, HandsNothing, _and_, contour-lent, shape-lent, shapes-lent, OnlyZeroed, ShapeOnlyZeroed, Untouched, Collapses}
+use Rattle.promises.specs.Calls.{of-contour, of-set, of-shapes, Always, NeverTraps, numbers, verdicts, areas, locations, counts, packings, cleanings, set-cleanings, writings, salvagings, drawings, Refuses, HandsNothing, _and_, contour-lent, shape-lent, shapes-lent, OnlyZeroed, ShapeOnlyZeroed, Untouched, Collapses}
 
 -- no function asks anything, and each is proved
 pub record NothingTraps : Type 2 where
@@ -53,6 +53,7 @@ pub record NothingTraps : Type 2 where
   pub clean·despike·has-no-spikes : NeverTraps clean.despike.has_no_spikes.Statement.statement clean.despike.has_no_spikes.Reads.Asked
   pub path·is-convex : NeverTraps path.is_convex.Statement.statement path.is_convex.Reads.Asked
   pub path·contains-point : NeverTraps path.contains_point.Statement.statement path.contains_point.Reads.Asked
+  pub path·locate : NeverTraps path.locate.Statement.statement path.locate.Reads.Asked
   pub sets·in-shape : NeverTraps sets.in_shape.Statement.statement sets.in_shape.Reads.Asked
   pub sets·simple·is-simple : NeverTraps sets.simple.is_simple.Statement.statement sets.simple.is_simple.Reads.Asked
   pub sets·despike·has-no-spikes : NeverTraps sets.despike.has_no_spikes.Statement.statement sets.despike.has_no_spikes.Reads.Asked
@@ -184,7 +185,6 @@ pub record EveryBadInputGetsItsNumber : Type 0 where
   pub clean·despike·has-no-spikes : Refuses verdicts clean.despike.has_no_spikes.Reads.Learnt (of-contour domain)
   pub path·is-convex : Refuses verdicts path.is_convex.Reads.Learnt (of-contour domain)
   pub path·contains-point : Refuses verdicts path.contains_point.Reads.Learnt λ a. three a λ points x y. Contains.refusals (record { x = x; y = y }) (now points)
-  pub sets·in-shape : Refuses verdicts sets.in_shape.Reads.Learnt λ a. four a λ points ranges x y. SetContains.shape-refusals (record { x = x; y = y }) (now points) (now ranges)
   pub sets·simple·is-simple : Refuses verdicts sets.simple.is_simple.Reads.Learnt (of-set Contours.refusals)
   pub sets·despike·has-no-spikes : Refuses verdicts sets.despike.has_no_spikes.Reads.Learnt (of-set Contours.refusals)
   pub sets·shapes·is-simple : Refuses verdicts sets.shapes.is_simple.Reads.Learnt (of-shapes Shapes.refusals)
@@ -243,7 +243,9 @@ pub record EveryBadInputGetsItsNumber : Type 0 where
   -- The set file.
   pub setfile·read : Refuses packings setfile.read.Reads.Learnt λ a. four a λ bytes out records groups. read-refusals (now bytes) (now out) (now records) (now groups)
   pub setfile·write : Refuses writings setfile.write.Reads.Learnt λ a. four a λ points contours shapes bytes. write-refusals (now points) (now contours) (now shapes) (now bytes)
-  -- Beyond 01: salvage of a file, and drawings in millimetres.
+  -- Beyond 01: where a point lies, and whether a shape has it; salvage of a file, and drawings in millimetres.
+  pub path·locate : Refuses locations path.locate.Reads.Learnt λ a. three a λ points x y. Contains.refusals (record { x = x; y = y }) (now points)
+  pub sets·in-shape : Refuses verdicts sets.in_shape.Reads.Learnt λ a. four a λ points ranges x y. SetContains.shape-refusals (record { x = x; y = y }) (now points) (now ranges)
   pub salvage·mend : Refuses salvagings salvage.mend.Reads.Learnt λ a. three a λ bytes out dropped. Salvage.refusals (now bytes) (now out) (now dropped)
   pub drawing·import : Refuses packings drawing.import.Reads.Learnt λ a. four a λ kinds floats points ranges. import-refusals (now kinds) (now floats) (now points) (now ranges)
   pub drawing·export : Refuses drawings drawing.export.Reads.Learnt λ a. four a λ points ranges kinds floats. export-refusals (now points) (now ranges) (now kinds) (now floats)

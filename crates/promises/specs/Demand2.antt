@@ -24,6 +24,7 @@ use Rattle.area.specs.Answers as Areas
 use Rattle.path.specs.Convex.{convex}
 use Rattle.path.specs.Clockwise.{clockwise}
 use Rattle.path.specs.Contains.{contains}
+use Rattle.path.specs.Locate.{located}
 use Rattle.ring.specs.declared.Rule.the-variants.{Collinear, Spike}
 use Rattle.clean.specs.Verdicts as Verdicts
 use Rattle.clean.specs.Outcome as Cleaning
@@ -66,7 +67,6 @@ pub record EveryAnswerEqualsTheRules : Type 0 where
   pub clean·despike·has-no-spikes : Answers clean.despike.has_no_spikes.Reads.Learnt (of-contour Verdicts.spike-free)
   pub path·is-convex : Answers path.is_convex.Reads.Learnt (of-contour convex)
   pub path·contains-point : Answers path.contains_point.Reads.Learnt λ a. three a λ points x y. contains (now points) x y
-  pub sets·in-shape : Answers sets.in_shape.Reads.Learnt λ a. four a λ points ranges x y. in-shape (now points) (now ranges) x y
   pub sets·simple·is-simple : Answers sets.simple.is_simple.Reads.Learnt (of-set SetVerdicts.simple)
   pub sets·despike·has-no-spikes : Answers sets.despike.has_no_spikes.Reads.Learnt (of-set SetVerdicts.spike-free)
   pub sets·shapes·is-simple : Answers sets.shapes.is_simple.Reads.Learnt (of-shapes SetVerdicts.shapes-simple)
@@ -143,7 +143,9 @@ pub record EveryAnswerEqualsTheRules : Type 0 where
   pub setfile·write : Follows setfile.write.Reads.Learnt
       (λ x e. four e λ points contours shapes bytes. Writing.leaving (x .reply) (x .bytes) (now bytes))
       (λ a. four a λ points contours shapes bytes. Writing.outcome (now points) (now contours) (now shapes) (now bytes))
-  -- Beyond 01: salvage of a file, and drawings in millimetres.
+  -- Beyond 01: where a point lies, and whether a shape has it, which 02 says in place of 01; salvage of a file, and drawings in millimetres.
+  pub path·locate : Answers path.locate.Reads.Learnt λ a. three a λ points x y. located (now points) x y
+  pub sets·in-shape : Answers sets.in_shape.Reads.Learnt λ a. four a λ points ranges x y. in-shape (now points) (now ranges) x y
   pub salvage·mend : Follows salvage.mend.Reads.Learnt
       (λ x e. three e λ bytes out dropped. Salvage.leaving x (now out) (now dropped))
       (λ a. three a λ bytes out dropped. Salvage.outcome (now bytes) (now out) (now dropped))

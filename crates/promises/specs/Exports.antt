@@ -17,6 +17,7 @@ pub record NoExportTraps : Type 2 where
   pub ukm-is-convex : NeverTraps ukmerelt.contours.ukm_is_convex.Statement.statement ukmerelt.contours.ukm_is_convex.Reads.Asked
   pub ukm-is-clockwise : NeverTraps ukmerelt.contours.ukm_is_clockwise.Statement.statement ukmerelt.contours.ukm_is_clockwise.Reads.Asked
   pub ukm-contains : NeverTraps ukmerelt.contours.ukm_contains.Statement.statement ukmerelt.contours.ukm_contains.Reads.Asked
+  pub ukm-locate : NeverTraps ukmerelt.contours.ukm_locate.Statement.statement ukmerelt.contours.ukm_locate.Reads.Asked
   pub ukm-is-simple : NeverTraps ukmerelt.contours.ukm_is_simple.Statement.statement ukmerelt.contours.ukm_is_simple.Reads.Asked
   pub ukm-has-no-spikes : NeverTraps ukmerelt.contours.ukm_has_no_spikes.Statement.statement ukmerelt.contours.ukm_has_no_spikes.Reads.Asked
   pub ukm-simplified : NeverTraps ukmerelt.contours.ukm_simplified.Statement.statement ukmerelt.contours.ukm_simplified.Reads.Asked
@@ -52,6 +53,7 @@ pub record EveryExportHandsOn : Type 0 where
   pub ukm-is-convex : HandsOn ukmerelt.contours.ukm_is_convex.Reads.Learnt path.is_convex.Reads.Learnt
   pub ukm-is-clockwise : HandsOn ukmerelt.contours.ukm_is_clockwise.Reads.Learnt path.is_clockwise_ordered.Reads.Learnt
   pub ukm-contains : HandsOn ukmerelt.contours.ukm_contains.Reads.Learnt path.contains_point.Reads.Learnt
+  pub ukm-locate : HandsOn ukmerelt.contours.ukm_locate.Reads.Learnt path.locate.Reads.Learnt
   pub ukm-is-simple : HandsOn ukmerelt.contours.ukm_is_simple.Reads.Learnt clean.simple.is_simple.Reads.Learnt
   pub ukm-has-no-spikes : HandsOn ukmerelt.contours.ukm_has_no_spikes.Reads.Learnt clean.despike.has_no_spikes.Reads.Learnt
   pub ukm-simplified : HandsOn ukmerelt.contours.ukm_simplified.Reads.Learnt clean.simple.simplified.Reads.Learnt

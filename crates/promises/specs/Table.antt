@@ -14,6 +14,8 @@ use Rattle.area.specs.Answers.{doubled, half}
 use Rattle.path.specs.Convex.{convex as convex-verdict}
 use Rattle.path.specs.Clockwise.{clockwise as clockwise-verdict}
 use Rattle.path.specs.Contains.{contains}
+use Rattle.path.specs.declared.Located.{Located}
+use Rattle.path.specs.Locate.{located as located-at}
 use Rattle.ring.specs.declared.Rule.{Rule}
 use Rattle.ring.specs.declared.Rule.the-variants.{Collinear, Spike}
 use Rattle.ring.specs.Walk.{End}
@@ -24,14 +26,15 @@ use Rattle.clean.specs.Outcome.{walked, chosen, answer, lent, outcome}
 use Rattle.sets.specs.declared.cleaning.CleanedSet.{CleanedSet}
 use Rattle.sets.specs.Outcome.{lent as set-lent, shape-outcome, answer as set-answer}
 
--- a point that is asked about, and whether the contour contains it
+-- a point that is asked about: whether the contour contains it, and where it lies
 pub record Asked : Type 0 where
   pub x : ℤ
   pub y : ℤ
   pub contained : Verdict
+  pub located : Located
 
-abbrev pub ask : ℤ → ℤ → Verdict → Asked
-ask x y contained = record { x = x; y = y; contained = contained }
+abbrev pub ask : ℤ → ℤ → Verdict → Located → Asked
+ask x y contained located = record { x = x; y = y; contained = contained; located = located }
 
 -- a cleaning: its answer, what stands in its output, which held 9s, and the positions that the walk keeps
 pub record Alone : Type 0 where
@@ -98,7 +101,7 @@ answers r = let c = r .contour in record {
   clockwise = clockwise-verdict c;
   area-two = doubled c;
   area = half c;
-  asked = map (λ (q : Asked). ask (q .x) (q .y) (contains c (q .x) (q .y))) (r .asked);
+  asked = map (λ (q : Asked). ask (q .x) (q .y) (contains c (q .x) (q .y)) (located-at c (q .x) (q .y))) (r .asked);
 }
 
 -- a contour that is kept at some positions, after so many decisions
@@ -125,6 +128,16 @@ answered b = record { reply = 0; yes = b }
 abbrev pub refused : ℕ → Verdict
 refused k = record { reply = k; yes = false }
 
+-- the three places of a point
+abbrev pub outside : Located
+outside = record { reply = 0; place = 0 }
+
+abbrev pub on-the-boundary : Located
+on-the-boundary = record { reply = 0; place = 1 }
+
+abbrev pub inside : Located
+inside = record { reply = 0; place = 2 }
+
 -- an area that is answered
 abbrev pub an-area : ℤ → Area
 an-area z = record { reply = 0; value = z }
@@ -146,7 +159,7 @@ w1 = record {
   clockwise = refused 8;
   area-two = refused-area 8;
   area = refused-area 8;
-  asked = ask (pos 0) (pos 0) (answered false) ∷ [];
+  asked = ask (pos 0) (pos 0) (answered false) outside ∷ [];
 }
 
 abbrev pub w2 : Row
@@ -178,7 +191,7 @@ w3 = record {
   clockwise = answered false;
   area-two = an-area (pos 16);
   area = an-area (pos 8);
-  asked = ask (pos 1) (pos 1) (answered true) ∷ [];
+  asked = ask (pos 1) (pos 1) (answered true) inside ∷ [];
 }
 
 abbrev pub w4 : Row
@@ -242,7 +255,7 @@ w8 = record {
   clockwise = answered true;
   area-two = an-area (negsuc 303);
   area = an-area (negsuc 151);
-  asked = ask (pos 0) (pos 0) (answered false) ∷ [];
+  asked = ask (pos 0) (pos 0) (answered false) outside ∷ [];
 }
 
 abbrev pub w9 : Row
@@ -258,7 +271,8 @@ w9 = record {
   clockwise = answered false;
   area-two = an-area (pos 32);
   area = an-area (pos 16);
-  asked = ask (pos 0) (pos 2) (answered true) ∷ ask (pos 2) (pos 0) (answered true) ∷ ask (pos 4) (pos 2) (answered false) ∷ ask (pos 2) (pos 4) (answered false) ∷ [];
+  asked = ask (pos 0) (pos 2) (answered true) on-the-boundary ∷ ask (pos 2) (pos 0) (answered true) on-the-boundary
+      ∷ ask (pos 4) (pos 2) (answered false) on-the-boundary ∷ ask (pos 2) (pos 4) (answered false) on-the-boundary ∷ [];
 }
 
 abbrev pub w10 : Row

@@ -1,5 +1,4 @@
 // The answers to a case, by its kind.
-use answers::cleaning;
 use answers::contours;
 use answers::packing;
 use cases::answer::Answer;
@@ -53,12 +52,13 @@ fn of_parts(
     let head = case.head;
     match kind {
         b'c' => contours::asked(head, points),
+        b'l' => contours::located(head, points),
         b'w' => contours::lent(head, points),
         b'k' => contours::kept(head, points),
         b's' => packing::asked(points, contours, shapes),
         b'p' => packing::lent(head, points, ranges, contours, shapes),
-        b'q' => cleaning::asked(head, points, contours, shapes),
-        b'W' => cleaning::lent(head, points, contours, shapes),
+        b'q' => cleaning_answers::asked(head, points, contours, shapes),
+        b'W' => cleaning_answers::lent(head, points, contours, shapes),
         b'r' => files::read(head, file),
         b'm' => files::mended(head, file),
         _ => files::written(head, points, contours, shapes),

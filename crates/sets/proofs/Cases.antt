@@ -14,11 +14,12 @@ use Rattle.grid.specs.Area.{around, exact, wrapped}
 use Rattle.replies.specs.Ladder.{first-of}
 use Rattle.grid.specs.Cases.{row, W3, W11}
 use Rattle.path.specs.Contains.{crosses, odd, contained}
+use Rattle.path.specs.Locate.{on-edge, touched, on-boundary, location}
 use Rattle.clean.specs.Verdicts.{is-simple, no-spike-left, no-spikes}
 use Rattle.buffer.specs.Spans.{sound-from}
 use Rattle.sets.specs.Verdicts.{every, verdict-by, simple, spike-free, shapes-simple, shapes-spike-free}
 use Rattle.sets.specs.Area.{sum, doubled-by, half-by, doubled, half, shapes-doubled, shapes-half}
-use Rattle.sets.specs.Contains.{inside, in-shape}
+use Rattle.sets.specs.Contains.{has, in-shape}
 
 infixl 70 _to_
 -- a range
@@ -97,16 +98,36 @@ of-shapes :
 unfolding mod64 limit most on-grid all-on-grid points around exact wrapped cross dot last differing distinct-neighbours corners-from corners some first-of sound-from is-simple no-spike-left no-spikes every verdict-by sum doubled-by half-by
 of-shapes = (refl, refl, refl, refl, refl, refl, refl)
 
--- a square with a square hole
+-- a square with a square hole, and two squares that overlap
 abbrev square : List ℤ
 square = row (0 ∷ 0 ∷ 8 ∷ 0 ∷ 8 ∷ 8 ∷ 0 ∷ 8 ∷ []) ++ row (2 ∷ 2 ∷ 6 ∷ 2 ∷ 6 ∷ 6 ∷ 2 ∷ 6 ∷ [])
 
--- between outline and hole, in the hole, outside, and off the grid; an empty shape contains nothing
-shapes :
-    (in-shape square (0 to 4 ∷ 4 to 8 ∷ []) (pos 1) (pos 4) ≡ answered true)
-    × (in-shape square (0 to 4 ∷ 4 to 8 ∷ []) (pos 4) (pos 4) ≡ answered false)
-    × (in-shape square (0 to 4 ∷ 4 to 8 ∷ []) (pos 9) (pos 4) ≡ answered false)
-    × (in-shape square (0 to 4 ∷ 4 to 8 ∷ []) (pos 536870913) (pos 4) ≡ refused 3)
+abbrev overlapping : List ℤ
+overlapping = row (0 ∷ 0 ∷ 4 ∷ 0 ∷ 4 ∷ 4 ∷ 0 ∷ 4 ∷ []) ++ row (2 ∷ 1 ∷ 6 ∷ 1 ∷ 6 ∷ 3 ∷ 2 ∷ 3 ∷ [])
+
+-- whether a shape of two contours, of four points each, has a point
+abbrev asks : List ℤ → ℕ → ℕ → Verdict
+asks p x y = in-shape p (0 to 4 ∷ 4 to 8 ∷ []) (pos x) (pos y)
+
+-- a pin on the left rim of a hole has material, and so has one on the right rim, and one on a corner of it
+rims-have-material : (asks square 2 4 ≡ answered true) × (asks square 6 4 ≡ answered true) × (asks square 2 2 ≡ answered true)
+unfolding xor limit most on-grid all-on-grid points cross last first-of sound-from crosses odd contained on-edge touched on-boundary location every has in-shape
+rims-have-material = (refl, refl, refl)
+
+-- on the outline, on either side; between outline and hole; inside the hole; outside
+material : (asks square 0 4 ≡ answered true) × (asks square 8 4 ≡ answered true) × (asks square 1 4 ≡ answered true) × (asks square 4 4 ≡ answered false) × (asks square 9 4 ≡ answered false)
+unfolding xor limit most on-grid all-on-grid points cross last first-of sound-from crosses odd contained on-edge touched on-boundary location every has in-shape
+material = (refl, refl, refl, refl, refl)
+
+-- on the outline, but inside a later contour; on the outline and on the later contour
+on-the-outline : (asks overlapping 4 2 ≡ answered false) × (asks overlapping 4 1 ≡ answered true)
+unfolding xor limit most on-grid all-on-grid points cross last first-of sound-from crosses odd contained on-edge touched on-boundary location every has in-shape
+on-the-outline = (refl, refl)
+
+-- off the grid; an empty shape has nothing, nor has one whose first contour is empty
+nothing-had :
+    (asks square 536870913 4 ≡ refused 3)
     × (in-shape [] [] (pos 0) (pos 0) ≡ answered false)
-unfolding xor limit most on-grid all-on-grid points last first-of sound-from crosses odd contained every inside in-shape
-shapes = (refl, refl, refl, refl, refl)
+    × (in-shape W3 (0 to 0 ∷ 0 to 3 ∷ []) (pos 0) (pos 0) ≡ answered false)
+unfolding xor limit most on-grid all-on-grid points cross last first-of sound-from crosses odd contained on-edge touched on-boundary location every has in-shape
+nothing-had = (refl, refl, refl)

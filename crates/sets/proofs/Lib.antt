@@ -2,6 +2,7 @@ pub mod RefusalLaws
 pub mod Untouched
 pub mod PartLaws
 pub mod ContainsLaws
+pub mod Rims
 pub mod AreaLaws
 pub mod FateLaws
 pub mod BehindLaws

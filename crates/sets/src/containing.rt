@@ -1,4 +1,4 @@
-// Whether a shape contains a point.
+// Whether a shape has a point.
 ghost use mathlib.Core.Path.{_≡_};
 ghost use Rattle.buffer.specs.Sets.{contours};
 ghost use Rattle.sets.specs.Contains.{in-shape};
@@ -6,7 +6,7 @@ use crate::inner::containing;
 use grid::Point;
 use replies::Verdict;
 
-// Whether the shape contains the point x, y.
+// Whether the shape has the point x, y: inside its first contour or on it, and inside no later one.
 pub fn in_shape(points: &[i32], ranges: &[[usize; 2]], x: i32, y: i32) -> Verdict
     ensures { λ r. ⌜ r ≡ in-shape (now (points .entry)) (now (ranges .entry)) x y ⌝ }
 {
@@ -26,6 +26,6 @@ pub fn in_shape(points: &[i32], ranges: &[[usize; 2]], x: i32, y: i32) -> Verdic
     }
     Verdict {
         reply: replies::DONE,
-        yes: containing::contains(points, ranges, p),
+        yes: containing::has(points, ranges, p),
     }
 }

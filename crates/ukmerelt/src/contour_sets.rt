@@ -48,7 +48,7 @@ pub extern "C" fn ukm_set_area(points: &[i32], ranges: &[[usize; 2]]) -> Area
     sets::areas::area(points, ranges)
 }
 
-// Whether the shape contains the point x, y.
+// Whether the shape has the point x, y: inside its first contour or on it, and inside no later one.
 #[no_mangle]
 pub extern "C" fn ukm_in_shape(points: &[i32], ranges: &[[usize; 2]], x: i32, y: i32) -> Verdict
     ensures { λ r. ⌜ r ≡ in-shape (now (points .entry)) (now (ranges .entry)) x y ⌝ }

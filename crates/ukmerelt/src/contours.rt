@@ -5,10 +5,12 @@ ghost use Rattle.area.specs.Answers.{doubled, half};
 ghost use Rattle.path.specs.Convex.{convex};
 ghost use Rattle.path.specs.Clockwise.{clockwise};
 ghost use Rattle.path.specs.Contains.{contains};
+ghost use Rattle.path.specs.Locate.{located};
 ghost use Rattle.clean.specs.Verdicts.{simple, spike-free};
 ghost use Rattle.clean.specs.Outcome.{lent, leaving, outcome};
 use area::Area;
 use clean::Cleaned;
+use path::Located;
 use replies::Verdict;
 
 // The doubled area: counter-clockwise is positive.
@@ -49,6 +51,14 @@ pub extern "C" fn ukm_contains(points: &[i32], x: i32, y: i32) -> Verdict
     ensures { λ r. ⌜ r ≡ contains (now (points .entry)) x y ⌝ }
 {
     path::contains_point(points, x, y)
+}
+
+// Where the point x, y lies: outside the contour, on its boundary or inside.
+#[no_mangle]
+pub extern "C" fn ukm_locate(points: &[i32], x: i32, y: i32) -> Located
+    ensures { λ r. ⌜ r ≡ located (now (points .entry)) x y ⌝ }
+{
+    path::locate(points, x, y)
 }
 
 // Whether the contour has three or more points, and no vertex whose two edges have cross 0.

@@ -119,8 +119,9 @@ impl FlatContoursBuffer {
         library::set_has_no_spikes(&self.points, &self.ranges).read()
     }
 
-    /// Whether the point is in the first contour and in no later one.
-    pub fn contains_point(&self, point: IntPoint) -> Result<bool, Refused> {
+    /// Whether the set, as a shape, has the point: it is inside the first contour or on its boundary, and inside no later
+    /// one. So the rims of the outline and of the holes belong to the shape.
+    pub fn in_shape(&self, point: IntPoint) -> Result<bool, Refused> {
         library::in_shape(&self.points, &self.ranges, point).read()
     }
 

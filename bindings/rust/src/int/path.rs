@@ -2,6 +2,28 @@ use crate::int::point::IntPoint;
 use crate::library;
 use crate::refused::Refused;
 
+/// Where a point lies of a contour; as a number it is the library's.
+#[derive(Debug, Clone, Copy, PartialEq, Eq, Hash)]
+#[repr(u8)]
+pub enum Location {
+    Outside = 0,
+    /// On a closed edge: its ends and all between, single points and doubled edges included.
+    Boundary = 1,
+    /// On no edge, and by the parity of those to its right.
+    Inside = 2,
+}
+
+impl Location {
+    /// Reads a place of the library, which has no others.
+    pub(crate) fn read(place: u8) -> Self {
+        match place {
+            1 => Location::Boundary,
+            2 => Location::Inside,
+            _ => Location::Outside,
+        }
+    }
+}
+
 /// Questions about one contour. Refused as `TooMany` or `OffGrid`.
 pub trait ContourExtension {
     /// Whether all turns have one sign and no edge reverses, equal neighbours skipped.
@@ -10,8 +32,12 @@ pub trait ContourExtension {
     /// Whether the doubled area is at or below 0; refused as `Empty` where there are no points.
     fn is_clockwise_ordered(&self) -> Result<bool, Refused>;
 
-    /// Whether the point is inside, by the parity of the edges to its right.
+    /// Whether the point is inside, by the parity of the edges to its right: on the boundary half-open, as i_shape's
+    /// answer is.
     fn contains_point(&self, point: IntPoint) -> Result<bool, Refused>;
+
+    /// Whether the point is inside, on the boundary or outside, the boundary first.
+    fn locate(&self, point: IntPoint) -> Result<Location, Refused>;
 }
 
 impl ContourExtension for [IntPoint] {
@@ -25,5 +51,9 @@ impl ContourExtension for [IntPoint] {
 
     fn contains_point(&self, point: IntPoint) -> Result<bool, Refused> {
         library::contains(self, point).read()
+    }
+
+    fn locate(&self, point: IntPoint) -> Result<Location, Refused> {
+        library::locate(self, point).read()
     }
 }

@@ -3,6 +3,7 @@
 use crate::drawing::Place;
 use crate::flat::buffer::{FlatContoursBuffer, FlatShapesBuffer};
 use crate::flat::file::Dropped;
+use crate::int::path::Location;
 use crate::int::shape::IntContour;
 use crate::refused::Refused;
 
@@ -10,6 +11,12 @@ use crate::refused::Refused;
 pub struct Verdict {
     reply: u32,
     yes: bool,
+}
+
+#[repr(C)]
+pub struct Located {
+    reply: u32,
+    place: u8,
 }
 
 #[repr(C)]
@@ -67,6 +74,12 @@ pub struct Drawn {
 impl Verdict {
     pub fn read(self) -> Result<bool, Refused> {
         Refused::read(self.reply, 0).map(|()| self.yes)
+    }
+}
+
+impl Located {
+    pub fn read(self) -> Result<Location, Refused> {
+        Refused::read(self.reply, 0).map(|()| Location::read(self.place))
     }
 }
 

@@ -6,7 +6,7 @@ mod raw;
 use crate::drawing::Place;
 use crate::int::point::IntPoint;
 use crate::refused::Refused;
-use answer::{Area, Cleaned, CleanedSet, Drawn, Packed, Salvaged, Verdict, Written};
+use answer::{Area, Cleaned, CleanedSet, Drawn, Located, Packed, Salvaged, Verdict, Written};
 
 /// A start and an end, laid as `UkmRange` of the header is.
 pub type Range = [usize; 2];
@@ -128,6 +128,10 @@ pub fn has_no_spikes(points: &[IntPoint]) -> Verdict {
 
 pub fn contains(points: &[IntPoint], p: IntPoint) -> Verdict {
     call!(ukm_contains(points; ; p.x, p.y))
+}
+
+pub fn locate(points: &[IntPoint], p: IntPoint) -> Located {
+    call!(ukm_locate(points; ; p.x, p.y))
 }
 
 pub fn simplified(points: &[IntPoint], scratch: &mut Scratch, out: &mut [IntPoint]) -> Cleaned {

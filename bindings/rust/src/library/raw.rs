@@ -1,6 +1,8 @@
 //! The functions of libukmerelt.a, as bindings/c/ukmerelt.h declares them.
 
-use super::answer::{Area, Cleaned, CleanedSet, Drawn, Packed, Salvaged, Verdict, Written};
+use super::answer::{
+    Area, Cleaned, CleanedSet, Drawn, Located, Packed, Salvaged, Verdict, Written,
+};
 use super::Range;
 
 extern "C" {
@@ -11,6 +13,7 @@ extern "C" {
     pub fn ukm_is_simple(points: *const i32, points_len: usize) -> Verdict;
     pub fn ukm_has_no_spikes(points: *const i32, points_len: usize) -> Verdict;
     pub fn ukm_contains(points: *const i32, points_len: usize, x: i32, y: i32) -> Verdict;
+    pub fn ukm_locate(points: *const i32, points_len: usize, x: i32, y: i32) -> Located;
     pub fn ukm_simplified(
         points: *const i32,
         points_len: usize,

@@ -2,14 +2,14 @@
 
 use super::case::{Case, Kind};
 use super::cleaned;
-use super::original::Shape;
-use crate::cleaner::Cleaner;
+use crate::cleaner::{Cleaner, Contour};
 use crate::contours::{column, yes_or_no};
 use crate::point::Point;
 use crate::sets::flat::{refusal, Set};
 use i_float::int::point::IntPoint;
 use i_shape::int::area::Area;
 use i_shape::int::path::ContourExtension;
+use requests::locate::{self, Place};
 use requests::reply::{on_grid, refused_if, Reply, EMPTY};
 use std::fmt;
 
@@ -95,12 +95,25 @@ impl fmt::Display for Judged {
     }
 }
 
-/// The original has no such question of a shape, but of its contours.
-fn in_shape(shape: &Shape, [x, y]: Point) -> bool {
-    let mut contain = shape
-        .iter()
-        .map(|contour| contour.contains_point(IntPoint::new(x, y)));
-    contain.next() == Some(true) && !contain.any(|contains| contains)
+/// The original has no such question of a shape.
+fn in_shape(shape: &[Contour], asked: Point) -> bool {
+    locate::in_shape(&points(shape), asked)
+}
+
+/// Where the point is on no boundary, what the original says of the shape's contours: in the first and in no later one.
+pub fn off_every_boundary(shape: &[Contour], asked: Point) -> Option<bool> {
+    let on = |contour: &Vec<Point>| locate::place(contour, asked) == Place::Boundary;
+    if points(shape).iter().any(on) {
+        return None;
+    }
+    let asked = IntPoint::new(asked[0], asked[1]);
+    let mut contain = shape.iter().map(|contour| contour.contains_point(asked));
+    Some(contain.next() == Some(true) && !contain.any(|contains| contains))
+}
+
+fn points(shape: &[Contour]) -> Vec<Vec<Point>> {
+    let points = |contour: &Contour| contour.iter().map(|p| [p.x, p.y]).collect();
+    shape.iter().map(points).collect()
 }
 
 #[cfg(test)]

@@ -9,8 +9,9 @@ mod damaged;
 pub mod lent;
 mod original;
 pub mod random;
+pub mod rims;
 
-pub use answers::{answer, Verdicts};
+pub use answers::{answer, off_every_boundary, Verdicts};
 pub use case::Case;
 
 /// Every case, in the order of the list.
@@ -22,6 +23,9 @@ pub fn list() -> Vec<Case> {
         chosen::wound(),
         chosen::around_the_need(),
         chosen::scans(),
+        rims::scans(),
+        rims::small(),
+        rims::at_the_ends(),
         chosen::wrapping(),
         random::small_grids(),
         random::every_form(),

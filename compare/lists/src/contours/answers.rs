@@ -8,7 +8,8 @@ use crate::point::Point;
 use i_float::int::point::IntPoint;
 use i_shape::int::area::Area;
 use i_shape::int::path::ContourExtension;
-use requests::reply::{domain, not_empty, on_grid, Reply, COLLAPSED};
+use requests::locate::{locate, Place};
+use requests::reply::{domain, not_empty, on_grid, Reply, COLLAPSED, DONE};
 use std::fmt;
 
 /// One line of answers, without its number.
@@ -17,6 +18,7 @@ pub fn answer(case: &Case) -> String {
         Kind::Contour { asked } => Answers::new(asked, &case.of.all()).to_string(),
         Kind::Cleaning { cleaner, lent } => rows::answer(cleaner, lent, &case.of.all()).to_string(),
         Kind::Kept(call) => part(call.part(&case.of.all())),
+        Kind::Located { asked } => located(locate(&case.of.all(), asked)),
     }
 }
 
@@ -52,23 +54,29 @@ impl Answers {
 }
 
 impl Verdicts {
-    pub fn new([x, y]: Point, row: &[i32]) -> Verdicts {
+    pub fn new(asked: Point, row: &[i32]) -> Verdicts {
         let points = contour(row);
         let contour = &points[..];
         let domain = domain(row);
         let with_area = domain.and_then(|()| not_empty(row));
-        // The asked point off the grid is 3, in 3's place, whatever the contour.
-        let with_asked = domain.and_then(|()| on_grid(&[x, y]));
         Verdicts {
             area_two: with_area.map(|()| contour.area_two()),
             area: with_area.map(|()| contour.area()),
             clockwise: with_area.map(|()| contour.is_clockwise_ordered()),
             convex: domain.map(|()| contour.is_convex()),
-            contains: with_asked.map(|()| contour.contains_point(IntPoint::new(x, y))),
+            contains: contains(asked, row),
             simple: domain.map(|()| Cleaner::Simplified.passes(&points)),
             no_spikes: domain.map(|()| Cleaner::Despiked.passes(&points)),
         }
     }
+}
+
+/// Whether the contour contains the point, by the original's half-open rule. The asked point off the grid is 3, in 3's
+/// place, whatever the contour.
+pub fn contains([x, y]: Point, row: &[i32]) -> Reply<bool> {
+    domain(row)?;
+    on_grid(&[x, y])?;
+    Ok(contour(row).contains_point(IntPoint::new(x, y)))
 }
 
 impl fmt::Display for Answers {
@@ -98,6 +106,14 @@ pub fn column<T>(reply: &Reply<T>, said: fn(&T) -> String) -> String {
 
 pub fn yes_or_no(yes: &bool) -> String {
     if *yes { "yes" } else { "no" }.to_string()
+}
+
+/// The reply, and the number of the place, 0 for a refusal.
+fn located(reply: Reply<Place>) -> String {
+    match reply {
+        Ok(place) => format!("{DONE} {}", place as u8),
+        Err(refusal) => format!("{refusal} 0"),
+    }
 }
 
 /// The points kept, the decisions and the checksum of what was written; or the reply
@@ -149,6 +165,22 @@ mod tests {
             ("k 0 1 2 5 5 6", "0:0"),
         ] {
             assert_eq!(answer(&line.parse().unwrap()), expected);
+        }
+    }
+
+    #[test]
+    fn a_place_is_answered_by_its_number() {
+        for (line, expected) in [
+            ("l 1 1 0 0 4 0 0 4", "0 2"),
+            ("l 2 2 0 0 4 0 0 4", "0 1"),
+            ("l 5 5 0 0 4 0 0 4", "0 0"),
+            ("l 7 8 7 8", "0 1"),
+            ("l 0 0", "0 0"),
+            ("l 536870913 0", "3 0"),
+            ("l 0 0 1", "1 0"),
+            ("l 0 0 5 5 *65537", "2 0"),
+        ] {
+            assert_eq!(answer(&line.parse().unwrap()), expected, "{line}");
         }
     }
 

@@ -12,6 +12,7 @@ use std::fmt;
 const CONTOUR: &str = "c";
 const CLEANING: &str = "w";
 const KEPT: &str = "k";
+const LOCATED: &str = "l";
 
 /// What is asked of a contour, and the contour's row.
 pub type Case = line::Case<Kind, Row>;
@@ -24,6 +25,8 @@ pub enum Kind {
     Cleaning { cleaner: Cleaner, lent: Lengths },
     /// What a cleaning kept; the output stands behind the contour.
     Kept(kept::Call),
+    /// Where a point lies.
+    Located { asked: Point },
 }
 
 impl Case {
@@ -34,6 +37,10 @@ impl Case {
 
     pub fn contour(asked: Point, points: &[Point]) -> Case {
         Case::new(Kind::Contour { asked }, &points.concat())
+    }
+
+    pub fn located(asked: Point, points: &[Point]) -> Case {
+        Case::new(Kind::Located { asked }, &points.concat())
     }
 
     pub fn wound(mut self, times: usize) -> Case {
@@ -50,6 +57,7 @@ impl fmt::Display for Kind {
                 write!(out, "{CLEANING} {} {lent}", cleaner.number())
             }
             Kind::Kept(call) => write!(out, "{KEPT} {call}"),
+            Kind::Located { asked: [x, y] } => write!(out, "{LOCATED} {x} {y}"),
         }
     }
 }
@@ -69,6 +77,9 @@ impl Part for Kind {
                 },
             }),
             Some(KEPT) => Ok(Kind::Kept(kept::Call::read(words)?)),
+            Some(LOCATED) => Ok(Kind::Located {
+                asked: [next_number(words)?, next_number(words)?],
+            }),
             _ => Err(NO_KIND.into()),
         }
     }
@@ -91,6 +102,9 @@ mod tests {
             "w 1 65600 0 65600 131200 -5 7 *16384",
             "k 0 2 3 1 2 3 4 -7 -8 -9",
             "k 2147483648 2147483648 131074",
+            "l 1 1 0 0 4 0 0 4",
+            "l 0 0",
+            "l 536870913 -2 -5 7 *16384",
         ]);
     }
 
@@ -111,5 +125,6 @@ mod tests {
         refused::<Case>(&["w 0 1 65601 1 2", "w 0 1 1 65601 2", "w 0 1 1 1 131201"]);
         refused::<Case>(&["k", "k 0 0", "k 2147483649 0 0", "k 0 2147483649 0"]);
         refused::<Case>(&["k 0 0 131075", "k 0 -1 0"]);
+        refused::<Case>(&["l", "l 0", "l 0 0 x", "l 0 0 1 *131075"]);
     }
 }

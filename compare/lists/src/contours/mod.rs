@@ -7,17 +7,19 @@ pub mod damaged;
 pub mod kept;
 mod known;
 pub mod lent;
+pub mod located;
 mod long;
 pub mod random;
 pub mod rows;
 pub mod tiny;
 pub mod unclean;
 
-pub use answers::{answer, column, yes_or_no, Verdicts};
+pub use answers::{answer, column, contains, yes_or_no, Verdicts};
 pub use case::Case;
 
 /// Every case of a contour, in the order of the list: contours of every form, then those for the
-/// cleaners, then the cleanings with rows of given lengths, then what is handed out after one.
+/// cleaners, then the cleanings with rows of given lengths, then what is handed out after one,
+/// then the points that are located.
 pub fn list() -> Vec<Case> {
     [
         known::worked(),
@@ -41,6 +43,13 @@ pub fn list() -> Vec<Case> {
         kept::small(),
         kept::wrapping(),
         kept::long(),
+        located::known(),
+        located::tiny(),
+        located::scans(),
+        located::random(),
+        located::at_the_ends(),
+        located::damaged(),
+        located::long(),
     ]
     .concat()
 }

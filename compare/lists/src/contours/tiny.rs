@@ -39,7 +39,7 @@ pub fn square(low: i32, high: i32, step: usize) -> Vec<Point> {
 }
 
 /// The points around the square from 0 to `end` - 1.
-fn ring(end: i32) -> Vec<Point> {
+pub fn ring(end: i32) -> Vec<Point> {
     let outside = |number| number == -1 || number == end;
     let mut points = square(-1, end, 1);
     points.retain(|&[x, y]| outside(x) || outside(y));
@@ -47,7 +47,7 @@ fn ring(end: i32) -> Vec<Point> {
 }
 
 /// All rows of `n` of the points.
-fn contours(points: &[Point], n: usize) -> Vec<Vec<Point>> {
+pub fn contours(points: &[Point], n: usize) -> Vec<Vec<Point>> {
     if n == 0 {
         return vec![vec![]];
     }
@@ -60,7 +60,7 @@ fn contours(points: &[Point], n: usize) -> Vec<Vec<Point>> {
     rows
 }
 
-fn everywhere(contours: &[Vec<Point>], asked: &[Point]) -> Vec<Case> {
+pub fn everywhere(contours: &[Vec<Point>], asked: &[Point]) -> Vec<Case> {
     let mut cases = vec![];
     for contour in contours {
         cases.extend(asked.iter().map(|&point| Case::contour(point, contour)));
@@ -68,7 +68,7 @@ fn everywhere(contours: &[Vec<Point>], asked: &[Point]) -> Vec<Case> {
     cases
 }
 
-fn in_turn(contours: &[Vec<Point>], asked: &[Point]) -> Vec<Case> {
+pub fn in_turn(contours: &[Vec<Point>], asked: &[Point]) -> Vec<Case> {
     let pairs = contours.iter().zip(asked.iter().cycle());
     pairs.map(|(c, &p)| Case::contour(p, c)).collect()
 }

@@ -47,7 +47,7 @@ impl Kind {
     }
 }
 
-pub const KINDS: [Kind; 25] = [
+pub const KINDS: [Kind; 28] = [
     Kind::new("the list of contours", All(short::list_of_contours)),
     Kind::new("the list of sets", All(short::list_of_sets)),
     Kind::new(
@@ -126,6 +126,18 @@ pub const KINDS: [Kind; 25] = [
     Kind::new(
         "drawings and sets of up to 69,537 points",
         OneFor(5000, drawn::long),
+    ),
+    Kind::new(
+        "all contours of up to 5 points on 3 by 3, located everywhere",
+        All(every::located_on_three_by_three),
+    ),
+    Kind::new(
+        "points located, at the ends of the grid and amid others",
+        OneFor(5, short::located),
+    ),
+    Kind::new(
+        "points on the rims of outlines and holes",
+        OneFor(10, short::on_rims),
     ),
 ];
 

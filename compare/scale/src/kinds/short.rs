@@ -5,9 +5,10 @@ use crate::tally::Tally;
 use lists::cleaning::case::Form;
 use lists::cleaning::lent::{asked, in_turn, point_for};
 use lists::cleaning::random::on_grid;
+use lists::cleaning::rims;
 use lists::contours::case::{self, Case};
 use lists::contours::lent::around_a_need;
-use lists::contours::{asked, damaged, random, unclean};
+use lists::contours::{asked, damaged, located, random, unclean};
 use lists::files::damaged::{damaged_file, rows};
 use lists::files::sound::{around, need, random_file, reading};
 use lists::files::writings::beside;
@@ -50,6 +51,24 @@ pub fn any_contour(rng: &mut Rng) -> Vec<Point> {
 pub fn contour(tally: &mut Tally, rng: &mut Rng) {
     let contour = any_contour(rng);
     tally.compare(&Case::contour(asked::about(&contour, rng), &contour));
+}
+
+/// At the ends of the grid, or amid the points of a contour of any form.
+pub fn located(tally: &mut Tally, rng: &mut Rng) {
+    let contour = any_contour(rng);
+    let amid = located::amid(&contour, rng);
+    each(
+        tally,
+        vec![located::at_an_end(rng), Case::located(amid, &contour)],
+    );
+}
+
+/// On the rims of outlines and holes, at the ends of the grid and on a small one.
+pub fn on_rims(tally: &mut Tally, rng: &mut Rng) {
+    each(
+        tally,
+        vec![rims::at_an_end(rng), rims::on_three_by_three(rng)],
+    );
 }
 
 /// Of an odd count, off the grid, or both.

@@ -9,6 +9,13 @@ pub struct Verdict {
 
 #[repr(C)]
 #[derive(Debug, PartialEq, Eq)]
+pub struct Located {
+    pub reply: u32,
+    pub place: u8,
+}
+
+#[repr(C)]
+#[derive(Debug, PartialEq, Eq)]
 pub struct Area {
     pub reply: u32,
     pub value: i64,

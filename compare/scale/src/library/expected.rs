@@ -1,6 +1,7 @@
 //! What the library must answer, by the original's reply.
 
-use super::answer::{Area, Verdict};
+use super::answer::{Area, Located, Verdict};
+use requests::locate::Place;
 use requests::reply::Reply;
 
 /// A refusal has nothing else to say.
@@ -8,6 +9,13 @@ impl From<Reply<bool>> for Verdict {
     fn from(reply: Reply<bool>) -> Verdict {
         let (reply, yes) = said(reply);
         Verdict { reply, yes }
+    }
+}
+
+impl From<Reply<Place>> for Located {
+    fn from(reply: Reply<Place>) -> Located {
+        let (reply, place) = said(reply.map(|place| place as u8));
+        Located { reply, place }
     }
 }
 

@@ -6,7 +6,7 @@ mod lent;
 #[path = "../../../../bindings/rust/src/library/raw.rs"]
 mod raw;
 
-use answer::{Area, Cleaned, CleanedSet, Drawn, Packed, Salvaged, Verdict, Written};
+use answer::{Area, Cleaned, CleanedSet, Drawn, Located, Packed, Salvaged, Verdict, Written};
 pub use lent::Lent;
 use lists::cleaner::Cleaner;
 use lists::point::Point;
@@ -101,6 +101,10 @@ pub fn has_no_spikes(points: &[i32]) -> Verdict {
 
 pub fn contains(points: &[i32], [x, y]: Point) -> Verdict {
     call!(ukm_contains(points; ; x, y))
+}
+
+pub fn locate(points: &[i32], [x, y]: Point) -> Located {
+    call!(ukm_locate(points; ; x, y))
 }
 
 pub fn cleaned(

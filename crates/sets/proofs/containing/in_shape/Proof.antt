@@ -9,7 +9,7 @@ use Rattle.grid.specs.declared.Point.{Point}
 use Rattle.grid.specs.Points.{on}
 use Rattle.buffer.specs.Spans.{spans}
 use Rattle.buffer.specs.Sets.{contours}
-use Rattle.sets.specs.Contains.{inside}
+use Rattle.sets.specs.Contains.{has}
 use Rattle.sets.proofs.ContainsLaws.{shape-refused, asked-off, shape-given}
 use Rattle.sets.proofs.containing.in_shape.Statement.{statement}
 use Rattle.sets.proofs.containing.in_shape.Tie as tie
@@ -36,8 +36,8 @@ returns-2 c =
     let d = c .before .before in
     asked-off _ _ _ _ (sym (d .before .refused .ensures) ∙ d .if1 .left) (sym (told (c .before)) ∙ not-true _ (c .if2 .taken))
 
-contains-requires : tie.Need-contains-requires
-contains-requires c κs =
+has-requires : tie.Need-has-requires
+has-requires c κs =
     let d = c .before .before in
     record {
       taken = sym (d .before .refused .ensures) ∙ d .if1 .left;
@@ -50,7 +50,7 @@ returns-3 c =
     let d = t .before in
     let s = d .before .before in
     shape-given _ _ _ _ (sym (d .before .refused .ensures) ∙ d .if1 .left) (sym (told t) ∙ not-false _ (c .before .if2 .left)) _
-    (c .contains .ensures ∙ ap (λ (p : Point). inside p (contours (s .args .points .now) (spans (s .args .ranges .now)))) (asked s))
+    (c .has .ensures ∙ ap (λ (p : Point). has p (contours (s .args .points .now) (spans (s .args .ranges .now)))) (asked s))
 
 pub in-shape-spec : {M : Type 1} → statement M
 in-shape-spec =
@@ -60,5 +60,5 @@ in-shape-spec =
     returns
     point-on-grid-requires
     returns-2
-    contains-requires
+    has-requires
     returns-3)

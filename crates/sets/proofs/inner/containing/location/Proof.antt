@@ -1,20 +1,21 @@
--- `sets::inner::containing::in_contour` meets its contract.
+-- `sets::inner::containing::location` meets its contract.
 use mathlib.Core.Path.{_∙_, ap}
 use mathlib.Core.List.{List}
 use lib.IntN.{ℤ}
 use Rattle.replies.specs.Ladder.{first-of}
+use Rattle.grid.specs.Points.{points}
 use Rattle.grid.specs.Domain.{domain}
+use Rattle.path.specs.Locate.{location}
 use Rattle.buffer.proofs.PartLaws.{same-numbers}
-use Rattle.sets.specs.Contains.{holds}
 use Rattle.sets.proofs.PartLaws.{part-named, part-in-domain}
-use Rattle.sets.proofs.inner.containing.in_contour.Statement.{statement}
-use Rattle.sets.proofs.inner.containing.in_contour.Tie as tie
+use Rattle.sets.proofs.inner.containing.location.Statement.{statement}
+use Rattle.sets.proofs.inner.containing.location.Tie as tie
 
 named-requires : tie.Need-named-requires
 named-requires c κs = part-named (c .args .points .now) (c .args .ranges .now) (c .args .k) (c .pre .0 .taken) (c .pre .1)
 
-holds-requires : tie.Need-holds-requires
-holds-requires c κs =
+location-requires : tie.Need-location-requires
+location-requires c κs =
     let s = c .before in (
       ap (λ (row : List ℤ). first-of (domain row)) (same-numbers (c .named .ensures))
           ∙ part-in-domain (s .args .points .now) (s .args .ranges .now) (s .args .k) (s .pre .0 .taken) (s .pre .1),
@@ -22,7 +23,7 @@ holds-requires c κs =
     )
 
 returns : tie.Need-returns
-returns c = c .holds .ensures ∙ ap (holds (c .before .before .args .p)) (same-numbers (c .before .named .ensures))
+returns c = c .location .ensures ∙ ap (λ (row : List ℤ). location (c .before .before .args .p) (points row)) (same-numbers (c .before .named .ensures))
 
-pub in-contour-spec : {M : Type 1} → statement M
-in-contour-spec = tie.close (tie.spec named-requires holds-requires returns)
+pub location-spec : {M : Type 1} → statement M
+location-spec = tie.close (tie.spec named-requires location-requires returns)

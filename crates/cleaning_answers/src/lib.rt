@@ -1,6 +1,6 @@
-// The kinds `q` and `W`: sets judged and cleaned.
-use crate::column;
-use crate::contours;
+// What the library answers to a case of the kind `q` or `W`: sets judged and cleaned.
+use answers::column;
+use answers::contours;
 use cases::answer;
 use cases::answer::Answer;
 use cases::case::HEAD;
