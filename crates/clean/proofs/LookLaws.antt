@@ -16,10 +16,12 @@ use Rattle.grid.specs.Points.{at, points, same}
 use Rattle.grid.specs.Edges.{between, still, aligned, backward, reverses}
 use Rattle.grid.specs.Corners.{differing, corners, some, reverses-at}
 use Rattle.grid.specs.Domain.{Contour}
+use Rattle.grid.specs.Boxes.{box}
 use Rattle.grid.specs.inside.Rows.{FirstOther}
 use Rattle.grid.proofs.RowLaws.{points-length}
 use Rattle.grid.proofs.AroundLaws.{corner, Tally, tally-more, tally-past, tally-met, tally-all}
 use Rattle.grid.proofs.EdgeLaws.{moving}
+use Rattle.grid.proofs.BoxLaws.{box-four}
 use Rattle.grid.proofs.AlongLaws.{left-over, Along, along-start, tally-start, next-from, next-skipped, along-skipped, next-kept, along-kept, closing-next, along-none, along-count}
 use Rattle.ring.specs.declared.Rule.{Rule}
 use Rattle.ring.specs.declared.Rule.the-variants.{Collinear, Spike}
@@ -28,6 +30,7 @@ use Rattle.ring.specs.Rule.{goes, goes-at, goes-along}
 use Rattle.ring.specs.inside.Rows.{FirstStand, Standing}
 use Rattle.ring.proofs.Filling.{fresh-next, fresh-before, fresh-last}
 use Rattle.ring.proofs.RuleLaws.{goes-edges}
+use Rattle.ring.proofs.Along.{box-stands}
 use Rattle.clean.specs.declared.inner.look.Look.{Look}
 use Rattle.clean.specs.Verdicts.{no-spike-left, passes}
 use Rattle.clean.specs.inside.Looking.{Onward, LookedOver}
@@ -145,6 +148,10 @@ module _ (row : List ℤ) where
       where
         not-all : r .standing ≡ n → ⊥
         not-all e = true≢false (sym (stands-pass rule m (rw e at (l .standing .stand))) ∙ sym (l .verdict) ∙ f)
+
+    -- a box passes by either rule
+    pub box-passes : (rule : Rule) → box row ≡ true → true ≡ passes rule (points row)
+    box-passes rule b = sym (stands-pass rule (omega (arith, box-four row c b)) (box-stands rule row b c .stand))
 
     module _ (rule : Rule) (many : 3 ≤ n) (k : ℕ) (x : Standing (goes rule row) n k) where
       pub looked-all : k ≡ n → LookedOver rule row n (record { passes = true; standing = k })

@@ -9,7 +9,7 @@ use crate::inner::verdicts;
 use replies::Verdict;
 use ring::Rule;
 
-// Whether the contour has no spikes, equal neighbours aside.
+// Whether the contour has no spikes, equal neighbours aside. A box has none.
 pub fn has_no_spikes(points: &[i32]) -> Verdict
     ensures { λ r. ⌜ r ≡ spike-free (now (points .entry)) ⌝ }
 {
@@ -18,6 +18,12 @@ pub fn has_no_spikes(points: &[i32]) -> Verdict
         return Verdict {
             reply: refusal,
             yes: false,
+        };
+    }
+    if grid::inner::boxes::is_box(points, points.len() / 2) {
+        return Verdict {
+            reply: replies::DONE,
+            yes: true,
         };
     }
     Verdict {

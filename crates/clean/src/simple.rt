@@ -9,8 +9,8 @@ use crate::inner::verdicts;
 use replies::Verdict;
 use ring::Rule;
 
-// Whether the contour has three or more points, and no vertex whose two edges have cross 0. Most contours are boxes: with
-// the length known LLVM makes no loop.
+// Whether the contour has three or more points, and no vertex whose two edges have cross 0. Most contours are boxes, of
+// which it is known.
 pub fn is_simple(points: &[i32]) -> Verdict
     ensures { λ r. ⌜ r ≡ simple-verdict (now (points .entry)) ⌝ }
 {
@@ -21,10 +21,10 @@ pub fn is_simple(points: &[i32]) -> Verdict
             yes: false,
         };
     }
-    if points.len() == 8 {
+    if grid::inner::boxes::is_box(points, points.len() / 2) {
         return Verdict {
             reply: replies::DONE,
-            yes: ring::inner::standing_by(true, points, 4) == 4,
+            yes: true,
         };
     }
     Verdict {

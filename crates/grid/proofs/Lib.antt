@@ -7,3 +7,5 @@ pub mod CornerLaws
 pub mod AroundLaws
 pub mod DomainLaws
 pub mod AlongLaws
+pub mod BoxLaws
+pub mod BoxCases

@@ -5,5 +5,6 @@ pub mod Neighbours
 pub mod Corners
 pub mod Area
 pub mod Domain
+pub mod Boxes
 pub mod inside
 pub mod Cases

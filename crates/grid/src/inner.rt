@@ -1,4 +1,6 @@
 // The points and edges of a row on the grid, and how the way goes on from one edge to the next.
+pub mod boxes;
+
 ghost use mathlib.Core.Path.{_≡_};
 ghost use mathlib.Core.Bool.{true};
 ghost use Prim.Native.Nat.{_+_, _*_, _<_};

@@ -5,3 +5,4 @@ pub mod LocateLaws
 pub mod Round
 pub mod Theorems
 pub mod Cases
+pub mod BoxLaws

@@ -22,7 +22,7 @@ pub struct Located {
     pub place: u8,
 }
 
-// Whether all turns have one sign and no edge reverses, equal neighbours skipped.
+// Whether all turns have one sign and no edge reverses, equal neighbours skipped. A box turns one way.
 pub fn is_convex(points: &[i32]) -> Verdict
     ensures { λ r. ⌜ r ≡ convex-verdict (now (points .entry)) ⌝ }
 {
@@ -42,6 +42,12 @@ pub fn is_convex(points: &[i32]) -> Verdict
     }
     let first = grid::inner::first_other(points, n);
     if first == n {
+        return Verdict {
+            reply: replies::DONE,
+            yes: true,
+        };
+    }
+    if grid::inner::boxes::is_box(points, n) {
         return Verdict {
             reply: replies::DONE,
             yes: true,

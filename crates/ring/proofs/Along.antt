@@ -1,5 +1,5 @@
 -- The loop along a contour's edges that looks for a vertex to go.
-use mathlib.Core.Path.{_≡_, sym, _∙_, ap₂}
+use mathlib.Core.Path.{_≡_, refl, sym, _∙_, ap₂}
 use mathlib.Core.Bool.{true, false}
 use mathlib.Core.Logic.{⊎-elim}
 use mathlib.Core.List.{List}
@@ -10,17 +10,19 @@ use lib.IntN.{ℤ}
 use Rattle.grid.specs.declared.Edge.{Edge}
 use Rattle.grid.specs.Points.{at}
 use Rattle.grid.specs.Edges.{between}
+use Rattle.grid.specs.Boxes.{box}
 use Rattle.grid.specs.Domain.{Contour}
 use Rattle.grid.specs.inside.Edges.{Short}
 use Rattle.grid.proofs.PointLaws.{at-on}
 use Rattle.grid.proofs.EdgeLaws.{corner-short}
+use Rattle.grid.proofs.BoxLaws.{ab, bc, cd, da, box-four, box-turns}
 use Rattle.ring.specs.declared.Rule.{Rule}
 use Rattle.ring.specs.Walk.{fresh, successor, predecessor, to-go}
 use Rattle.ring.specs.Rule.{goes-along, goes}
 use Rattle.ring.specs.inside.Rows.{FirstStand, Standing}
 use Rattle.ring.proofs.Branches.{same?}
 use Rattle.ring.proofs.Filling.{fresh-next, fresh-round, fresh-before, fresh-last}
-use Rattle.ring.proofs.RuleLaws.{goes-edges}
+use Rattle.ring.proofs.RuleLaws.{along-turning, goes-edges}
 
 module _ (rule : Rule) (row : List ℤ) where
   -- no vertex before position i is to go, and one edge leads there
@@ -79,3 +81,17 @@ module _ (rule : Rule) (row : List ℤ) where
 
         pub passed-all : goes-along rule to closing ≡ false → Standing (goes rule row) n n
         passed-all f = record { within = omega arith; stand = rw at-last at (one-more (sym last-told ∙ f)); next-goes = λ h. absurd (omega arith) }
+
+-- of a box all stand
+module _ (rule : Rule) (row : List ℤ) (b : box row ≡ true) where
+  four-stand : Contour row 4 → Standing (goes rule row) 4 4
+  four-stand c =
+      let turns = box-turns row b in
+      let none = passed-none rule row c (da row) (omega arith) refl in
+      let first = passed-more rule row c none (omega arith) refl (sym (along-turning rule (da row) (ab row) (turns .3))) in
+      let second = passed-more rule row c first (omega arith) refl (sym (along-turning rule (ab row) (bc row) (turns .0))) in
+      let third = passed-more rule row c second (omega arith) refl (sym (along-turning rule (bc row) (cd row) (turns .1))) in
+      passed-all rule row c third (omega arith) (sym (along-turning rule (cd row) (da row) (turns .2)))
+
+  pub box-stands : {n : ℕ} → Contour row n → Standing (goes rule row) n n
+  box-stands c = let e = box-four row c b in rw e (four-stand (rw e at c))

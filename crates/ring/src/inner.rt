@@ -178,11 +178,14 @@ pub fn standing_by(collinear: bool, points: &[i32], n: usize) -> usize
     n
 }
 
-// The same by a rule.
+// The same by a rule. Of a box all stand, which takes no product to tell.
 pub fn standing(rule: Rule, points: &[i32], n: usize) -> usize
     requires { ⌜ Contour (now points) n × (0 < n) ⌝ }
     ensures { λ r. ⌜ Standing (goes-by rule (now (points .entry))) n r ⌝ }
 {
+    if grid::inner::boxes::is_box(points, n) {
+        return n;
+    }
     match rule {
         Rule::Collinear => standing_by(true, points, n),
         Rule::Spike => standing_by(false, points, n),

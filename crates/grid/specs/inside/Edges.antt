@@ -1,5 +1,7 @@
--- What is asked of two edges.
+-- What is asked of edges.
+use mathlib.Core.Path.{_≡_}
 use Prim.Native.Nat.{_*_}
+use lib.IntN.{pos, _+ℤ_}
 use Rattle.integers.specs.Bound.{In}
 use Rattle.grid.specs.declared.Edge.{Edge}
 use Rattle.grid.specs.Limits.{limit}
@@ -10,3 +12,8 @@ pub record Short (u v : Edge) : Type 0 where
   pub uy-in : In (2 * limit) (u .dy)
   pub vx-in : In (2 * limit) (v .dx)
   pub vy-in : In (2 * limit) (v .dy)
+
+-- four edges that lead back to where the first began
+pub record Closed (u v w z : Edge) : Type 0 where
+  pub back-x : u .dx +ℤ v .dx +ℤ w .dx +ℤ z .dx ≡ pos 0
+  pub back-y : u .dy +ℤ v .dy +ℤ w .dy +ℤ z .dy ≡ pos 0

@@ -13,11 +13,14 @@ use buffer::inner::parts;
 use replies::Verdict;
 use ring::Rule;
 
-// Whether a contour passes.
+// Whether a contour passes. A box does, by either rule.
 pub fn passes(rule: Rule, contour: &[i32]) -> bool
     requires { ⌜ first-of (domain (now contour)) ≡ 0 ⌝ }
     ensures { λ r. ⌜ r ≡ passes-by rule (points-of (now (contour .entry))) ⌝ }
 {
+    if grid::inner::boxes::is_box(contour, contour.len() / 2) {
+        return true;
+    }
     match rule {
         Rule::Collinear => clean::inner::verdicts::all_turn(contour),
         Rule::Spike => clean::inner::verdicts::no_spikes(contour),
