@@ -163,6 +163,14 @@ pub mod tests {
         met.into_iter().map(sorted).collect()
     }
 
+    /// The replies to the cases of one kind, the first letter of their lines.
+    pub fn replies_of<C: Display>(cases: Vec<C>, kind: char, answer: fn(&C) -> String) -> Vec<u8> {
+        let of_it = |case: &C| case.to_string().starts_with(kind);
+        let reply = |case| answer(&case).split(' ').next().unwrap().parse().unwrap();
+        let met: BTreeSet<u8> = cases.into_iter().filter(of_it).map(reply).collect();
+        met.into_iter().collect()
+    }
+
     pub fn written_as_read<C: Display + FromStr<Err = String>>(lines: &[&str]) {
         for line in lines {
             let written = line.parse::<C>().map(|case| case.to_string());

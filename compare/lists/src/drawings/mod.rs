@@ -40,15 +40,11 @@ pub fn list() -> Vec<Case> {
 
 #[cfg(test)]
 mod tests {
-    use super::{answer, list, Case};
-    use std::collections::BTreeSet;
+    use super::{answer, list};
+    use crate::line::tests::replies_of;
 
-    /// The replies to the cases of one kind.
     fn replies(kind: char) -> Vec<u8> {
-        let of_it = |case: &Case| case.to_string().starts_with(kind);
-        let reply = |case| answer(&case).split(' ').next().unwrap().parse().unwrap();
-        let met: BTreeSet<u8> = list().into_iter().filter(of_it).map(reply).collect();
-        met.into_iter().collect()
+        replies_of(list(), kind, answer)
     }
 
     #[test]
