@@ -17,7 +17,7 @@ use Rattle.grid.specs.declared.Edge.{Edge}
 use Rattle.grid.specs.Edges.{between, cross, aligned}
 use Rattle.grid.specs.Points.{at}
 use Rattle.grid.specs.Domain.{count, Contour}
-use Rattle.grid.specs.Boxes.{along-x, along-y, by-turns, four-by-turns, box}
+use Rattle.grid.specs.Boxes.{along-x, along-y, none-still, by-turns, four-by-turns, box}
 use Rattle.grid.specs.inside.Edges.{Closed}
 
 -- the edges of four points lead back
@@ -38,23 +38,6 @@ neg-none (pos (suc n)) = sym (ne-eqb (suc n) 0 (λ h. omega arith))
 neg-none (negsuc n) = ne-eqb (suc n) 0 (λ h. omega arith)
 
 module _ (u v w z : Edge) where
-  -- what each test but the last shows where it fails
-  pub not-first : along-x u ≡ false → false ≡ by-turns u v w z
-  unfolding by-turns
-  not-first e = rw e
-
-  pub not-second : along-x u ≡ true → along-y v ≡ false → false ≡ by-turns u v w z
-  unfolding by-turns
-  not-second e f = rw (e, f)
-
-  pub not-third : along-x u ≡ true → along-y v ≡ true → along-x w ≡ false → false ≡ by-turns u v w z
-  unfolding by-turns
-  not-third e f g = rw (e, f, g)
-
-  pub not-fourth : along-x u ≡ true → along-y v ≡ true → along-x w ≡ true → along-y z ≡ false → false ≡ by-turns u v w z
-  unfolding by-turns
-  not-fourth e f g h = rw (e, f, g, h)
-
   module _ (c : Closed u v w z) (e : along-x u ≡ true) (f : along-y v ≡ true) (g : along-x w ≡ true) (h : along-y z ≡ true) where
     -- the numbers that are 0
     uy : u .dy ≡ pos 0
@@ -79,8 +62,7 @@ module _ (u v w z : Edge) where
         turned = ring (# 1 :+ # 2 :+ # 3 :+ # 0) (# 0 :+ # 1 :+ # 2 :+ # 3) (u .dy ∷ v .dy ∷ w .dy ∷ z .dy ∷ []) refl
 
     -- whether none of them is still, the first two tell
-    pub first-two : (not (along-y u) && not (along-x v)) ≡ by-turns u v w z
-    unfolding by-turns
+    first-two : (not (along-y u) && not (along-x v)) ≡ none-still u v w z
     first-two = rw (e, f, g, h, third-opposite, fourth-opposite, neg-none (u .dx), neg-none (v .dy)) (both (along-y u) (along-x v))
       where
         both : (a b : Bool) → (not a && not b) ≡ ((not (a && true) && not (true && b)) && (not (a && true) && not (true && b)))
@@ -101,6 +83,19 @@ module _ (u v w z : Edge) where
       rw (zx, uy, fourth-opposite) (ring (num (pos 0) :* num (pos 0) :- :neg (# 1) :* # 0) (# 0 :* # 1) two refl),
     )
 
+  -- so six tests tell
+  pub six-tests : Closed u v w z → (((((along-x u && along-y v) && along-x w) && along-y z) && not (along-y u)) && not (along-x v)) ≡ by-turns u v w z
+  unfolding by-turns
+  six-tests c = go (along-x u) (along-y v) (along-x w) (along-y z) refl refl refl refl
+    where
+      go : (i j k l : Bool) → along-x u ≡ i → along-y v ≡ j → along-x w ≡ k → along-y z ≡ l
+          → (((((i && j) && k) && l) && not (along-y u)) && not (along-x v)) ≡ (i && (j && (k && (l && none-still u v w z))))
+      go true true true true e f g h = first-two c e f g h
+      go true true true false e f g h = refl
+      go true true false l e f g h = refl
+      go true false k l e f g h = refl
+      go false j k l e f g h = refl
+
   -- edges along the axes by turns, none still, have one cross, which is not 0
   pub record OneCross : Type 0 where
     pub k : ℤ
@@ -120,7 +115,7 @@ module _ (u v w z : Edge) where
       let g = and-left (along-x w) _ y₃ in
       let y₄ = and-right (along-x w) _ y₃ in
       let h = and-left (along-y z) _ y₄ in
-      let long = first-two c e f g h ∙ y in
+      let long = first-two c e f g h ∙ and-right (along-y z) _ y₄ in
       let x = crosses c e f g h in
       record {
         k = u .dx *ℤ v .dy;

@@ -19,24 +19,12 @@ fn along_y(u: Edge) -> bool
     u.dx == 0
 }
 
-// Whether four edges that lead back run along the axes, by turns, and none is still: the last two are as long as the first.
+// Whether four edges that lead back run along the axes, by turns, and none is still: the last two are as long as the first two.
 fn by_turns(u: Edge, v: Edge, w: Edge, z: Edge) -> bool
     requires { ⌜ Closed u v w z ⌝ }
     ensures { λ r. ⌜ r ≡ by-turns-of u v w z ⌝ }
 {
-    if !along_x(u) {
-        return false;
-    }
-    if !along_y(v) {
-        return false;
-    }
-    if !along_x(w) {
-        return false;
-    }
-    if !along_y(z) {
-        return false;
-    }
-    !along_y(u) && !along_x(v)
+    along_x(u) & along_y(v) & along_x(w) & along_y(z) & !along_y(u) & !along_x(v)
 }
 
 // Whether the edges of a contour of four points run so, beginning along either axis.
