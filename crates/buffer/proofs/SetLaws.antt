@@ -5,7 +5,7 @@ use mathlib.Core.List.{List, [], _∷_, _++_, map, append-assoc}
 use Prim.Native.Nat.{ℕ, suc, _+_, _-_, _*_, _≤_}
 use native.Mathlib.Omega.{arith}
 use lib.ListN.{length, take, drop, length-append, length-drop, take-append-drop}
-use lib.Seq.{drop-length, drop-drop, take-append-seam, drop-append-seam, take-append-le, drop-append-le, drop-append-add, length-take-le}
+use lib.Seq.{take-length, drop-length, drop-drop, take-append-seam, drop-append-seam, take-append-le, drop-append-le, drop-append-add, length-take-le}
 use lib.IntN.{ℤ}
 use borrow.Author.Tests.{eq-eqb, le-leb}
 use Rattle.grid.specs.Domain.{count}
@@ -22,6 +22,12 @@ sound-nothing p n e = eq-eqb p n e
 pub sound-first : (p n : ℕ) (s : Span) (l : List Span) → p ≡ s .start → s .start ≤ s .end → sound-from (s .end) l n ≡ true → sound-from p (s ∷ l) n ≡ true
 unfolding sound-from
 sound-first p n s l e f g = rw (eq-eqb p (s .start) e, le-leb (s .start) (s .end) f, g)
+
+-- a span of all of a list names all of it
+pub all-of : {A : Type 0} (l : List A) (s : Span) → s .start ≡ 0 → s .end ≡ length l → cut l s ≡ l
+all-of l s e f =
+    let n : s .end - s .start ≡ length l = omega arith in
+    ap₂ (λ (k m : ℕ). take k (drop m l)) n e ∙ take-length l
 
 -- parts laid end to end
 pub laid-length : (p : ℕ) (sizes : List ℕ) → length (laid p sizes) ≡ length sizes

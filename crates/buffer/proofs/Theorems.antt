@@ -4,12 +4,12 @@ use mathlib.Core.Bool.{Bool, true, _&&_}
 use mathlib.Core.List.{List, [], _∷_, _++_, map, map-append}
 use Prim.Native.Nat.{ℕ, _+_, _-_, _*_}
 use native.Mathlib.Omega.{arith}
-use lib.ListN.{length, getD, take, drop, length-append, length-map}
-use lib.Seq.{take-length}
+use lib.ListN.{length, getD, length-append, length-map}
 use lib.IntN.{ℤ}
 use Rattle.integers.proofs.Logic.{and-left}
 use Rattle.replies.specs.Ladder.{Rung, first-of}
 use Rattle.grid.specs.Domain.{count, domain}
+use Rattle.grid.proofs.LimitLaws.{on-joined}
 use Rattle.grid.proofs.DomainLaws.{in-domain}
 use Rattle.buffer.specs.declared.answer.Packed.{Packed}
 use Rattle.buffer.specs.declared.ranges.Span.{Span}
@@ -20,17 +20,11 @@ use Rattle.buffer.specs.Refusals.{both}
 use Rattle.buffer.specs.Answers.{Outcome, stored, written-points, written-contours, written-shapes}
 use Rattle.buffer.specs.Contours as C
 use Rattle.buffer.specs.Shapes as S
-use Rattle.buffer.proofs.SetLaws.{sound-nothing, sound-first, laid-sound, sound-laid, sizes-are, cuts-joined, laid-cut, cuts-front, cuts-behind, sound-append, sound-moved, sound-doubled, as-cuts, doubled-laid, doubled-moved}
+use Rattle.buffer.proofs.SetLaws.{sound-nothing, sound-first, laid-sound, sound-laid, sizes-are, cuts-joined, all-of, laid-cut, cuts-front, cuts-behind, sound-append, sound-moved, sound-doubled, as-cuts, doubled-laid, doubled-moved}
 use Rattle.buffer.proofs.RefusalLaws.{Accepted, accepted}
 use Rattle.buffer.proofs.RowLaws.{spans-length}
 use Rattle.buffer.proofs.PackLaws.{Joined, joined as joined-of, SoundParts, sound-parts, count-append, added-length}
-use Rattle.buffer.proofs.WrittenLaws.{spans-rows, on-append, Written, written, refused-unchanged, contours-taken, shapes-taken, unpacked-contour, unpacked-shape}
-
--- a span of all of a list names all of it
-all-of : {A : Type 0} (l : List A) (s : Span) → s .start ≡ 0 → s .end ≡ length l → cut l s ≡ l
-all-of l s e f =
-    let n : s .end - s .start ≡ length l = omega arith in
-    ap₂ (λ (k m : ℕ). take k (drop m l)) n e ∙ take-length l
+use Rattle.buffer.proofs.WrittenLaws.{spans-rows, Written, written, refused-unchanged, contours-taken, shapes-taken, unpacked-contour, unpacked-shape}
 
 whole-is : (c : List ℤ) → length c ≡ 2 * count c → contour c (whole c) ≡ c
 whole-is c e = all-of c (doubled (whole c)) refl (sym e)
@@ -43,7 +37,7 @@ grown p more s j t e =
       even = omega (arith, j .even, j .more-even);
       few = omega (arith, j .few, count-append p more (j .even));
       sound = e;
-      on = on-append p more (j .on) (j .more-on);
+      on = rw (on-joined p more, j .on, j .more-on);
     }
 
 -- a flat set that is sound

@@ -1,6 +1,6 @@
 -- The set that packing wrote, handed on.
 use mathlib.Core.Path.{_≡_, refl, sym, _∙_, ap}
-use mathlib.Core.Bool.{Bool, true, not, _&&_}
+use mathlib.Core.Bool.{Bool, not, _&&_}
 use mathlib.Core.List.{List, [], _∷_, _++_}
 use Prim.Native.Nat.{ℕ, zero, suc, _*_, _%_}
 use native.Mathlib.Omega.{arith}
@@ -9,8 +9,6 @@ use lib.ListN.{length, getD, take, length-map}
 use lib.Seq.{take-at}
 use lib.IntN.{ℤ}
 use borrow.Author.Tests.{ne-eqb, le-ltb}
-use Rattle.integers.proofs.Logic.{and-left, and-right}
-use Rattle.grid.specs.Limits.{on-grid, all-on-grid}
 use Rattle.replies.specs.Ladder.{Rung, first-of, room}
 use Rattle.grid.specs.Domain.{count}
 use Rattle.replies.proofs.LadderLaws.{numbered, cleared, first-is}
@@ -31,11 +29,6 @@ use Rattle.buffer.proofs.PartLaws.{part-holds, shape-part-holds}
 pub spans-rows : (l : List Span) → spans (rows l) ≡ l
 spans-rows [] = refl
 spans-rows (s ∷ l) = ap (λ (k : List Span). s ∷ k) (spans-rows l)
-
-pub on-append : (p q : List ℤ) → all-on-grid p ≡ true → all-on-grid q ≡ true → all-on-grid (p ++ q) ≡ true
-unfolding all-on-grid
-on-append [] q e f = f
-on-append (z ∷ p) q e f = rw (and-left (on-grid z) (all-on-grid p) e, on-append p q (and-right (on-grid z) (all-on-grid p) e) f)
 
 pub accepted-clear : (p : List ℤ) (s : Bool) → Accepted p s → first-of (set p s) ≡ 0
 accepted-clear p s a =

@@ -1,8 +1,8 @@
 -- What follows from being on the grid. Callers use these laws, never the limit's digits.
 use borrow.Author.Tests.{le-leb}
-use mathlib.Core.Path.{_≡_, refl}
-use mathlib.Core.Bool.{Bool, true, _&&_}
-use mathlib.Core.List.{List, [], _∷_}
+use mathlib.Core.Path.{_≡_, refl, sym, _∙_, ap}
+use mathlib.Core.Bool.{Bool, true, _&&_, and-assoc}
+use mathlib.Core.List.{List, [], _∷_, _++_}
 use Prim.Native.Nat.{ℕ, zero, suc, _+_, _-_, _*_, _<_, _≤_}
 use native.Mathlib.Omega.{arith}
 use native.Mathlib.Numerals.{add-one}
@@ -51,6 +51,12 @@ all-on-grid-more row i h = rw (drop-cons row i (pos 0) h, add-one i)
 pub all-on-grid-none : (row : List ℤ) (i : ℕ) → i ≡ length row → all-on-grid (drop i row) ≡ true
 unfolding all-on-grid
 all-on-grid-none row i e = rw (e, drop-length row)
+
+-- two rows end to end are on the grid where both are
+pub on-joined : (p q : List ℤ) → all-on-grid (p ++ q) ≡ (all-on-grid p && all-on-grid q)
+unfolding all-on-grid
+on-joined [] q = refl
+on-joined (z ∷ p) q = ap (λ (t : Bool). on-grid z && t) (on-joined p q) ∙ sym (and-assoc (on-grid z) (all-on-grid p) (all-on-grid q))
 
 -- a part of a row on the grid is on the grid
 pub on-dropped : (n : ℕ) (row : List ℤ) → all-on-grid row ≡ true → all-on-grid (drop n row) ≡ true

@@ -20,7 +20,7 @@ use Rattle.setfile.specs.Writing.{most-points}
 use Rattle.setfile.specs.Promises.{Each, Started, Carried}
 use Rattle.setfile.proofs.SizeLaws.{promised-few}
 use Rattle.setfile.proofs.ByteLaws.{in-bytes, file-by-bytes}
-use Rattle.setfile.proofs.JudgeLaws.{all-on-append}
+use Rattle.grid.proofs.LimitLaws.{on-joined}
 use Rattle.setfile.proofs.RoundTrip.{Matched, come-matched}
 use Rattle.salvage.specs.Fates.{reason, open-behind, fates, kept}
 use Rattle.salvage.specs.Outcome.{fates-of, kept-of, dropped-of, mended}
@@ -67,7 +67,7 @@ kept-on b (e ∷ l) = go (reason b e) refl (kept-on (open-behind (e .begins) (al
     behind = open-behind (e .begins) (all-on-grid (e .points)) b
 
     go : (r : ℕ) → reason b e ≡ r → all-on-grid (joined (contours-of (kept (fates behind l) l))) ≡ true → all-on-grid (joined (contours-of (kept (r ∷ fates behind l) (e ∷ l)))) ≡ true
-    go zero z h = all-on-append (e .points) (joined (contours-of (kept (fates behind l) l))) ∙ ap₂ (λ (x y : Bool). x && y) (kept-sound b e z .0) h
+    go zero z h = on-joined (e .points) (joined (contours-of (kept (fates behind l) l))) ∙ ap₂ (λ (x y : Bool). x && y) (kept-sound b e z .0) h
     go (suc r) z h = h
 
 -- a file with a head

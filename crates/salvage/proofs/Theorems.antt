@@ -20,7 +20,7 @@ use Rattle.setfile.specs.Format.Parsed.{carries}
 use Rattle.setfile.specs.inside.Bytes.{Bytes, pair, head-faults, coded-contour, coded}
 use Rattle.setfile.specs.Reading as R
 use Rattle.setfile.specs.Promises.{Started}
-use Rattle.setfile.proofs.JudgeLaws.{all-on-append}
+use Rattle.grid.proofs.LimitLaws.{on-joined}
 use Rattle.setfile.proofs.ByteLaws.{coded-bytes, head-by-bytes, promised-by-bytes, come-by-bytes, in-bytes}
 use Rattle.setfile.proofs.RoundTrip.{come-matched, Whole, read-whole, read-carried, read-back, written-back}
 use Rattle.setfile.proofs.Theorems.{right, whole}
@@ -79,7 +79,7 @@ sound-kept : (b : Bool) (l : List Entry) → (b ≡ false → Started l) → all
 unfolding joined reason
 sound-kept b [] s h = tt
 sound-kept b (e ∷ l) s h =
-    let both : (all-on-grid (e .points) && all-on-grid (joined (contours-of l))) ≡ true = sym (all-on-append (e .points) (joined (contours-of l))) ∙ h in
+    let both : (all-on-grid (e .points) && all-on-grid (joined (contours-of l))) ≡ true = sym (on-joined (e .points) (joined (contours-of l))) ∙ h in
     let on = and-left (all-on-grid (e .points)) _ both in
     let shape = or-begun (e .begins) b s in
     let still = stays-open (e .begins) (all-on-grid (e .points)) b on shape in (
@@ -218,20 +218,20 @@ module _ (f : List ℕ) (h : Bytes f) (out : List ℕ) (list : List (List ℕ)) 
 
 -- a file that is cut off behind its head
 module _ (f : List ℕ) (h : Bytes f) (e : 2 ≤ length f) (n : ℕ) (m : 2 ≤ n) where
-  bytes-left : Bytes (take n f)
-  bytes-left i l = rw (getD-take n f i 0 (omega (arith, length-take n f, l))) (h i (omega (arith, length-take n f, l)))
+  bytes-cut : Bytes (take n f)
+  bytes-cut i l = rw (getD-take n f i 0 (omega (arith, length-take n f, l))) (h i (omega (arith, length-take n f, l)))
 
-  head-left : 2 ≤ length (take n f)
-  head-left = omega (arith, length-take n f)
+  head-cut : 2 ≤ length (take n f)
+  head-cut = omega (arith, length-take n f)
 
   same-promise : promised (take n f) ≡ promised f
-  same-promise = promised-by-bytes (take n f) bytes-left head-left ∙ ap (λ (k : ℕ). k % 4096) (pair-cut f n m) ∙ sym (promised-by-bytes f h e)
+  same-promise = promised-by-bytes (take n f) bytes-cut head-cut ∙ ap (λ (k : ℕ). k % 4096) (pair-cut f n m) ∙ sym (promised-by-bytes f h e)
 
   cut-off : Cut (n - 2) (in-bytes (come f)) (in-bytes (come (take n f)))
   cut-off =
       let k : n ≡ 2 + (n - 2) = omega arith in
       let d : drop 2 (take n f) ≡ take (n - 2) (drop 2 f) = ap (λ (k : ℕ). drop 2 (take k f)) k ∙ drop-take 2 (n - 2) f in
-      rw (come-by-bytes f h e, come-by-bytes (take n f) bytes-left head-left, pair-cut f n m, d) (arrived-cut (pair f % 4096) (n - 2) (drop 2 f))
+      rw (come-by-bytes f h e, come-by-bytes (take n f) bytes-cut head-cut, pair-cut f n m, d) (arrived-cut (pair f % 4096) (n - 2) (drop 2 f))
 
   pub a-file-that-is-cut-off-yields-the-contours-whose-bytes-are-all-there : come (take n f) .contours ≡ all-within (n - 2) (come f .contours)
   a-file-that-is-cut-off-yields-the-contours-whose-bytes-are-all-there = cut-off .contours
@@ -247,8 +247,8 @@ module _ (f : List ℕ) (h : Bytes f) (ok : first-of (R.refusals f) ≡ 0) (n : 
       let x = headed f h ok in
       let t = taken f h ok in
       let g : List ℕ = take n f in
-      let b = bytes-left f h x n m in
-      let hl = head-left f h x n m in
+      let b = bytes-cut f h x n m in
+      let hl = head-cut f h x n m in
       let c = cut-off f h x n m in
       let is : come g .contours ≡ there = c .contours ∙ ap (all-within (n - 2)) (sym (t .is)) in
       let all = within-kept false (n - 2) (read f h ok) (each-kept f h ok) in

@@ -1,7 +1,7 @@
 -- What is judged of a file, contour by contour.
 use mathlib.Core.Path.{_≡_, refl, sym, _∙_, ap, ap₂, subst}
 use mathlib.Core.Bool.{Bool, true, false, not, _&&_, and-assoc, and-true}
-use mathlib.Core.List.{List, [], _∷_, _++_}
+use mathlib.Core.List.{List, _∷_}
 use Prim.Native.Nat.{ℕ, zero, suc, _+_, _*_, _%_, _-_, _≤_, _<_}
 use native.Mathlib.Omega.{arith}
 use native.Mathlib.Nat.{zero-add}
@@ -11,7 +11,8 @@ use lib.Seq.{drop-drop}
 use lib.IntN.{ℤ}
 use mir.Val.{boolByte}
 use borrow.Author.Tests.{ltb-true, ltb-false, lt-ltb, le-ltb, eq-eqb, ne-eqb}
-use Rattle.grid.specs.Limits.{on-grid, all-on-grid}
+use Rattle.grid.specs.Limits.{all-on-grid}
+use Rattle.grid.proofs.LimitLaws.{on-joined}
 use Rattle.replies.specs.Ladder.{first-of}
 use Rattle.grid.specs.Domain.{off}
 use Rattle.replies.proofs.LadderLaws.{Clear, clear, first-is, found}
@@ -26,11 +27,6 @@ use Rattle.setfile.specs.inside.Bytes.{pair, decoded, starts, held, faul
 use Rattle.setfile.specs.inside.Reading.{none-met, met-more, Within, judged, on-or-refused, summed, head-refusals, contained, refusals-of, Readable, Judgement}
 use Rattle.setfile.proofs.BitLaws.{byte-digit, digit-below}
 use Rattle.setfile.proofs.ReadLaws.{decoded-length, walk-more, Numbered, walk-numbered, Long, walk-long}
-
-pub all-on-append : (p q : List ℤ) → all-on-grid (p ++ q) ≡ (all-on-grid p && all-on-grid q)
-unfolding all-on-grid
-all-on-append [] q = refl
-all-on-append (z ∷ p) q = ap (λ (b : Bool). on-grid z && b) (all-on-append p q) ∙ sym (and-assoc (on-grid z) (all-on-grid p) (all-on-grid q))
 
 same-judged : {a b c d k l m n : ℕ} → a ≡ k → b ≡ l → c ≡ m → d ≡ n → judged a b c d ≡ judged k l m n
 same-judged e f g h = cc
@@ -47,7 +43,7 @@ unfolding joined
 summed-more m n at k b c (damaged r) e = refl
 summed-more m n at k b c (carries l) e =
     same-judged
-    (ap on-or-refused (ap (λ (t : Bool). m .on && t) (all-on-append c (joined (contours-of l))) ∙ sym (and-assoc (m .on) (all-on-grid c) (all-on-grid (joined (contours-of l))))))
+    (ap on-or-refused (ap (λ (t : Bool). m .on && t) (on-joined c (joined (contours-of l))) ∙ sym (and-assoc (m .on) (all-on-grid c) (all-on-grid (joined (contours-of l))))))
     (omega (arith, length-append c (joined (contours-of l))))
     (omega arith)
     (omega (arith, shapes-more b c l))
