@@ -16,6 +16,18 @@ pub fn copy(from: &[i32], out: &mut [i32], at: usize)
     }
 }
 
+// The same, of bytes.
+pub fn copy_bytes(from: &[u8], out: &mut [u8], at: usize)
+    requires { ⌜ at + length (now from) ≤ length (now out) ⌝ }
+    ensures { λ _. ⌜ now (out .exit) ≡ placed at (now (from .entry)) (now (out .entry)) ⌝ }
+{
+    let mut i: usize = 0;
+    while i < from.len() {
+        out[at + i] = from[i];
+        i += 1;
+    }
+}
+
 // Every entry becomes 0.
 pub fn zero(row: &mut [u32])
     ensures { λ _. ⌜ now (row .exit) ≡ replicate (length (now (row .entry))) 0 ⌝ }

@@ -11,12 +11,8 @@ pub fn put(text: &mut [u8], at: usize, word: &[u8]) -> usize
     requires { ⌜ at + length (now word) ≤ length (now text) ⌝ }
     ensures { λ r. ⌜ Put at (now (word .entry)) (now (text .entry)) r (now (text .exit)) ⌝ }
 {
-    let mut i: usize = 0;
-    while i < word.len() {
-        text[at + i] = word[i];
-        i += 1;
-    }
-    at + i
+    rows::inner::copy_bytes(word, text, at);
+    at + word.len()
 }
 
 // Puts a number of one digit.

@@ -2,10 +2,9 @@
 ghost use mathlib.Core.Path.{_≡_};
 ghost use mathlib.Core.Bool.{not};
 ghost use mathlib.Core.List.{[], _∷_};
-ghost use Prim.Native.Nat.{_+_, _≤_};
+ghost use Prim.Native.Nat.{_≤_};
 ghost use lib.ListN.{length, drop};
 ghost use Rattle.replies.specs.Ladder.{first-of};
-ghost use Rattle.rows.specs.Rows.{placed};
 ghost use Rattle.setfile.specs.inside.Bytes.{all-there};
 ghost use Rattle.salvage.specs.Outcome.{leaving};
 ghost use Rattle.salvage.specs.inside.Sifting.{none-sifted, Ready, Sifts, Roomy, ending};
@@ -45,18 +44,6 @@ fn reason(on: bool, shape: bool) -> u32
     replies::DONE
 }
 
-// Writes bytes from position `to` on.
-fn copy(from: &[u8], out: &mut [u8], to: usize)
-    requires { ⌜ to + length (now from) ≤ length (now out) ⌝ }
-    ensures { λ _. ⌜ now (out .exit) ≡ placed to (now (from .entry)) (now (out .entry)) ⌝ }
-{
-    let mut i: usize = 0;
-    while i < from.len() {
-        out[to + i] = from[i];
-        i += 1;
-    }
-}
-
 // Contour number i, which is complete, is kept or noted.
 fn sift(bytes: &[u8], s: Sifted, i: usize, out: &mut [u8], list: &mut [[usize; 2]]) -> Sifted
     requires { ⌜ Ready (now bytes) s (now out) (now list) ⌝ }
@@ -72,7 +59,7 @@ fn sift(bytes: &[u8], s: Sifted, i: usize, out: &mut [u8], list: &mut [[usize; 2
     let wrong = reason(on, begins | s.keeping);
     let behind = at + (2 + 8 * n);
     if wrong == 0 {
-        copy(&bytes[at..behind], out, s.to);
+        rows::inner::copy_bytes(&bytes[at..behind], out, s.to);
         return Sifted {
             at: behind,
             to: s.to + (2 + 8 * n),

@@ -35,17 +35,17 @@ add-behind c = search needs
 add-behind-2 : tie.Need-add-behind-2
 add-behind-2 c = search needs
 
-sub-copy : tie.Need-sub-copy
-sub-copy c = search needs
+sub-copy-bytes : tie.Need-sub-copy-bytes
+sub-copy-bytes c = search needs
 
-part-copy-start : tie.Need-part-copy-start
-part-copy-start c = search needs
+part-copy-bytes-start : tie.Need-part-copy-bytes-start
+part-copy-bytes-start c = search needs
 
-part-copy-end : tie.Need-part-copy-end
-part-copy-end c = search needs
+part-copy-bytes-end : tie.Need-part-copy-bytes-end
+part-copy-bytes-end c = search needs
 
-copy-requires : tie.Need-copy-requires
-copy-requires c κs = search needs
+copy-bytes-requires : tie.Need-copy-bytes-requires
+copy-bytes-requires c κs = search needs
 
 mul-t18 : tie.Need-mul-t18
 mul-t18 c = search needs
@@ -78,7 +78,7 @@ returns c =
     let counted = kept .before .before .before .before .before in
     let s = counted .before .before .before .args in
     sifts-kept (s .bytes .now) (s .s) (s .i) (s .out .now) (s .list .now) _ (counted .held .ensures) _
-    (judged (kept .before)) (kept .if1 .taken) (copied .copy .ensures)
+    (judged (kept .before)) (kept .if1 .taken) (copied .copy-bytes .ensures)
 
 cast-t14 : tie.Need-cast-t14
 cast-t14 c = search needs
@@ -117,10 +117,10 @@ sift-spec =
     mul-behind
     add-behind
     add-behind-2
-    sub-copy
-    part-copy-start
-    part-copy-end
-    copy-requires
+    sub-copy-bytes
+    part-copy-bytes-start
+    part-copy-bytes-end
+    copy-bytes-requires
     mul-t18
     add-t23
     add-t24

@@ -1,18 +1,18 @@
--- `salvage::inner::sifting::copy` meets its contract: what is copied so far grows by one.
+-- `rows::inner::copy_bytes` meets its contract: what is copied so far grows by one.
 use mathlib.Core.Path.{_≡_, refl}
 use Prim.Native.Nat.{_-_}
 use native.Mathlib.Omega.{arith}
 use lib.ListN.{length}
 use borrow.Author.Needs.{needs}
 use Rattle.rows.proofs.RowLaws.{Copied, copied-none, copied-more, copied-all}
-use Rattle.salvage.proofs.inner.sifting.copy.Statement.{statement}
-use Rattle.salvage.proofs.inner.sifting.copy.Tie as tie
+use Rattle.rows.proofs.inner.copy_bytes.Statement.{statement}
+use Rattle.rows.proofs.inner.copy_bytes.Tie as tie
 
 abbrev Inv-loop : tie.InvT-loop
-Inv-loop from out₀ to i₀ out i = Copied out₀ to from out i
+Inv-loop from out₀ at i₀ out i = Copied out₀ at from out i
 
 abbrev μ-loop : tie.MeasureT-loop
-μ-loop from out₀ to i₀ out i = length from - i
+μ-loop from out₀ at i₀ out i = length from - i
 
 loop-holds : tie.Need-loop-holds Inv-loop μ-loop
 loop-holds c = copied-none _ _ _
@@ -46,8 +46,8 @@ returns c =
     let done : l .loop .i ≡ length (l .before .args .from .now) = omega (arith, l .loop .inv .within) in
     copied-all _ _ _ (l .loop .inv) done
 
-pub copy-spec : {M : Type 1} → statement M
-copy-spec =
+pub copy-bytes-spec : {M : Type 1} → statement M
+copy-bytes-spec =
     tie.close
     (tie.spec
     Inv-loop
