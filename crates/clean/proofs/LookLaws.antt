@@ -22,7 +22,7 @@ use Rattle.grid.proofs.RowLaws.{points-length}
 use Rattle.grid.proofs.AroundLaws.{corner, Tally, tally-more, tally-past, tally-met, tally-all}
 use Rattle.grid.proofs.EdgeLaws.{moving}
 use Rattle.grid.proofs.BoxLaws.{box-four}
-use Rattle.grid.proofs.AlongLaws.{left-over, Along, along-start, tally-start, next-from, next-skipped, along-skipped, next-kept, along-kept, closing-next, along-none, along-count}
+use Rattle.grid.proofs.AlongLaws.{distinct-points, Along, along-start, tally-start, next-from, next-skipped, along-skipped, next-kept, along-kept, closing-next, along-none, along-count}
 use Rattle.ring.specs.declared.Rule.{Rule}
 use Rattle.ring.specs.declared.Rule.the-variants.{Collinear, Spike}
 use Rattle.ring.specs.Walk.{fresh, predecessor, to-go}
@@ -32,26 +32,26 @@ use Rattle.ring.proofs.Filling.{fresh-next, fresh-before, fresh-last}
 use Rattle.ring.proofs.RuleLaws.{goes-edges}
 use Rattle.ring.proofs.Along.{box-stands}
 use Rattle.clean.specs.declared.inner.look.Look.{Look}
-use Rattle.clean.specs.Verdicts.{no-spike-left, passes}
+use Rattle.clean.specs.Verdicts.{spike-free-distinct, passes}
 use Rattle.clean.specs.inside.Looking.{Onward, LookedOver}
 use Rattle.clean.proofs.OutcomeLaws.{contour-count}
 use Rattle.clean.proofs.VerdictLaws.{simple-many, spikes-many}
 use Rattle.clean.proofs.Unchanged.{front-stands, standing-all, stands-simple, stands-spike-free}
 
 module _ (row : List ℤ) where
-  pub too-few : length (left-over row) < 3 → false ≡ no-spike-left (left-over row)
-  unfolding no-spike-left
-  too-few h = sym (ap (λ (t : Bool). t && not (some reverses-at (corners (left-over row)))) (lt-leb 3 (length (left-over row)) h))
+  pub too-few : length (distinct-points row) < 3 → false ≡ spike-free-distinct (distinct-points row)
+  unfolding spike-free-distinct
+  too-few h = sym (ap (λ (t : Bool). t && not (some reverses-at (corners (distinct-points row)))) (lt-leb 3 (length (distinct-points row)) h))
 
   module _ {n first : ℕ} {to : Edge} {kept i : ℕ} where
     -- the way and the corners on it
     pub along : (w : Onward row n first to kept i) → Along row n (w .a) (w .b) to kept i
     along w = record { low = w .low; within = w .within; few = w .few; a-on = w .a-on; here = w .here; to-is = w .to-is; counted = w .counted }
 
-    none-met : (w : Onward row n first to kept i) → Tally reverses-at false (left-over row) (at row first) (w .a) (w .b) (differing (w .b) (drop i (points row)))
+    none-met : (w : Onward row n first to kept i) → Tally reverses-at false (distinct-points row) (at row first) (w .a) (w .b) (differing (w .b) (drop i (points row)))
     none-met w = record { is = w .none }
 
-    both : {a b : Point} → first < n → Along row n a b to kept i → Tally reverses-at false (left-over row) (at row first) a b (differing b (drop i (points row))) → Onward row n first to kept i
+    both : {a b : Point} → first < n → Along row n a b to kept i → Tally reverses-at false (distinct-points row) (at row first) a b (differing b (drop i (points row))) → Onward row n first to kept i
     both {a} {b} h w t = record { a = a; b = b; begins = h; low = w .low; within = w .within; few = w .few; a-on = w .a-on; here = w .here; to-is = w .to-is; counted = w .counted; none = t .is }
 
   module _ {n : ℕ} (c : Contour row n) where
@@ -67,7 +67,7 @@ module _ (row : List ℤ) where
         pub onward-skip : still from ≡ true → Onward row n first to kept (i + 1)
         onward-skip f = both (w .begins) (along-skipped row c (along w) l e f) (rw (next-skipped row c (along w) l e f) at (none-met w))
 
-        spike-next : still from ≡ false → Tally reverses-at false (left-over row) (at row first) (w .a) (w .b) (at row i ∷ differing (at row i) (drop (i + 1) (points row)))
+        spike-next : still from ≡ false → Tally reverses-at false (distinct-points row) (at row first) (w .a) (w .b) (at row i ∷ differing (at row i) (drop (i + 1) (points row)))
         spike-next f = rw (next-kept row c (along w) l e f) at (none-met w)
 
         pub onward-keep : still from ≡ false → reverses to from ≡ false → Onward row n first from (kept + 1) (i + 1)
@@ -79,18 +79,18 @@ module _ (row : List ℤ) where
         pub onward-on : still from ≡ false → backward to from ≡ false → Onward row n first from (kept + 1) (i + 1)
         onward-on f g = onward-keep f (ap (λ (t : Bool). aligned to from && t) g ∙ and-false (aligned to from))
 
-        pub spike-met : aligned to from ≡ true → still from ≡ false → backward to from ≡ true → false ≡ no-spike-left (left-over row)
-        unfolding no-spike-left
-        spike-met p f g = sym (rw (tally-met (tally-more (spike-next f)) (spike-told i e ∙ ap₂ _&&_ p g)) (and-false (leb 3 (length (left-over row)))))
+        pub spike-met : aligned to from ≡ true → still from ≡ false → backward to from ≡ true → false ≡ spike-free-distinct (distinct-points row)
+        unfolding spike-free-distinct
+        spike-met p f g = sym (rw (tally-met (tally-more (spike-next f)) (spike-told i e ∙ ap₂ _&&_ p g)) (and-false (leb 3 (length (distinct-points row)))))
 
       module _ (l : n ≤ i) where
-        pub few-kept : kept < 3 → false ≡ no-spike-left (left-over row)
+        pub few-kept : kept < 3 → false ≡ spike-free-distinct (distinct-points row)
         few-kept h = too-few (omega (arith, along-count row c (along w) l))
 
-        pub onward-all : {closing : Edge} → closing ≡ between (at row (n - 1)) (at row first) → 3 ≤ kept → (t : Bool) → t ≡ reverses to closing → not t ≡ no-spike-left (left-over row)
-        unfolding no-spike-left
+        pub onward-all : {closing : Edge} → closing ≡ between (at row (n - 1)) (at row first) → 3 ≤ kept → (t : Bool) → t ≡ reverses to closing → not t ≡ spike-free-distinct (distinct-points row)
+        unfolding spike-free-distinct
         onward-all e h t g =
-            let m = le-leb 3 (length (left-over row)) (omega (arith, along-count row c (along w) l)) in
+            let m = le-leb 3 (length (distinct-points row)) (omega (arith, along-count row c (along w) l)) in
             let k = spike-told first (closing-next row c (along w) l first e) in
             sym (rw (m, tally-all (rw (along-none row c (along w) l) at (none-met w)), k, ← g))
 
@@ -162,5 +162,5 @@ module _ (row : List ℤ) where
       looked-collinear h e = record { verdict = rw e (sym (ne-eqb k n h) ∙ standing-all (goes-at Collinear) row c (rw e at x) ∙ simple-many row (omega (arith, contour-count c))); standing = x }
 
       -- and by the rule Spike those that have no spikes left
-      pub looked-spike : (b : Bool) → b ≡ no-spike-left (left-over row) → rule ≡ Spike → LookedOver rule row n (record { passes = b; standing = k })
+      pub looked-spike : (b : Bool) → b ≡ spike-free-distinct (distinct-points row) → rule ≡ Spike → LookedOver rule row n (record { passes = b; standing = k })
       looked-spike b f e = record { verdict = rw e (f ∙ spikes-many row (omega (arith, contour-count c))); standing = x }

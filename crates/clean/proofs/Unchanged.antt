@@ -31,7 +31,7 @@ use Rattle.ring.proofs.Marks.{inside}
 use Rattle.ring.proofs.Survivors.{fresh-count}
 use Rattle.ring.proofs.Listed.{rising-few}
 use Rattle.ring.proofs.Theorems.{kept-clean, unchanged-after-n}
-use Rattle.clean.specs.Verdicts.{is-simple, no-spike-left, no-spikes}
+use Rattle.clean.specs.Verdicts.{is-simple, spike-free-distinct, no-spikes}
 use Rattle.clean.specs.Outcome.{walked, chosen, answer, Lent, lent, Outcome, leaving, swept, outcome-by, outcome}
 use Rattle.clean.specs.Promises.{InDomainWithRoom, Stands, Unchanged}
 use Rattle.clean.specs.inside.Settling.{Settled as Whole}
@@ -132,16 +132,16 @@ module _ (l : List Point) where
   stands-simple many f = rw (le-leb 3 (length l) many, corner-none aligned-at l f)
 
   pub stands-spike-free : 3 ≤ length l → Stands (goes-at Spike) l → (no-spikes l ≡ true) × (distinct-neighbours l ≡ l)
-  unfolding no-spikes no-spike-left goes-at
+  unfolding no-spikes spike-free-distinct goes-at
   stands-spike-free many f =
       let d = all-distinct l (λ j h. or-left _ _ (f j h)) in
       let b = corner-none reverses-at l (λ j h. or-right (same (getD l j origin) (following origin l j)) (reverses-at (corner-in l j)) (or-right (same (getD l j origin) (preceding origin l j)) _ (f j h))) in
       (rw (d, le-leb 3 (length l) many, b), d)
 
   pub spike-free-stands : no-spikes l ≡ true → distinct-neighbours l ≡ l → Stands (goes-at Spike) l
-  unfolding no-spikes no-spike-left goes-at
+  unfolding no-spikes spike-free-distinct goes-at
   spike-free-stands e d j h =
-      let n : no-spike-left l ≡ true = ap no-spike-left (sym d) ∙ and-right (leb 3 (length l)) (no-spike-left (distinct-neighbours l)) e in
+      let n : spike-free-distinct l ≡ true = ap spike-free-distinct (sym d) ∙ and-right (leb 3 (length l)) (spike-free-distinct (distinct-neighbours l)) e in
       let b = no-corner reverses-at l (not-true _ (and-right (leb 3 (length l)) (not (some reverses-at (corners l))) n)) j h in
       rw (distinct-before l d j h, distinct-after l d j h, b)
 

@@ -14,7 +14,7 @@ use Rattle.grid.proofs.RowLaws.{points-count}
 use Rattle.ring.specs.declared.Rule.{Rule}
 use Rattle.ring.specs.declared.Rule.the-variants.{Collinear, Spike}
 use Rattle.ring.specs.Rule.{goes-at}
-use Rattle.clean.specs.Verdicts.{is-simple, no-spike-left, no-spikes, passes}
+use Rattle.clean.specs.Verdicts.{is-simple, spike-free-distinct, no-spikes, passes}
 
 module _ (row : List ℤ) where
   pub simple-many : 3 ≤ count row → not (some (goes-at Collinear) (corners (points row))) ≡ is-simple (points row)
@@ -27,11 +27,11 @@ module _ (row : List ℤ) where
 
   pub spikes-few : count row < 3 → false ≡ no-spikes (points row)
   unfolding no-spikes
-  spikes-few h = sym (ap (λ (t : Bool). t && no-spike-left (distinct-neighbours (points row))) (lt-leb 3 (length (points row)) (omega (arith, points-count row))))
+  spikes-few h = sym (ap (λ (t : Bool). t && spike-free-distinct (distinct-neighbours (points row))) (lt-leb 3 (length (points row)) (omega (arith, points-count row))))
 
-  pub spikes-many : 3 ≤ count row → no-spike-left (distinct-neighbours (points row)) ≡ no-spikes (points row)
+  pub spikes-many : 3 ≤ count row → spike-free-distinct (distinct-neighbours (points row)) ≡ no-spikes (points row)
   unfolding no-spikes
-  spikes-many h = sym (ap (λ (t : Bool). t && no-spike-left (distinct-neighbours (points row))) (le-leb 3 (length (points row)) (omega (arith, points-count row))))
+  spikes-many h = sym (ap (λ (t : Bool). t && spike-free-distinct (distinct-neighbours (points row))) (le-leb 3 (length (points row)) (omega (arith, points-count row))))
 
   -- by either rule
   pub passes-few : (rule : Rule) → count row < 3 → false ≡ passes rule (points row)

@@ -18,13 +18,13 @@ use Rattle.ring.specs.declared.Rule.the-variants.{Collinear, Spike}
 unfoldable pub is-simple : List Point → Bool
 is-simple l = leb 3 (length l) && not (some aligned-at (corners l))
 
--- three or more are left, and no vertex has cross 0 with dot below 0
-unfoldable pub no-spike-left : List Point → Bool
-no-spike-left l = leb 3 (length l) && not (some reverses-at (corners l))
+-- a contour without equal neighbours: three or more points, and no vertex has cross 0 with dot below 0
+unfoldable pub spike-free-distinct : List Point → Bool
+spike-free-distinct l = leb 3 (length l) && not (some reverses-at (corners l))
 
--- three or more points; equal neighbours skipped, no spike is left
+-- three or more points; free of spikes where equal neighbours are skipped
 unfoldable pub no-spikes : List Point → Bool
-no-spikes l = leb 3 (length l) && no-spike-left (distinct-neighbours l)
+no-spikes l = leb 3 (length l) && spike-free-distinct (distinct-neighbours l)
 
 -- the verdict that goes with a rule
 abbrev pub passes : Rule → List Point → Bool

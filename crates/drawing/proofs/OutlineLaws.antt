@@ -88,15 +88,15 @@ unfolding lines items item brought
 no-lines ended = refl
 no-lines (moved a b s) = refl
 
-numbers-left : {o : Bool} {kinds : List ℕ} {floats : List Float} → Sound o kinds floats → lines (items kinds floats) ++ joined (drawn kinds floats) ≡ map units floats
+numbers-rest : {o : Bool} {kinds : List ℕ} {floats : List Float} → Sound o kinds floats → lines (items kinds floats) ++ joined (drawn kinds floats) ≡ map units floats
 unfolding lines outlines joined items item brought
-numbers-left ended = refl
-numbers-left (moved {x = x} {y = y} a b s) = ap (λ (l : List ℤ). units x ∷ units y ∷ l) (numbers-left s)
-numbers-left (lined {x = x} {y = y} a b s) = ap (λ (l : List ℤ). units x ∷ units y ∷ l) (numbers-left s)
-numbers-left (closed {kinds = kinds} {floats = floats} s) = ap (λ (l : List ℤ). l ++ joined (drawn kinds floats)) (sym (no-lines s)) ∙ numbers-left s
+numbers-rest ended = refl
+numbers-rest (moved {x = x} {y = y} a b s) = ap (λ (l : List ℤ). units x ∷ units y ∷ l) (numbers-rest s)
+numbers-rest (lined {x = x} {y = y} a b s) = ap (λ (l : List ℤ). units x ∷ units y ∷ l) (numbers-rest s)
+numbers-rest (closed {kinds = kinds} {floats = floats} s) = ap (λ (l : List ℤ). l ++ joined (drawn kinds floats)) (sym (no-lines s)) ∙ numbers-rest s
 
 pub numbers-are : {kinds : List ℕ} {floats : List Float} → Sound false kinds floats → joined (drawn kinds floats) ≡ map units floats
-numbers-are {kinds} {floats} s = ap (λ (l : List ℤ). l ++ joined (drawn kinds floats)) (sym (no-lines s)) ∙ numbers-left s
+numbers-are {kinds} {floats} s = ap (λ (l : List ℤ). l ++ joined (drawn kinds floats)) (sym (no-lines s)) ∙ numbers-rest s
 
 pub points-are : {kinds : List ℕ} {floats : List Float} → Sound false kinds floats → count (joined (drawn kinds floats)) ≡ length floats / 2
 points-are {kinds} {floats} s = ap count (numbers-are s) ∙ ap (λ (n : ℕ). n / 2) (length-map floats units)

@@ -23,8 +23,8 @@ use Rattle.grid.proofs.EdgeLaws.{corner-short, same-before}
 
 module _ (row : List ℤ) where
   -- the contour without equal neighbours
-  abbrev pub left-over : List Point
-  left-over = distinct-neighbours (points row)
+  abbrev pub distinct-points : List Point
+  distinct-points = distinct-neighbours (points row)
 
   -- kept points were met up to position i - 1, the last of them b, to which one edge leads from the one before it, a
   pub record Along (n : ℕ) (a b : Point) (to : Edge) (kept i : ℕ) : Type 0 where
@@ -34,7 +34,7 @@ module _ (row : List ℤ) where
     pub a-on : on a ≡ true
     pub here : b ≡ at row (i - 1)
     pub to-is : to ≡ between a b
-    pub counted : length left-over ≡ kept + length (differing b (drop i (points row)))
+    pub counted : length distinct-points ≡ kept + length (differing b (drop i (points row)))
 
   module _ {n : ℕ} (c : Contour row n) where
     -- the points before the first other are skipped
@@ -46,12 +46,12 @@ module _ (row : List ℤ) where
         ∙ differing-skip (at row (n - 1)) (at row i) (drop (i + 1) (points row)) (x .equal i (omega arith))
         ∙ ap (λ (k : ℕ). differing (at row (n - 1)) (drop k (points row))) (add-one i)
 
-    pub nothing-left : FirstOther row n n → 0 < n → left-over ≡ []
+    pub none-distinct : FirstOther row n n → 0 < n → distinct-points ≡ []
     unfolding differing
-    nothing-left x h = distinct-is c h ∙ skipped n x n (omega arith) ∙ ap (differing (at row (n - 1))) (points-done c n refl)
+    none-distinct x h = distinct-is c h ∙ skipped n x n (omega arith) ∙ ap (differing (at row (n - 1))) (points-done c n refl)
 
     module _ (first : ℕ) (x : FirstOther row n first) (h : first < n) where
-      starts-with : left-over ≡ at row first ∷ differing (at row first) (drop (first + 1) (points row))
+      starts-with : distinct-points ≡ at row first ∷ differing (at row first) (drop (first + 1) (points row))
       starts-with =
           distinct-is c (omega arith) ∙ skipped first x first (omega arith) ∙ ap (differing (at row (n - 1))) (points-more c first h)
           ∙ differing-keep (at row (n - 1)) (at row first) (drop (first + 1) (points row)) (x .differs h)
@@ -67,7 +67,7 @@ module _ (row : List ℤ) where
         counted = ap length starts-with ∙ omega arith;
       }
 
-      pub tally-start : (t : Corner → Bool) → Tally t false left-over (at row first) (at row (n - 1)) (at row first) (differing (at row first) (drop (first + 1) (points row)))
+      pub tally-start : (t : Corner → Bool) → Tally t false distinct-points (at row first) (at row (n - 1)) (at row first) (differing (at row first) (drop (first + 1) (points row)))
       unfolding corners
       tally-start t = record {
         is =
@@ -135,5 +135,5 @@ module _ (row : List ℤ) where
         unfolding differing
         along-none = ap (differing b) (points-done c i at-last)
 
-        pub along-count : length left-over ≡ kept
+        pub along-count : length distinct-points ≡ kept
         along-count = w .counted ∙ ap (λ (p : List Point). kept + length p) along-none ∙ omega arith

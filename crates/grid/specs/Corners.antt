@@ -16,7 +16,7 @@ unfoldable pub last : Point → List Point → Point
 last a [] = a
 last a (b ∷ points) = last b points
 
--- the points that are left where each equal to the last one kept is skipped, and a was kept before
+-- the points that remain where each equal to the last one kept is skipped, and a was kept before
 unfoldable pub differing : Point → List Point → List Point
 differing a [] = []
 differing a (b ∷ points) = elim (same b a) [ true ↦ differing a points | false ↦ b ∷ differing b points ]

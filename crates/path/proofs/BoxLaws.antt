@@ -17,7 +17,7 @@ use Rattle.grid.proofs.RowLaws.{points-more, points-done}
 use Rattle.grid.proofs.EdgeLaws.{moving, same-before}
 use Rattle.grid.proofs.CornerLaws.{differing-keep}
 use Rattle.grid.proofs.BoxLaws.{ab, bc, cd, da, box-four, box-cross, box-turns}
-use Rattle.path.specs.Convex.{one-way, convex-left, is-convex}
+use Rattle.path.specs.Convex.{one-way, convex-distinct, is-convex}
 
 -- a turn is not to both sides
 one-side : (k : ℤ) → (eqZ (sign k) (pos 1) && eqZ (sign k) (negsuc 0)) ≡ false
@@ -61,5 +61,5 @@ module _ (row : List ℤ) where
         rw (t .0, t .1, t .2, t .3, x .first, x .second, x .third, x .fourth, four-times (eqZ (sign (x .k)) (pos 1)), four-times (eqZ (sign (x .k)) (negsuc 0)), one-side (x .k))
 
     pub box-convex : {n : ℕ} → Contour row n → true ≡ is-convex (points row)
-    unfolding is-convex convex-left
+    unfolding is-convex convex-distinct
     box-convex c = sym (rw (points-four (rw (box-four row c e) at c), apart, turning))

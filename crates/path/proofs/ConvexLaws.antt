@@ -24,9 +24,9 @@ use Rattle.grid.proofs.RowLaws.{points-count}
 use Rattle.grid.proofs.CornerLaws.{few-turn-nowhere}
 use Rattle.grid.proofs.AroundLaws.{corner, Tally, tally-more, tally-met, tally-all}
 use Rattle.grid.proofs.EdgeLaws.{moving}
-use Rattle.grid.proofs.AlongLaws.{left-over, Along, along-start, tally-start, next-from, next-skipped, along-skipped, next-kept, along-kept, closing-next, along-none, along-count}
+use Rattle.grid.proofs.AlongLaws.{distinct-points, Along, along-start, tally-start, next-from, next-skipped, along-skipped, next-kept, along-kept, closing-next, along-none, along-count}
 use Rattle.path.specs.declared.inner.Seen.{Seen}
-use Rattle.path.specs.Convex.{one-way, convex-left, is-convex}
+use Rattle.path.specs.Convex.{one-way, convex-distinct, is-convex}
 use Rattle.path.specs.inside.Convex.{looked, one-sided}
 
 -- two edges have cross 0 where the way does not turn
@@ -75,9 +75,9 @@ module _ (row : List ℤ) where
     pub a : Point
     pub b : Point
     pub along : Along row n a b to kept i
-    pub lefts : Tally left-at (s .left) (left-over row) (at row first) a b (differing b (drop i (points row)))
-    pub rights : Tally right-at (s .right) (left-over row) (at row first) a b (differing b (drop i (points row)))
-    pub reversals : Tally reverses-at (s .reversed) (left-over row) (at row first) a b (differing b (drop i (points row)))
+    pub lefts : Tally left-at (s .left) (distinct-points row) (at row first) a b (differing b (drop i (points row)))
+    pub rights : Tally right-at (s .right) (distinct-points row) (at row first) a b (differing b (drop i (points row)))
+    pub reversals : Tally reverses-at (s .reversed) (distinct-points row) (at row first) a b (differing b (drop i (points row)))
 
   module _ {n : ℕ} (c : Contour row n) where
     pub sight-start : (first : ℕ) → FirstOther row n first → first < n → (closing : Edge) → closing ≡ between (at row (n - 1)) (at row first)
@@ -126,30 +126,30 @@ module _ (row : List ℤ) where
         sight-on t u f r e = rw (looked-none s to from r t u e) (sight-keep f)
 
       -- both ways have been seen, which two points or fewer cannot show
-      pub both-ways : (s .left && s .right) ≡ true → false ≡ convex-left (left-over row)
-      unfolding convex-left
+      pub both-ways : (s .left && s .right) ≡ true → false ≡ convex-distinct (distinct-points row)
+      unfolding convex-distinct
       both-ways e =
           let p = tally-met (w .lefts) (and-left (s .left) (s .right) e) in
           let q = tally-met (w .rights) (and-right (s .left) (s .right) e) in
           rw (many p, p, q)
         where
-          many : some left-at (corners (left-over row)) ≡ true → leb (length (left-over row)) 2 ≡ false
-          many p = go (decLe (length (left-over row)) 2)
+          many : some left-at (corners (distinct-points row)) ≡ true → leb (length (distinct-points row)) 2 ≡ false
+          many p = go (decLe (length (distinct-points row)) 2)
             where
-              go : Dec (length (left-over row) ≤ 2) → leb (length (left-over row)) 2 ≡ false
-              go (yes h) = absurd (true≢false (sym p ∙ few-turn-nowhere (pos 1) refl (left-over row) h))
-              go (no h) = lt-leb (length (left-over row)) 2 (omega arith)
+              go : Dec (length (distinct-points row) ≤ 2) → leb (length (distinct-points row)) 2 ≡ false
+              go (yes h) = absurd (true≢false (sym p ∙ few-turn-nowhere (pos 1) refl (distinct-points row) h))
+              go (no h) = lt-leb (length (distinct-points row)) 2 (omega arith)
 
       module _ (l : n ≤ i) where
-        pub few-left : kept ≤ 2 → true ≡ convex-left (left-over row)
-        unfolding convex-left
-        few-left h = sym (ap (λ (t : Bool). t || one-way (corners (left-over row))) (le-leb (length (left-over row)) 2 (omega (arith, along-count row c (w .along) l))))
+        pub few-distinct : kept ≤ 2 → true ≡ convex-distinct (distinct-points row)
+        unfolding convex-distinct
+        few-distinct h = sym (ap (λ (t : Bool). t || one-way (corners (distinct-points row))) (le-leb (length (distinct-points row)) 2 (omega (arith, along-count row c (w .along) l))))
 
-        pub closed : {closing : Edge} → closing ≡ between (at row (n - 1)) (at row first) → 2 < kept → one-sided (looked s to closing) ≡ convex-left (left-over row)
-        unfolding convex-left
+        pub closed : {closing : Edge} → closing ≡ between (at row (n - 1)) (at row first) → 2 < kept → one-sided (looked s to closing) ≡ convex-distinct (distinct-points row)
+        unfolding convex-distinct
         closed e h =
             let none = along-none row c (w .along) l in
-            let m = lt-leb (length (left-over row)) 2 (omega (arith, along-count row c (w .along) l)) in
+            let m = lt-leb (length (distinct-points row)) 2 (omega (arith, along-count row c (w .along) l)) in
             let k = looked-corner s (w .a) (w .b) (at row first) (w .along .to-is) (next-from row c (w .along) first (closing-next row c (w .along) l first e)) in
             ap one-sided k ∙ rw m (sym (rw (tally-all (rw none at (w .lefts)), tally-all (rw none at (w .rights)), tally-all (rw none at (w .reversals)))))
 
@@ -157,12 +157,12 @@ module _ (row : List ℤ) where
 module _ (row : List ℤ) where
   pub convex-few : count row ≤ 2 → true ≡ is-convex (points row)
   unfolding is-convex
-  convex-few h = sym (ap (λ (t : Bool). t || convex-left (left-over row)) (le-leb (length (points row)) 2 (omega (arith, points-count row))))
+  convex-few h = sym (ap (λ (t : Bool). t || convex-distinct (distinct-points row)) (le-leb (length (points row)) 2 (omega (arith, points-count row))))
 
-  pub convex-many : 2 < count row → convex-left (left-over row) ≡ is-convex (points row)
+  pub convex-many : 2 < count row → convex-distinct (distinct-points row) ≡ is-convex (points row)
   unfolding is-convex
-  convex-many h = sym (ap (λ (t : Bool). t || convex-left (left-over row)) (lt-leb (length (points row)) 2 (omega (arith, points-count row))))
+  convex-many h = sym (ap (λ (t : Bool). t || convex-distinct (distinct-points row)) (lt-leb (length (points row)) 2 (omega (arith, points-count row))))
 
-  pub convex-nothing : left-over row ≡ [] → true ≡ convex-left (left-over row)
-  unfolding convex-left
-  convex-nothing e = sym (ap convex-left e)
+  pub convex-nothing : distinct-points row ≡ [] → true ≡ convex-distinct (distinct-points row)
+  unfolding convex-distinct
+  convex-nothing e = sym (ap convex-distinct e)

@@ -17,7 +17,7 @@ use Rattle.grid.specs.Domain.{count, domain, Contour}
 use Rattle.replies.specs.Ladder.{first-of}
 use Rattle.grid.proofs.RowLaws.{points-count, points-more, points-done}
 use Rattle.path.specs.Contains.{above, crosses, contained}
-use Rattle.path.specs.Locate.{on-edge, touched, on-boundary, location, placed, located}
+use Rattle.path.specs.Locate.{on-edge, touched, on-boundary, location, answer, located}
 use Rattle.path.specs.inside.Contains.{Across, before}
 use Rattle.path.specs.inside.Locate.{under, Untouched}
 use Rattle.path.proofs.ContainsLaws.{Counted, counted-none, counted-more, counted-beside, counted-all, from-last, before-in, past-run, past-first-run, nothing-contained, refused-domain, refused-off, refused-none}
@@ -96,21 +96,21 @@ module _ (row : List ℤ) (p : Point) {n : ℕ} (c : Contour row n) where
       (passed-beside row p c (x .0) h (not-over p a (at row i) (x .1) (x .2) e) (x .1 ∙ sym low), low, below-other p (at row i) e)
 
   -- an edge that leaves a run
-  high-left : {sofar : Bool} {i a r : ℕ} → a < n → Across row n i p true r → High sofar (at row a) r → Untouched row n p sofar a r
-  high-left l y x = record { a-in = l; within = y .within; not-above = λ h e. absurd (true≢false (sym e ∙ y .changed h)); boundary = x .0 .boundary; is = x .0 .counted .is }
+  past-high : {sofar : Bool} {i a r : ℕ} → a < n → Across row n i p true r → High sofar (at row a) r → Untouched row n p sofar a r
+  past-high l y x = record { a-in = l; within = y .within; not-above = λ h e. absurd (true≢false (sym e ∙ y .changed h)); boundary = x .0 .boundary; is = x .0 .counted .is }
 
-  low-left : {sofar : Bool} {i a r : ℕ} → a < n → Across row n i (under p) false r → Low sofar (at row a) r → Untouched row n p sofar a r
-  low-left l y x = record { a-in = l; within = y .within; not-above = λ h e. x .1; boundary = x .0 .boundary; is = x .0 .counted .is }
+  past-low : {sofar : Bool} {i a r : ℕ} → a < n → Across row n i (under p) false r → Low sofar (at row a) r → Untouched row n p sofar a r
+  past-low l y x = record { a-in = l; within = y .within; not-above = λ h e. x .1; boundary = x .0 .boundary; is = x .0 .counted .is }
 
   -- the first edge that may have p: by the side of the last point
   module _ (h : 0 < n) where
     pub first-from-above : (r : ℕ) → above p (at row (n - 1)) ≡ true → Across row n 0 p true r → Untouched row n p false (before n r) r
-    first-from-above r e y = high-left (before-in n r h (y .within)) y (past-first-run row p true (High false) high-beside h (passed-none row p c h, e) r y)
+    first-from-above r e y = past-high (before-in n r h (y .within)) y (past-first-run row p true (High false) high-beside h (passed-none row p c h, e) r y)
 
     pub first-from-below : (r : ℕ) → above (at row (n - 1)) p ≡ true → Across row n 0 (under p) false r → Untouched row n p false (before n r) r
     first-from-below r e y =
         let below : above (under p) (at row (n - 1)) ≡ false = lt-fails (of (p .y) less num 1) (of (at row (n - 1) .y)) (omega (arith, lt-means (of (at row (n - 1) .y)) (of (p .y)) e)) in
-        low-left (before-in n r h (y .within)) y
+        past-low (before-in n r h (y .within)) y
         (past-first-run row (under p) false (Low false) low-beside h (passed-none row p c h, below-low p (at row (n - 1)) below, below-other p (at row (n - 1)) below) r y)
 
     pub first-from-level : above p (at row (n - 1)) ≡ false → Untouched row n p false (before n 0) 0
@@ -130,11 +130,11 @@ module _ (row : List ℤ) (p : Point) {n : ℕ} (c : Contour row n) where
     module _ (h : i < n) (e : on-edge p (at row a) (at row i) ≡ false) where
       pub untouched-above : {t : Bool} {r : ℕ} → t ≡ crosses p (at row a) (at row i) → above p (at row i) ≡ true → Across row n (i + 1) p true r → Untouched row n p (xor sofar t) (r - 1) r
       untouched-above {t} f g y =
-          high-left (omega (arith, y .from, y .within)) y (past-run row p true (High (xor sofar t)) high-beside i (rw (sym f) at (passed-more row p c passed h e), g) y)
+          past-high (omega (arith, y .from, y .within)) y (past-run row p true (High (xor sofar t)) high-beside i (rw (sym f) at (passed-more row p c passed h e), g) y)
 
       low-on : {s : Bool} {r : ℕ} → Passed row p n s (at row i) (i + 1) → above p (at row i) ≡ false → Across row n (i + 1) (under p) false r → Untouched row n p s (r - 1) r
       low-on {s} k g y =
-          low-left (omega (arith, y .from, y .within)) y (past-run row (under p) false (Low s) low-beside i (k, g, end-other p (at row a) (at row i) e) y)
+          past-low (omega (arith, y .from, y .within)) y (past-run row (under p) false (Low s) low-beside i (k, g, end-other p (at row a) (at row i) e) y)
 
       pub untouched-falling : {t : Bool} {r : ℕ} → t ≡ crosses p (at row a) (at row i) → above p (at row i) ≡ false → Across row n (i + 1) (under p) false r → Untouched row n p (xor sofar t) (r - 1) r
       untouched-falling f g y = low-on (rw (sym f) at (passed-more row p c passed h e)) g y
@@ -151,15 +151,15 @@ nothing-located p row h = go (points row) (omega (arith, points-count row)) (not
     go [] e f = sym (ap (place-by false) (sym f))
     go (o ∷ l) e f = absurd (omega arith)
 
-placed-refused : (k z : ℕ) → (k ≡ 0 → ⊥) → record { reply = k; place = 0 } ≡ placed k z
-placed-refused zero z n = absurd (n refl)
-placed-refused (suc k) z n = refl
+answer-refused : (k z : ℕ) → (k ≡ 0 → ⊥) → record { reply = k; place = 0 } ≡ answer k z
+answer-refused zero z n = absurd (n refl)
+answer-refused (suc k) z n = refl
 
 -- the question as a whole
 module _ (row : List ℤ) (x y : ℤ) where
   pub located-refused : (k : ℕ) → k ≡ first-of (domain row) → (k ≡ 0 → ⊥) → record { reply = k; place = 0 } ≡ located row x y
   unfolding located
-  located-refused k e n = rw (← refused-domain row x y k e n) (placed-refused k _ n)
+  located-refused k e n = rw (← refused-domain row x y k e n) (answer-refused k _ n)
 
   module _ (e : first-of (domain row) ≡ 0) where
     pub located-off : on (record { x = x; y = y }) ≡ false → record { reply = 3; place = 0 } ≡ located row x y

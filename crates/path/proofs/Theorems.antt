@@ -1,6 +1,6 @@
 -- What holds of the place that is answered.
 use mathlib.Core.Path.{_≡_, refl, sym, _∙_, ap, ap₂}
-use mathlib.Core.Bool.{Bool, true, false, not, xor, _&&_, _||_, and-assoc, and-comm, or-true, or-assoc, or-comm}
+use mathlib.Core.Bool.{Bool, true, false, not, xor, _&&_, _||_, and-comm, or-true, or-assoc, or-comm}
 use mathlib.Core.List.{List, [], _∷_, _++_, reverse, reverse-cons}
 use Prim.Native.Nat.{ℕ, zero, suc, _/_, _%_, _+_, _<_}
 use native.Mathlib.Omega.{arith}
@@ -8,10 +8,11 @@ use lib.Dec.{eqb, ltb}
 use lib.ListN.{length, take, drop, length-append, length-reverse, take-append-drop}
 use lib.IntN.{ℤ}
 use Rattle.grid.specs.declared.Point.{Point}
-use Rattle.grid.specs.Limits.{most, on-grid, all-on-grid}
+use Rattle.grid.specs.Limits.{most, all-on-grid}
 use Rattle.grid.specs.Points.{at, on, points}
 use Rattle.grid.specs.Corners.{last}
 use Rattle.grid.specs.Domain.{count, domain}
+use Rattle.grid.proofs.LimitLaws.{on-joined}
 use Rattle.grid.proofs.PointLaws.{at-on}
 use Rattle.grid.proofs.RowLaws.{points-more}
 use Rattle.grid.proofs.DomainLaws.{in-domain}
@@ -19,26 +20,26 @@ use Rattle.replies.specs.Ladder.{Rung, first-of}
 use Rattle.replies.specs.Verdicts.{verdict}
 use Rattle.path.specs.declared.Located.{Located}
 use Rattle.path.specs.Contains.{above, crosses, odd, contained, refusals, contains}
-use Rattle.path.specs.Locate.{on-edge, touched, on-boundary, location, placed, located}
+use Rattle.path.specs.Locate.{on-edge, touched, on-boundary, location, answer, located}
 use Rattle.path.proofs.ContainsLaws.{crosses-not, crosses-up, crosses-down, xor-assoc, xor-swap, false-xor}
 use Rattle.path.proofs.OnEdge.{on-edge-swap, end-on-edge}
 use Rattle.path.proofs.LocateLaws.{place-by, located-given}
 use Rattle.path.proofs.Round.{along, closed, moved-start, turned-round}
 
 -- where the answer is inside or outside, `contains` says yes or no; and both refuse alike
-as-contained : (k : ℕ) (met odd : Bool) → placed k (place-by met odd) ≡ record { reply = 0; place = 2 } → verdict k odd ≡ record { reply = 0; yes = true }
+as-contained : (k : ℕ) (met odd : Bool) → answer k (place-by met odd) ≡ record { reply = 0; place = 2 } → verdict k odd ≡ record { reply = 0; yes = true }
 as-contained zero true odd e = let h : _≡_ {A = ℕ} 1 2 = ap (λ (a : Located). a .place) e in absurd (omega arith)
 as-contained zero false true e = refl
 as-contained zero false false e = let h : _≡_ {A = ℕ} 0 2 = ap (λ (a : Located). a .place) e in absurd (omega arith)
 as-contained (suc k) met odd e = let h : suc k ≡ 0 = ap (λ (a : Located). a .reply) e in absurd (omega arith)
 
-as-not-contained : (k : ℕ) (met odd : Bool) → placed k (place-by met odd) ≡ record { reply = 0; place = 0 } → verdict k odd ≡ record { reply = 0; yes = false }
+as-not-contained : (k : ℕ) (met odd : Bool) → answer k (place-by met odd) ≡ record { reply = 0; place = 0 } → verdict k odd ≡ record { reply = 0; yes = false }
 as-not-contained zero true odd e = let h : _≡_ {A = ℕ} 1 0 = ap (λ (a : Located). a .place) e in absurd (omega arith)
 as-not-contained zero false true e = let h : _≡_ {A = ℕ} 2 0 = ap (λ (a : Located). a .place) e in absurd (omega arith)
 as-not-contained zero false false e = refl
 as-not-contained (suc k) met odd e = let h : suc k ≡ 0 = ap (λ (a : Located). a .reply) e in absurd (omega arith)
 
-same-reply : (k z : ℕ) (t : Bool) → placed k z .reply ≡ verdict k t .reply
+same-reply : (k z : ℕ) (t : Bool) → answer k z .reply ≡ verdict k t .reply
 same-reply zero z t = refl
 same-reply (suc k) z t = refl
 
@@ -129,26 +130,26 @@ unfolding points
 points-row-of [] = refl
 points-row-of (a ∷ l) = ap (λ (m : List Point). a ∷ m) (points-row-of l)
 
+row-of-joined : (l m : List Point) → row-of (l ++ m) ≡ row-of l ++ row-of m
+row-of-joined [] m = refl
+row-of-joined (a ∷ l) m = ap (λ (r : List ℤ). a .x ∷ a .y ∷ r) (row-of-joined l m)
+
 length-row-of : (c : List Point) → length (row-of c) ≡ length c + length c
 length-row-of [] = refl
 length-row-of (a ∷ l) = omega (arith, length-row-of l)
 
 -- whether all its points are on the grid, in any order
-on-joined : (l m : List Point) → all-on-grid (row-of (l ++ m)) ≡ (all-on-grid (row-of l) && all-on-grid (row-of m))
-unfolding all-on-grid
-on-joined [] m = refl
-on-joined (a ∷ l) m =
-    ap (λ (t : Bool). on-grid (a .x) && (on-grid (a .y) && t)) (on-joined l m)
-    ∙ sym (and-assoc (on-grid (a .x)) (on-grid (a .y) && all-on-grid (row-of l)) (all-on-grid (row-of m)) ∙ ap (λ (t : Bool). on-grid (a .x) && t) (and-assoc (on-grid (a .y)) (all-on-grid (row-of l)) (all-on-grid (row-of m))))
+on-both : (l m : List Point) → all-on-grid (row-of (l ++ m)) ≡ (all-on-grid (row-of l) && all-on-grid (row-of m))
+on-both l m = ap all-on-grid (row-of-joined l m) ∙ on-joined (row-of l) (row-of m)
 
 on-moved : (l m : List Point) → all-on-grid (row-of (m ++ l)) ≡ all-on-grid (row-of (l ++ m))
-on-moved l m = on-joined m l ∙ and-comm (all-on-grid (row-of m)) (all-on-grid (row-of l)) ∙ sym (on-joined l m)
+on-moved l m = on-both m l ∙ and-comm (all-on-grid (row-of m)) (all-on-grid (row-of l)) ∙ sym (on-both l m)
 
 on-reversed : (c : List Point) → all-on-grid (row-of (reverse c)) ≡ all-on-grid (row-of c)
 on-reversed [] = refl
 on-reversed (a ∷ l) =
     ap (λ (w : List Point). all-on-grid (row-of w)) (reverse-cons a l) ∙ on-moved (a ∷ []) (reverse l)
-    ∙ on-joined (a ∷ []) (reverse l) ∙ ap (λ (t : Bool). all-on-grid (row-of (a ∷ [])) && t) (on-reversed l) ∙ sym (on-joined (a ∷ []) l)
+    ∙ on-both (a ∷ []) (reverse l) ∙ ap (λ (t : Bool). all-on-grid (row-of (a ∷ [])) && t) (on-reversed l) ∙ sym (on-both (a ∷ []) l)
 
 -- a row is refused by its length and by whether it is on the grid
 same-refusals : (q : Point) (r s : List ℤ) → length r ≡ length s → all-on-grid r ≡ all-on-grid s → first-of (refusals q r) ≡ first-of (refusals q s)
@@ -163,7 +164,7 @@ module _ (x y : ℤ) where
   another-start-is-located-alike l m =
       let q : Point = record { x = x; y = y } in
       let long : length (row-of (m ++ l)) ≡ length (row-of (l ++ m)) = omega (arith, length-row-of (m ++ l), length-row-of (l ++ m), length-append m l, length-append l m) in
-      ap₂ placed (same-refusals q (row-of (m ++ l)) (row-of (l ++ m)) long (on-moved l m))
+      ap₂ answer (same-refusals q (row-of (m ++ l)) (row-of (l ++ m)) long (on-moved l m))
       (ap (location q) (points-row-of (m ++ l)) ∙ another-start-keeps-the-place q l m ∙ sym (ap (location q) (points-row-of (l ++ m))))
 
   pub reversed-is-located-alike : (c : List Point) → located (row-of (reverse c)) x y ≡ located (row-of c) x y
@@ -171,5 +172,5 @@ module _ (x y : ℤ) where
   reversed-is-located-alike c =
       let q : Point = record { x = x; y = y } in
       let long : length (row-of (reverse c)) ≡ length (row-of c) = omega (arith, length-row-of (reverse c), length-row-of c, length-reverse c) in
-      ap₂ placed (same-refusals q (row-of (reverse c)) (row-of c) long (on-reversed c))
+      ap₂ answer (same-refusals q (row-of (reverse c)) (row-of c) long (on-reversed c))
       (ap (location q) (points-row-of (reverse c)) ∙ reversing-keeps-the-place q c ∙ sym (ap (location q) (points-row-of c)))

@@ -16,13 +16,13 @@ use Rattle.replies.specs.Verdicts.{verdict}
 abbrev pub one-way : List Corner → Bool
 one-way ks = not (some left-at ks && some right-at ks) && not (some reverses-at ks)
 
--- at most two left, or those left turn one way
-unfoldable pub convex-left : List Point → Bool
-convex-left l = leb (length l) 2 || one-way (corners l)
+-- a contour without equal neighbours: at most two points, or all its corners turn one way
+unfoldable pub convex-distinct : List Point → Bool
+convex-distinct l = leb (length l) 2 || one-way (corners l)
 
--- at most two points, or what is left after skipping equal neighbours is convex
+-- at most two points, or convex where equal neighbours are skipped
 unfoldable pub is-convex : List Point → Bool
-is-convex l = leb (length l) 2 || convex-left (distinct-neighbours l)
+is-convex l = leb (length l) 2 || convex-distinct (distinct-neighbours l)
 
 -- the answer
 unfoldable pub convex : List ℤ → Verdict

@@ -35,12 +35,12 @@ unfoldable pub location : Point → List Point → ℕ
 location p c = elim (on-boundary p c) [ true ↦ 1 | false ↦ elim (contained p c) [ true ↦ 2 | false ↦ 0 ] ]
 
 -- a refusal's number and 0, or 0 and the place
-abbrev pub placed : ℕ → ℕ → Located
-placed zero k = record { reply = 0; place = k }
-placed (suc r) k = record { reply = suc r; place = 0 }
+abbrev pub answer : ℕ → ℕ → Located
+answer zero k = record { reply = 0; place = k }
+answer (suc r) k = record { reply = suc r; place = 0 }
 
 -- the answer
 unfoldable pub located : List ℤ → ℤ → ℤ → Located
 located row x y =
     let p : Point = record { x = x; y = y } in
-    placed (first-of (refusals p row)) (location p (points row))
+    answer (first-of (refusals p row)) (location p (points row))

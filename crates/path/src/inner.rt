@@ -9,7 +9,7 @@ ghost use Rattle.replies.specs.Ladder.{first-of};
 ghost use Rattle.grid.specs.Domain.{domain, Contour};
 ghost use Rattle.grid.specs.inside.Edges.{Short};
 ghost use Rattle.grid.specs.inside.Rows.{FirstOther};
-ghost use Rattle.path.specs.Convex.{convex-left};
+ghost use Rattle.path.specs.Convex.{convex-distinct};
 ghost use Rattle.path.specs.inside.Contains.{Across, Changing, before as before-of};
 ghost use Rattle.path.specs.inside.Convex.{looked, one-sided};
 ghost use Rattle.path.specs.inside.Locate.{under, Untouched};
@@ -45,7 +45,7 @@ fn closes(seen: Seen, to: Edge, from: Edge) -> bool
 // where the way does not turn can an edge be still: it leads to an equal neighbour, and is passed over.
 pub fn one_way(points: &[i32], n: usize, first: usize) -> bool
     requires { ⌜ Contour (now points) n × FirstOther (now points) n first × (first < n) ⌝ }
-    ensures { λ r. ⌜ r ≡ convex-left (distinct-neighbours (points-of (now (points .entry)))) ⌝ }
+    ensures { λ r. ⌜ r ≡ convex-distinct (distinct-neighbours (points-of (now (points .entry)))) ⌝ }
 {
     let closing = grid::inner::edge_at(points, n - 1, first);
     let mut to = closing;

@@ -72,7 +72,7 @@ module _ (rule : Rule) (row : List ℤ) (l : Cleaning.Lent) (o : Cleaning.Outcom
       record { output-untouched = z .out-is; next-zeroed = z .next-zeroed; prev-zeroed = z .prev-zeroed; mark-zeroed = z .mark-zeroed }
 
 -- A shape that is cleaned.
-fate-done : (n : ℕ) (f : ShapeFate) (l : SetCleaning.Lent) → (SetCleaning.shape-left n f l .answer .reply ≡ 0) ⊎ (SetCleaning.shape-left n f l .answer .reply ≡ 7)
+fate-done : (n : ℕ) (f : ShapeFate) (l : SetCleaning.Lent) → (SetCleaning.cleaned-shape n f l .answer .reply ≡ 0) ⊎ (SetCleaning.cleaned-shape n f l .answer .reply ≡ 7)
 fate-done n (stands contours decisions) l = inl refl
 fate-done n (fallen decisions) l = inr refl
 
@@ -81,7 +81,7 @@ module _ (rule : Rule) (p : List ℤ) (cs : List (List ℕ)) (l : SetCleaning.Le
   unfolding SetCleaning.shape-outcome
   shape-numbered =
       let fate = shape-fate rule (contours p (spans cs)) in
-      numbered set-cleanings _ (λ k. SetCleaning.outcome k l (SetCleaning.shape-left (count p) fate l) .answer) (λ k. refl) (fate-done (count p) fate l) (ap (λ (w : SetCleaning.Outcome). w .answer) is)
+      numbered set-cleanings _ (λ k. SetCleaning.outcome k l (SetCleaning.cleaned-shape (count p) fate l) .answer) (λ k. refl) (fate-done (count p) fate l) (ap (λ (w : SetCleaning.Outcome). w .answer) is)
 
   pub shape-collapsed : o .answer .reply ≡ 7 → ShapeOnlyZeroed (count p) l (o .rows)
   shape-collapsed seven =
@@ -94,7 +94,7 @@ module _ (rule : Rule) (p : List ℤ) (cs ss : List (List ℕ)) (l : SetCleaning
   pub shapes-numbered : Numbered set-cleanings (shapes-refusals p cs ss l) (o .answer)
   unfolding SetCleaning.shapes-outcome
   shapes-numbered =
-      numbered set-cleanings _ (λ k. SetCleaning.outcome k l (SetCleaning.shapes-left (count p) (shapes-fate rule (shapes p (spans cs) (spans ss))) l) .answer) (λ k. refl) (inl refl)
+      numbered set-cleanings _ (λ k. SetCleaning.outcome k l (SetCleaning.cleaned-shapes (count p) (shapes-fate rule (shapes p (spans cs) (spans ss))) l) .answer) (λ k. refl) (inl refl)
       (ap (λ (w : SetCleaning.Outcome). w .answer) is)
 
 -- A file that is written.

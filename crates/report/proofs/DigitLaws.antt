@@ -31,15 +31,15 @@ digits-more j (suc k) n =
     ∙ append-assoc (digits 10 j (n / 10 ^ suc k)) (digits 10 k (n / 10)) (glyph (n % 10) ∷ [])
 
 -- the last k digits of what is left by 10 ^ k
-pub digits-left : (k n : ℕ) → digits 10 k (n % 10 ^ k) ≡ digits 10 k n
-digits-left zero n = refl
-digits-left (suc k) n =
+pub digits-low : (k n : ℕ) → digits 10 k (n % 10 ^ k) ≡ digits 10 k n
+digits-low zero n = refl
+digits-low (suc k) n =
     let e : n % 10 ^ suc k ≡ n / 10 % 10 ^ k * 10 + n % 10 =
     ap (λ (m : ℕ). n % m) (pow-succ' 10 k ∙ mul-comm 10 (10 ^ k)) ∙ mod-mul n (pow-positive k) (lit< tt) in
     let high : n % 10 ^ suc k / 10 ≡ n / 10 % 10 ^ k = ap (λ (m : ℕ). m / 10) e ∙ digits-div (n / 10 % 10 ^ k) (mod-lt n (lit< tt)) in
     let low : n % 10 ^ suc k % 10 ≡ n % 10 = ap (λ (m : ℕ). m % 10) e ∙ digits-mod (n / 10 % 10 ^ k) (mod-lt n (lit< tt)) in
     ap₂ (λ (h l : ℕ). digits 10 k h ++ (glyph l ∷ [])) high low
-    ∙ ap (λ (d : List ℕ). d ++ (glyph (n % 10) ∷ [])) (digits-left k (n / 10))
+    ∙ ap (λ (d : List ℕ). d ++ (glyph (n % 10) ∷ [])) (digits-low k (n / 10))
 
 -- a number of at least k + 1 digits: what stands before the last k, and those
 module _ (k n : ℕ) (small : n < 2 ^ 64) (high : 10 ^ k ≤ n) where
@@ -102,7 +102,7 @@ module _ {at : ℕ} {text : List ℕ} (j k n : ℕ) {r : ℕ} {t : List ℕ} (h 
   digits-room = omega (arith, room-behind p (digits 10 k n) roomy, digits-length k n)
 
   pub digits-put : {e : ℕ} {exit : List ℕ} → Put r (digits 10 k (n % 10 ^ k)) t e exit → Put at (digits 10 (j + k) n) text e exit
-  digits-put q = rw (digits-more j k n) (both-put p (digits 10 k n) roomy (rw (sym (digits-left k n)) q))
+  digits-put q = rw (digits-more j k n) (both-put p (digits 10 k n) roomy (rw (sym (digits-low k n)) q))
 
 -- a number of more than k digits is put: what stands before the last k, and those
 module _ (at : ℕ) (text : List ℕ) (k n : ℕ) (small : n < 2 ^ 64) (high : 10 ^ k ≤ n) (h : at + length (decimal n) ≤ length text) where
@@ -117,4 +117,4 @@ module _ (at : ℕ) (text : List ℕ) (k n : ℕ) (small : n < 2 ^ 64) (high : 1
     last-room = omega (arith, room-behind p (digits 10 k n) room-for-both, digits-length k n)
 
     pub last-put : {e : ℕ} {exit : List ℕ} → Put r (digits 10 k (n % 10 ^ k)) t e exit → Put at (decimal n) text e exit
-    last-put q = rw (decimal-more k n small high) (both-put p (digits 10 k n) room-for-both (rw (sym (digits-left k n)) q))
+    last-put q = rw (decimal-more k n small high) (both-put p (digits 10 k n) room-for-both (rw (sym (digits-low k n)) q))

@@ -46,8 +46,8 @@ linked-fresh : (n : ℕ) (next prev : List ℕ) → length next ≡ n → length
 linked-fresh n next prev ln lp round first links = record {
   next-long = ln ∙ sym (length-replicate n unmarked);
   prev-long = lp ∙ sym (length-replicate n unmarked);
-  forward = λ p s. ahead p (rw length-replicate at (inside (fresh n) p s));
-  backward = λ p s. back p (rw length-replicate at (inside (fresh n) p s));
+  to-successor = λ p s. ahead p (rw length-replicate at (inside (fresh n) p s));
+  to-predecessor = λ p s. back p (rw length-replicate at (inside (fresh n) p s));
 }
   where
     ahead : (p : ℕ) → p < n → getD next p 0 ≡ successor (fresh n) p

@@ -33,8 +33,8 @@ here {m} l c s = record {
   inside-marks = inside m c s;
   inside-next = omega (arith, inside m c s, l .next-long);
   inside-prev = omega (arith, inside m c s, l .prev-long);
-  next-is = l .forward c s;
-  prev-is = l .backward c s;
+  next-is = l .to-successor c s;
+  prev-is = l .to-predecessor c s;
   successor-inside = inside m (successor m c) (successor-survives m c s);
   predecessor-inside = inside m (predecessor m c) (predecessor-survives m c s);
   successor-lives = successor-survives m c s;
@@ -45,8 +45,8 @@ pub linked-same : {m m′ next prev : List ℕ} → Same m m′ → Linked m nex
 linked-same x l = record {
   next-long = l .next-long ∙ x .long;
   prev-long = l .prev-long ∙ x .long;
-  forward = λ p s. l .forward p (same-survivor (same-sym x) p s) ∙ same-successor x p;
-  backward = λ p s. l .backward p (same-survivor (same-sym x) p s) ∙ same-predecessor x p;
+  to-successor = λ p s. l .to-successor p (same-survivor (same-sym x) p s) ∙ same-successor x p;
+  to-predecessor = λ p s. l .to-predecessor p (same-survivor (same-sym x) p s) ∙ same-predecessor x p;
 }
 
 -- Who survives a removal survived before it, and isn't what was removed.
@@ -66,17 +66,17 @@ linked-unlinked {m} {next} {prev} {c} x =
     record {
       next-long = length-set next _ _ ∙ l .next-long ∙ sym (length-set m c removed);
       prev-long = length-set prev _ _ ∙ l .prev-long ∙ sym (length-set m c removed);
-      forward = λ q t.
+      to-successor = λ q t.
           let o = survived m c q (inside m c s) t in
           ⊎-elim
           (λ (e : q ≡ predecessor m c). rw (e, getD-set-same next (predecessor m c) (successor m c) 0 (omega (arith, l .next-long))) (sym (gap-successor m c s more)))
-          (λ n. getD-set-other next (predecessor m c) q (successor m c) 0 n ∙ l .forward q (o .0) ∙ sym (far-successor m c s q (o .0) (o .1) n))
+          (λ n. getD-set-other next (predecessor m c) q (successor m c) 0 n ∙ l .to-successor q (o .0) ∙ sym (far-successor m c s q (o .0) (o .1) n))
           (same? q (predecessor m c));
-      backward = λ q t.
+      to-predecessor = λ q t.
           let o = survived m c q (inside m c s) t in
           ⊎-elim
           (λ (e : q ≡ successor m c). rw (e, getD-set-same prev (successor m c) (predecessor m c) 0 (omega (arith, l .prev-long))) (sym (gap-predecessor m c s more)))
-          (λ n. getD-set-other prev (successor m c) q (predecessor m c) 0 n ∙ l .backward q (o .0) ∙ sym (far-predecessor m c s q (o .0) (o .1) n))
+          (λ n. getD-set-other prev (successor m c) q (predecessor m c) 0 n ∙ l .to-predecessor q (o .0) ∙ sym (far-predecessor m c s q (o .0) (o .1) n))
           (same? q (successor m c));
     }
 

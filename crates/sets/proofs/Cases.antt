@@ -15,7 +15,7 @@ use Rattle.replies.specs.Ladder.{first-of}
 use Rattle.grid.specs.Cases.{row, W3, W11}
 use Rattle.path.specs.Contains.{crosses, odd, contained}
 use Rattle.path.specs.Locate.{on-edge, touched, on-boundary, location}
-use Rattle.clean.specs.Verdicts.{is-simple, no-spike-left, no-spikes}
+use Rattle.clean.specs.Verdicts.{is-simple, spike-free-distinct, no-spikes}
 use Rattle.buffer.specs.Spans.{sound-from}
 use Rattle.sets.specs.Verdicts.{every, verdict-by, simple, spike-free, shapes-simple, shapes-spike-free}
 use Rattle.sets.specs.Area.{sum, doubled-by, half-by, doubled, half, shapes-doubled, shapes-half}
@@ -50,7 +50,7 @@ of-two :
     (simple (W3 ++ W3) (0 to 3 ∷ 3 to 6 ∷ []) ≡ answered true)
     × (simple (W3 ++ straight) (0 to 3 ∷ 3 to 7 ∷ []) ≡ answered false)
     × (spike-free (W3 ++ straight) (0 to 3 ∷ 3 to 7 ∷ []) ≡ answered true)
-unfolding limit most on-grid all-on-grid points cross dot last differing distinct-neighbours corners-from corners some first-of sound-from is-simple no-spike-left no-spikes every verdict-by
+unfolding limit most on-grid all-on-grid points cross dot last differing distinct-neighbours corners-from corners some first-of sound-from is-simple spike-free-distinct no-spikes every verdict-by
 of-two = (refl, refl, refl)
 
 -- points without ranges
@@ -83,7 +83,7 @@ lost :
     × (shapes-doubled W3 (0 to 3 ∷ []) [] ≡ record { reply = 6; value = pos 0 })
     × (shapes-half W3 (0 to 3 ∷ []) (5 to 99 ∷ []) ≡ record { reply = 6; value = pos 0 })
     × (doubled W3 (0 to 3 ∷ []) ≡ record { reply = 0; value = pos 16 })
-unfolding mod64 limit most on-grid all-on-grid points around exact wrapped cross dot last differing distinct-neighbours corners-from corners some first-of sound-from is-simple no-spike-left no-spikes every verdict-by sum doubled-by half-by
+unfolding mod64 limit most on-grid all-on-grid points around exact wrapped cross dot last differing distinct-neighbours corners-from corners some first-of sound-from is-simple spike-free-distinct no-spikes every verdict-by sum doubled-by half-by
 lost = (refl, refl, refl, refl, refl, refl, refl)
 
 -- a shape set is judged by its contours: two shapes, an empty one between them; an empty contour anywhere is 8, behind 3
@@ -95,7 +95,7 @@ of-shapes :
     × (shapes-half W11 (0 to 3 ∷ []) (0 to 1 ∷ []) ≡ record { reply = 0; value = pos 0 })
     × (shapes-doubled W3 (0 to 3 ∷ 3 to 3 ∷ []) (0 to 1 ∷ 1 to 2 ∷ []) ≡ record { reply = 8; value = pos 0 })
     × (shapes-half (row (0 ∷ 536870913 ∷ [])) (0 to 1 ∷ 1 to 1 ∷ []) (0 to 2 ∷ []) ≡ record { reply = 3; value = pos 0 })
-unfolding mod64 limit most on-grid all-on-grid points around exact wrapped cross dot last differing distinct-neighbours corners-from corners some first-of sound-from is-simple no-spike-left no-spikes every verdict-by sum doubled-by half-by
+unfolding mod64 limit most on-grid all-on-grid points around exact wrapped cross dot last differing distinct-neighbours corners-from corners some first-of sound-from is-simple spike-free-distinct no-spikes every verdict-by sum doubled-by half-by
 of-shapes = (refl, refl, refl, refl, refl, refl, refl)
 
 -- a square with a square hole, and two squares that overlap

@@ -29,7 +29,7 @@ use Rattle.sets.specs.declared.inner.contour.Tried.{Tried}
 use Rattle.sets.specs.declared.inner.shapes.Total.{Total}
 use Rattle.sets.specs.Fates.{ShapeFate, shape-fate, shapes-fate}
 use Rattle.sets.specs.Fates.ShapeFate.{stands, fallen}
-use Rattle.sets.specs.Outcome.{answer, Lent, Outcome, lent, leaving, enough, lacking, outcome, shape-left, shape-outcome, shapes-outcome}
+use Rattle.sets.specs.Outcome.{answer, Lent, Outcome, lent, leaving, enough, lacking, outcome, cleaned-shape, shape-outcome, shapes-outcome}
 use Rattle.sets.specs.inside.Contour.{reached, none-yet, Scratch}
 use Rattle.sets.specs.inside.Shape.{Tested, tested, run-shape, Zeroed, Room, Named, Going, shape-answer}
 use Rattle.sets.specs.inside.Shapes.{Grouped, grouped, run-shapes, Each}
@@ -38,9 +38,9 @@ use Rattle.sets.proofs.AfterLaws.{shaped, shape-after}
 use Rattle.sets.proofs.ShapesLaws.{among, shapes-after}
 
 -- the parts of an outcome
-pub same-left : {a b : CleanedSet} {n m p q k l : List ℕ} {o u : List ℤ} {c d s t : List (List ℕ)} → a ≡ b → n ≡ m → p ≡ q → k ≡ l → o ≡ u → c ≡ d → s ≡ t
+pub same-leaving : {a b : CleanedSet} {n m p q k l : List ℕ} {o u : List ℤ} {c d s t : List (List ℕ)} → a ≡ b → n ≡ m → p ≡ q → k ≡ l → o ≡ u → c ≡ d → s ≡ t
     → leaving a (lent n p k o c s) ≡ leaving b (lent m q l u d t)
-same-left e f g h i j k = cc
+same-leaving e f g h i j k = cc
 
 -- the scratch of n points, zeroed and put back
 pub zeroed-back : (n : ℕ) (row row′ : List ℕ) → n ≤ length row → row′ ≡ replicate (length (take n row)) 0 → row′ ++ drop n row ≡ zeroed n row
@@ -116,7 +116,7 @@ module _ (p : List ℤ) (cs ss : List (List ℕ)) (ok : Bool) (l : Lent) where
         ≡ leaving b (lent (zeroed (count p) (l .next)) (zeroed (count p) (l .prev)) (zeroed (count p) (l .mark)) u d t)
     swept-back next′ prev′ mark′ y a b e o u f c d g s t h =
         let x = scratch-fits in
-        same-left e
+        same-leaving e
         (zeroed-back (count p) (l .next) next′ (x .in-next) (y .next-zero))
         (zeroed-back (count p) (l .prev) prev′ (x .in-prev) (y .prev-zero))
         (zeroed-back (count p) (l .mark) mark′ (x .in-mark) (y .mark-zero))
@@ -170,20 +170,20 @@ module _ (p : List ℤ) (cs : List (List ℕ)) (l : Lent) where
     module _ (rule : Rule) (t : Tried) (next′ prev′ mark′ : List ℕ) (out′ : List ℤ) (records′ : List (List ℕ))
         (e : tested (t .stays) (reached (t .progress) out′ records′) ≡ run-shape rule (contours p (spans cs)) (reached none-yet (l .points) (l .contours)))
         (s : Zeroed (take (count p) (l .next)) (take (count p) (l .prev)) (take (count p) (l .mark)) next′ prev′ mark′) where
-      abbrev left-so : CleanedSet → Outcome
-      left-so a = leaving a (lent (next′ ++ drop (count p) (l .next)) (prev′ ++ drop (count p) (l .prev)) (mark′ ++ drop (count p) (l .mark)) out′ records′ (l .shapes))
+      abbrev leaving-so : CleanedSet → Outcome
+      leaving-so a = leaving a (lent (next′ ++ drop (count p) (l .next)) (prev′ ++ drop (count p) (l .prev)) (mark′ ++ drop (count p) (l .mark)) out′ records′ (l .shapes))
 
-      done : shape-outcome rule p cs l ≡ shape-left (count p) (shape-fate rule (contours p (spans cs))) l
+      done : shape-outcome rule p cs l ≡ cleaned-shape (count p) (shape-fate rule (contours p (spans cs))) l
       unfolding shape-outcome
       done = rw (z, shape-outcome)
 
       cleaned : tested (t .stays) (reached (t .progress) out′ records′) ≡ shaped rule (shape-fate rule (contours p (spans cs))) (reached none-yet (l .points) (l .contours))
       cleaned = e ∙ shape-after rule (contours p (spans cs)) (reached none-yet (l .points) (l .contours)) (all-named p cs named) shape-room
 
-      pub shape-is-done : (a : CleanedSet) → a ≡ shape-answer (t .stays) (t .progress) → left-so a ≡ shape-outcome rule p cs l
+      pub shape-is-done : (a : CleanedSet) → a ≡ shape-answer (t .stays) (t .progress) → leaving-so a ≡ shape-outcome rule p cs l
       shape-is-done a f = go (shape-fate rule (contours p (spans cs))) cleaned ∙ sym done
         where
-          go : (w : ShapeFate) → tested (t .stays) (reached (t .progress) out′ records′) ≡ shaped rule w (reached none-yet (l .points) (l .contours)) → left-so a ≡ shape-left (count p) w l
+          go : (w : ShapeFate) → tested (t .stays) (reached (t .progress) out′ records′) ≡ shaped rule w (reached none-yet (l .points) (l .contours)) → leaving-so a ≡ cleaned-shape (count p) w l
           go (fallen k) q =
               let d : t .progress .decisions ≡ k = ap (λ (x : Tested). x .reached .progress .decisions) q ∙ omega arith in
               let e : a ≡ answer 7 0 0 0 k = f ∙ ap (λ (b : Bool). shape-answer b (t .progress)) (ap (λ (x : Tested). x .stands) q) ∙ ap (answer 7 0 0 0) d in
@@ -254,7 +254,7 @@ module _ (p : List ℤ) (cs ss : List (List ℕ)) (l : Lent) where
         e ∙ shapes-after rule all start (all-cut (contours p (spans cs)) (spans ss) (all-named p cs (shapes-each .named))) all-room (omega (arith, shapes-each .space)) in
         let a : t .progress .points ≡ count (joined (joined ds)) = ap (λ (x : Grouped). x .reached .progress .points) q ∙ omega arith in
         let b : t .progress .contours ≡ length (joined ds) = ap (λ (x : Grouped). x .reached .progress .contours) q ∙ omega arith in
-        let c : t .shapes ≡ length ds = ap (λ (x : Grouped). x .count) q ∙ omega arith in
+        let c : t .shapes ≡ length ds = ap (λ (x : Grouped). x .written) q ∙ omega arith in
         let d : t .progress .decisions ≡ shapes-fate rule all .decisions = ap (λ (x : Grouped). x .reached .progress .decisions) q ∙ omega arith in
         let f : _≡_ {A = CleanedSet} (answer 0 (t .progress .points) (t .progress .contours) (t .shapes) (t .progress .decisions)) (answer 0 (count (joined (joined ds))) (length (joined ds)) (length ds) (shapes-fate rule all .decisions)) = cc in
         swept-back p cs ss both-sound l z next′ prev′ mark′ s _ _ (so-far ∙ f)

@@ -12,7 +12,7 @@ use Rattle.grid.specs.Cases.{row, W3, W4, W7, W9}
 use Rattle.ring.specs.declared.Rule.the-variants.{Collinear, Spike}
 use Rattle.ring.specs.Walk.{survivors-from, others, successor, predecessor, occurrences, unmark, unmark-about, remove, decide, look, looks, walk}
 use Rattle.ring.specs.Rule.{goes-at}
-use Rattle.clean.specs.Verdicts.{is-simple, no-spike-left, no-spikes}
+use Rattle.clean.specs.Verdicts.{is-simple, spike-free-distinct, no-spikes}
 use Rattle.clean.specs.Outcome.{chosen}
 use Rattle.buffer.specs.Spans.{laid, sound-from}
 use Rattle.buffer.specs.Sets.{joined}
@@ -29,7 +29,7 @@ line = row (0 ∷ 0 ∷ 2 ∷ 0 ∷ 4 ∷ 0 ∷ [])
 
 -- the duplicate of W7 stays, after 0 decisions
 w7-stays : fate Spike W7 ≡ stays W7 0
-unfolding limit most on-grid all-on-grid points cross dot last differing distinct-neighbours corners-from corners some first-of no-spike-left no-spikes fate
+unfolding limit most on-grid all-on-grid points cross dot last differing distinct-neighbours corners-from corners some first-of spike-free-distinct no-spikes fate
 w7-stays = refl
 
 -- a shape that starts with a line falls with it, whatever follows

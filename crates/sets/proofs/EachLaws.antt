@@ -8,7 +8,7 @@ use native.Mathlib.Numerals.{add-one}
 use lib.Dec.{eqb}
 use lib.IntN.{ℤ}
 use lib.ListN.{length, getD, take, drop, length-append, length-drop, length-map, length-set}
-use lib.Seq.{drop-cons, drop-length, getD-drop, getD-take, length-take-le, take-all}
+use lib.Seq.{drop-cons, drop-length, getD-drop, getD-take, length-take-le}
 use borrow.Author.Tests.{eq-eqb, ne-eqb}
 use borrow.Rule.Slice.PartMut.{midOf}
 use Rattle.grid.specs.Domain.{count}
@@ -27,7 +27,8 @@ use Rattle.sets.specs.Promises.{Contours}
 use Rattle.sets.proofs.FateLaws.{fate-smaller}
 use Rattle.sets.proofs.BehindLaws.{joined-more, all-named}
 use Rattle.sets.proofs.ShapeLaws.{names-moved}
-use Rattle.buffer.proofs.SetLaws.{joined-append}
+use Rattle.buffer.proofs.SetLaws.{joined-append, all-of}
+use Rattle.buffer.proofs.RowLaws.{spans-length}
 use Rattle.sets.proofs.AfterLaws.{placing-long, room-next}
 
 pub joined-both : (l k : List (List ℤ)) → length (joined (l ++ k)) ≡ length (joined l) + length (joined k)
@@ -107,12 +108,12 @@ pub adding-reached : (b : Bool) (r : Reached) (s : Grouped) → adding b r s .re
 adding-reached true r s = refl
 adding-reached false r s = refl
 
-pub adding-few : (b : Bool) (r : Reached) (s : Grouped) → adding b r s .count ≤ s .count + 1
+pub adding-few : (b : Bool) (r : Reached) (s : Grouped) → adding b r s .written ≤ s .written + 1
 adding-few true r s = omega arith
 adding-few false r s = omega arith
 
 pub adding-long : (b : Bool) (r : Reached) (s : Grouped) → length (adding b r s .shapes) ≡ length (s .shapes)
-adding-long true r s = length-set (s .shapes) (s .count) _
+adding-long true r s = length-set (s .shapes) (s .written) _
 adding-long false r s = refl
 
 pub grouping-none : (rule : Rule) (p : List ℤ) (cs ss : List (List ℕ)) (next prev mark : List ℕ) (out : List ℤ) (records groups : List (List ℕ)) → Each p cs ss next prev mark out records groups
@@ -171,7 +172,7 @@ module _ {rule : Rule} {p : List ℤ} {cs ss : List (List ℕ)} {out₀ : List �
         let q : reached (t .progress) out′ records′ ≡ u .reached = ap (λ (w : Grouped). w .reached) e ∙ adding-reached (u .stands) (u .reached) _ in
         record {
           high = omega arith;
-          low = omega (arith, x .low, ap (λ (w : Grouped). w .count) e, adding-few (u .stands) (u .reached) (grouped (at .shapes) s groups));
+          low = omega (arith, x .low, ap (λ (w : Grouped). w .written) e, adding-few (u .stands) (u .reached) (grouped (at .shapes) s groups));
           out-long = ap (λ (w : Reached). length (w .points)) q ∙ y .points-long ∙ x .out-long;
           records-long = ap (λ (w : Reached). length (w .contours)) q ∙ y .contours-long ∙ x .records-long;
           groups-long = ap (λ (w : Grouped). length (w .shapes)) e ∙ adding-long (u .stands) (u .reached) (grouped (at .shapes) s groups) ∙ x .groups-long;
@@ -194,9 +195,7 @@ module _ (p : List ℤ) (cs : List (List ℕ)) where
   alone = row (every cs) ∷ []
 
   all-is : cut (contours p (spans cs)) (every cs) ≡ contours p (spans cs)
-  all-is =
-      let n : length (contours p (spans cs)) ≡ length cs = length-map (spans cs) (contour p) ∙ length-map cs span in
-      take-all (length cs - 0) (contours p (spans cs)) (omega arith)
+  all-is = all-of (contours p (spans cs)) (every cs) refl (sym (length-map (spans cs) (contour p) ∙ spans-length cs))
 
   module _ (out : List ℤ) (records groups : List (List ℕ)) where
     pub alone-each : (next prev mark : List ℕ) → Going p cs none-yet next prev mark out records → length groups ≡ 1 → Each p cs alone next prev mark out records groups
@@ -222,5 +221,5 @@ module _ (p : List ℤ) (cs : List (List ℕ)) where
       where
         go : (b : Bool) (r : Reached) → grouped (t .shapes) (reached (t .progress) out′ records′) groups′ ≡ adding b r (grouped 0 (reached none-yet out records) groups)
             → tested (eqb (t .shapes) 1) (reached (t .progress) out′ records′) ≡ tested b r
-        go true r f = ap₂ tested (eq-eqb (t .shapes) 1 (ap (λ (w : Grouped). w .count) f)) (ap (λ (w : Grouped). w .reached) f)
-        go false r f = ap₂ tested (ne-eqb (t .shapes) 1 (λ h. absurd (omega (arith, h, ap (λ (w : Grouped). w .count) f)))) (ap (λ (w : Grouped). w .reached) f)
+        go true r f = ap₂ tested (eq-eqb (t .shapes) 1 (ap (λ (w : Grouped). w .written) f)) (ap (λ (w : Grouped). w .reached) f)
+        go false r f = ap₂ tested (ne-eqb (t .shapes) 1 (λ h. absurd (omega (arith, h, ap (λ (w : Grouped). w .written) f)))) (ap (λ (w : Grouped). w .reached) f)

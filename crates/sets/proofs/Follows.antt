@@ -14,7 +14,7 @@ use Rattle.grid.specs.Cases.{W9, W10}
 use Rattle.ring.specs.declared.Rule.{Rule}
 use Rattle.ring.specs.declared.Rule.the-variants.{Collinear, Spike}
 use Rattle.ring.proofs.Branches.{true-false}
-use Rattle.clean.specs.Verdicts.{is-simple, no-spike-left, no-spikes, passes}
+use Rattle.clean.specs.Verdicts.{is-simple, spike-free-distinct, no-spikes, passes}
 use Rattle.sets.specs.Promises.{Contours, AllContours, KeptAs, LaterFollow, Follow, ShapesFollow}
 use Rattle.sets.specs.Promises.LaterFollow.{stays, goes}
 use Rattle.sets.specs.Promises.Follow.{outline}
@@ -68,7 +68,7 @@ module _ (rule : Rule) where
 
   -- W10 has no area, and passes both verdicts
   w10-passes : passes rule (points W10) ≡ true
-  unfolding points cross dot last differing distinct-neighbours corners-from corners some is-simple no-spike-left no-spikes
+  unfolding points cross dot last differing distinct-neighbours corners-from corners some is-simple spike-free-distinct no-spikes
   w10-passes = go rule
     where
       go : (rule : Rule) → passes rule (points W10) ≡ true

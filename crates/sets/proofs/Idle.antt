@@ -16,7 +16,7 @@ use Rattle.ring.specs.declared.Rule.{Rule}
 use Rattle.ring.specs.declared.Rule.the-variants.{Collinear, Spike}
 use Rattle.ring.specs.Walk.{survivors-from, others, successor, predecessor, occurrences, unmark, unmark-about, remove, decide, look, looks, walk}
 use Rattle.ring.specs.Rule.{goes-at}
-use Rattle.clean.specs.Verdicts.{is-simple, no-spike-left, no-spikes}
+use Rattle.clean.specs.Verdicts.{is-simple, spike-free-distinct, no-spikes}
 use Rattle.clean.specs.Outcome.{chosen}
 use Rattle.buffer.specs.Spans.{spans, laid, sound-from}
 use Rattle.buffer.specs.Sets.{joined, contours}
@@ -24,7 +24,7 @@ use Rattle.buffer.specs.Contours.{refusals}
 use Rattle.sets.specs.Fates.{Fate, fate, later, ShapeFate, behind, shape-fate}
 use Rattle.sets.specs.Fates.Fate.{stays, gone}
 use Rattle.sets.specs.Fates.ShapeFate.{stands}
-use Rattle.sets.specs.Outcome.{Lent, Outcome, lacking, shape-left, shape-outcome}
+use Rattle.sets.specs.Outcome.{Lent, Outcome, lacking, cleaned-shape, shape-outcome}
 
 -- the first contour cleaned and the rest copied, with the decisions of a cleaning of all
 abbrev pub first-alone : Rule → List (List ℤ) → ShapeFate
@@ -33,7 +33,7 @@ first-alone rule (c ∷ l) = behind (fate rule c) (record { contours = l; decisi
 
 -- what such a program answers, and leaves in the rows
 abbrev pub idle : Rule → List ℤ → List (List ℕ) → Lent → Outcome
-idle rule p cs l = shape-left (points-in p) (first-alone rule (contours p (spans cs))) l
+idle rule p cs l = cleaned-shape (points-in p) (first-alone rule (contours p (spans cs))) l
 
 -- the calls that no rung refuses
 abbrev pub Taken : List ℤ → List (List ℕ) → Lent → Type 0
@@ -44,12 +44,12 @@ pub its-decisions-are-right : (rule : Rule) (p : List ℤ) (cs : List (List ℕ)
 unfolding shape-outcome shape-fate
 its-decisions-are-right rule p cs l z = rw (z, shape-outcome) (go (contours p (spans cs)))
   where
-    first : (f : Fate) (s : List (List ℤ)) → shape-left (points-in p) (behind f (record { contours = s; decisions = later rule s .decisions })) l .answer .decisions
-        ≡ shape-left (points-in p) (behind f (later rule s)) l .answer .decisions
+    first : (f : Fate) (s : List (List ℤ)) → cleaned-shape (points-in p) (behind f (record { contours = s; decisions = later rule s .decisions })) l .answer .decisions
+        ≡ cleaned-shape (points-in p) (behind f (later rule s)) l .answer .decisions
     first (stays d k) s = refl
     first (gone k) s = refl
 
-    go : (s : List (List ℤ)) → shape-left (points-in p) (first-alone rule s) l .answer .decisions ≡ shape-left (points-in p) (shape-fate rule s) l .answer .decisions
+    go : (s : List (List ℤ)) → cleaned-shape (points-in p) (first-alone rule s) l .answer .decisions ≡ cleaned-shape (points-in p) (shape-fate rule s) l .answer .decisions
     go [] = refl
     go (c ∷ s) = first (fate rule c) s
 
@@ -69,12 +69,12 @@ taken = refl
 
 -- W3 needs no cleaning, and of W6 the spike goes: its fourth point is 0,4 once it is cleaned, and 4,8 where it is copied
 spike-gone : (rule : Rule) → getD (shape-outcome rule p cs rows .rows .points) 12 (pos 0) ≡ pos 0
-unfolding limit most on-grid all-on-grid first-of sound-from points cross dot last differing distinct-neighbours corners-from corners some survivors-from others successor predecessor occurrences unmark unmark-about remove decide look looks walk goes-at is-simple no-spike-left no-spikes chosen fate later shape-fate laid joined shape-outcome
+unfolding limit most on-grid all-on-grid first-of sound-from points cross dot last differing distinct-neighbours corners-from corners some survivors-from others successor predecessor occurrences unmark unmark-about remove decide look looks walk goes-at is-simple spike-free-distinct no-spikes chosen fate later shape-fate laid joined shape-outcome
 spike-gone Collinear = refl
 spike-gone Spike = refl
 
 spike-copied : (rule : Rule) → getD (idle rule p cs rows .rows .points) 12 (pos 0) ≡ pos 4
-unfolding points cross dot last differing distinct-neighbours corners-from corners some is-simple no-spike-left no-spikes fate joined
+unfolding points cross dot last differing distinct-neighbours corners-from corners some is-simple spike-free-distinct no-spikes fate joined
 spike-copied Collinear = refl
 spike-copied Spike = refl
 

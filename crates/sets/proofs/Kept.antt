@@ -45,7 +45,7 @@ use Rattle.sets.specs.Promises.LaterFollow.{no-more, stays as contour-st
 use Rattle.sets.specs.Promises.Follow.{empty, outline}
 use Rattle.sets.specs.Promises.ShapesFollow.{no-shapes, falls, stands as shape-stands}
 use Rattle.clean.specs.Verdicts.{passes}
-use Rattle.sets.specs.Outcome.{Lent, Outcome, lacking, shape-left, shape-outcome, shapes-left, shapes-outcome}
+use Rattle.sets.specs.Outcome.{Lent, Outcome, lacking, cleaned-shape, shape-outcome, cleaned-shapes, shapes-outcome}
 use Rattle.buffer.proofs.SetLaws.{laid-length}
 use Rattle.sets.proofs.Untouched.{answered, seven-is-done, shapes-answered}
 use Rattle.sets.proofs.LaidLaws.{even-append, points-even}
@@ -185,7 +185,7 @@ module _ (rule : Rule) (p : List ℤ) (cs : List (List ℕ)) (l : Lent) (o : Out
       let u = seven-is-done rule p cs l o is seven in
       go (shape-fate rule (contours p (spans cs))) (becomes-right (u .0)) (u .1)
     where
-      go : (f : ShapeFate) → ShapeRight rule (contours p (spans cs)) f → o ≡ shape-left (count p) f l → OutlineCollapses rule (contours p (spans cs))
+      go : (f : ShapeFate) → ShapeRight rule (contours p (spans cs)) f → o ≡ cleaned-shape (count p) f l → OutlineCollapses rule (contours p (spans cs))
       go (stands t k) r e = let z : _≡_ {A = ℕ} 0 7 = sym (ap (λ (w : Outcome). w .answer .reply) e) ∙ seven in absurd (omega arith)
       go (fallen k) r e = r
 
@@ -198,7 +198,7 @@ module _ (rule : Rule) (p : List ℤ) (cs : List (List ℕ)) (l : Lent) (o : Out
     kept-contours = contours (take (2 * o .answer .points) (o .rows .points)) (spans kept-ranges)
 
     -- what the shape stands with
-    module _ (t : List (List ℤ)) (k : ℕ) (even : Even t) (e : o ≡ shape-left (count p) (stands t k) l) where
+    module _ (t : List (List ℤ)) (k : ℕ) (even : Even t) (e : o ≡ cleaned-shape (count p) (stands t k) l) where
       ranges-are : spans kept-ranges ≡ contour-spans t
       ranges-are = rw e (ranges-back 0 (map count t) (length t) (length-map t count) (l .contours))
 
@@ -215,7 +215,7 @@ module _ (rule : Rule) (p : List ℤ) (cs : List (List ℕ)) (l : Lent) (o : Out
         let u = answered rule p cs l o is ok in
         go (shape-fate rule (contours p (spans cs))) (becomes-right (u .0)) (u .1)
       where
-        go : (f : ShapeFate) → ShapeRight rule (contours p (spans cs)) f → o ≡ shape-left (count p) f l
+        go : (f : ShapeFate) → ShapeRight rule (contours p (spans cs)) f → o ≡ cleaned-shape (count p) f l
             → Follow rule (contours p (spans cs)) kept-contours × (sound (spans kept-ranges) (o .answer .points) ≡ true)
         go (fallen k) r e = let z : _≡_ {A = ℕ} 7 0 = sym (ap (λ (w : Outcome). w .answer .reply) e) ∙ ok in absurd (omega arith)
         go (stands t k) r e = (subst (Follow rule (contours p (spans cs))) (sym (unpacked t k (r .1) e)) (r .0), ranges-sound t k (r .1) e)
@@ -250,7 +250,7 @@ module _ (rule : Rule) (p : List ℤ) (cs ss : List (List ℕ)) (l : Lent) (o : 
   abbrev kept-shapes : List (List (List ℤ))
   kept-shapes = shapes-fate rule (shapes p (spans cs) (spans ss)) .shapes
 
-  cleaned : (first-of (shape-refusals p cs ss) ≡ 0) × (o ≡ shapes-left (count p) (shapes-fate rule (shapes p (spans cs) (spans ss))) l)
+  cleaned : (first-of (shape-refusals p cs ss) ≡ 0) × (o ≡ cleaned-shapes (count p) (shapes-fate rule (shapes p (spans cs) (spans ss))) l)
   cleaned =
       let u = shapes-answered rule p cs ss l o is ok in
       (cleared (shape-refusals p cs ss) (lacking p cs ss l) tt (u .0) .0, u .1)

@@ -106,10 +106,10 @@ same-grouped e f g = cc
 
 -- how far the cleaning has come with a shape, by whether it stands
 module _ (b : Bool) (r : Reached) (s : Grouped) where
-  pub adding-fallen : not b ≡ true → grouped (s .count) r (s .shapes) ≡ adding b r s
+  pub adding-fallen : not b ≡ true → grouped (s .written) r (s .shapes) ≡ adding b r s
   adding-fallen n = ap (λ (t : Bool). adding t r s) (sym (not-true b n))
 
-  pub adding-standing : not b ≡ false → grouped (s .count + 1) r (set (s .shapes) (s .count) (s .reached .progress .contours ∷ r .progress .contours ∷ [])) ≡ adding b r s
+  pub adding-standing : not b ≡ false → grouped (s .written + 1) r (set (s .shapes) (s .written) (s .reached .progress .contours ∷ r .progress .contours ∷ [])) ≡ adding b r s
   adding-standing n = ap (λ (t : Bool). adding t r s) (sym (not-false b n))
 
 -- a shape that was tried, behind those that are written: its range goes by how far the cleaning has come, whatever the rows
@@ -121,5 +121,5 @@ added-is b at before k groups groups′ r e out out′ records records′ x f = 
   where
     go : (b : Bool) → grouped (r .shapes) (reached (r .progress) [] []) groups′ ≡ adding b (reached at [] []) (grouped k (reached before [] []) groups)
         → grouped (r .shapes) (reached (r .progress) out′ records′) groups′ ≡ adding b (reached at out′ records′) (grouped k (reached before out records) groups)
-    go true e = same-grouped (ap (λ (w : Grouped). w .count) e) (ap (λ (w : Grouped). reached (w .reached .progress) out′ records′) e) (ap (λ (w : Grouped). w .shapes) e)
-    go false e = same-grouped (ap (λ (w : Grouped). w .count) e) (ap (λ (w : Grouped). reached (w .reached .progress) out′ records′) e) (ap (λ (w : Grouped). w .shapes) e)
+    go true e = same-grouped (ap (λ (w : Grouped). w .written) e) (ap (λ (w : Grouped). reached (w .reached .progress) out′ records′) e) (ap (λ (w : Grouped). w .shapes) e)
+    go false e = same-grouped (ap (λ (w : Grouped). w .written) e) (ap (λ (w : Grouped). reached (w .reached .progress) out′ records′) e) (ap (λ (w : Grouped). w .shapes) e)

@@ -27,13 +27,13 @@ use Rattle.sets.proofs.Kept.{ShapeRight, shape-is-right}
 -- shapes that stay, laid behind those that are written
 abbrev pub among : Shapes → Grouped → Grouped
 among t s =
-    grouped (s .count + length (t .shapes))
+    grouped (s .written + length (t .shapes))
     (after (record { contours = joined (t .shapes); decisions = t .decisions }) (s .reached))
-    (placed (s .count) (rows (laid (s .reached .progress .contours) (map length (t .shapes)))) (s .shapes))
+    (placed (s .written) (rows (laid (s .reached .progress .contours) (map length (t .shapes)))) (s .shapes))
 
 module _ (rule : Rule) where
   -- a shape's fate, and those that stay behind it
-  among-first : (c rest : List (List ℤ)) (w : ShapeFate) → ShapeRight rule c w → (s : Grouped) → Leaves rest (s .reached) (shaped rule w (s .reached) .reached) → s .count + 1 ≤ length (s .shapes)
+  among-first : (c rest : List (List ℤ)) (w : ShapeFate) → ShapeRight rule c w → (s : Grouped) → Leaves rest (s .reached) (shaped rule w (s .reached) .reached) → s .written + 1 ≤ length (s .shapes)
       → (t : Shapes) → among t (added (shaped rule w (s .reached)) s) ≡ among (and-others w t) s
   unfolding joined laid
   among-first c rest (fallen k) x s y h t = same-grouped refl (same-reached (same-progress refl refl (omega arith)) refl refl) refl
@@ -42,13 +42,13 @@ module _ (rule : Rule) where
       same-grouped (omega arith)
       (after-both (record { contours = ds; decisions = k }) (record { contours = joined (t .shapes); decisions = t .decisions }) (s .reached) (x .1)
       (omega (arith, y .room .room, y .points-long)) (omega (arith, y .room .space, y .contours-long)))
-      (ap (placed (s .count + 1) (rows (laid (s .reached .progress .contours + length ds) (map length (t .shapes))))) (set-placed (s .shapes) (s .count) _ (omega arith))
-      ∙ laid-behind (s .shapes) (s .count) (s .count + 1) (s .reached .progress .contours) (s .reached .progress .contours + length ds) (length ds ∷ []) (map length (t .shapes)) h refl (omega arith))
+      (ap (placed (s .written + 1) (rows (laid (s .reached .progress .contours + length ds) (map length (t .shapes))))) (set-placed (s .shapes) (s .written) _ (omega arith))
+      ∙ laid-behind (s .shapes) (s .written) (s .written + 1) (s .reached .progress .contours) (s .reached .progress .contours + length ds) (length ds ∷ []) (map length (t .shapes)) h refl (omega arith))
 
-  pub shapes-after : (l : List (List (List ℤ))) (s : Grouped) → AllContours l → Room (joined l) (s .reached .progress) (s .reached .points) (s .reached .contours) → s .count + length l ≤ length (s .shapes)
+  pub shapes-after : (l : List (List (List ℤ))) (s : Grouped) → AllContours l → Room (joined l) (s .reached .progress) (s .reached .points) (s .reached .contours) → s .written + length l ≤ length (s .shapes)
       → run-shapes rule l s ≡ among (shapes-fate rule l) s
   unfolding run-shapes shapes-fate joined laid
-  shapes-after [] s a r h = same-grouped (omega arith) (after-none (s .reached)) (sym (placed-none (s .shapes) (s .count)))
+  shapes-after [] s a r h = same-grouped (omega arith) (after-none (s .reached)) (sym (placed-none (s .shapes) (s .written)))
   shapes-after (c ∷ l) s a r h =
       let u = run-shape rule c (s .reached) in
       let y : Leaves (joined l) (s .reached) (u .reached) = shape-leaves rule (joined l) c (s .reached) (a .0) r in

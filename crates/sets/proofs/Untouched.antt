@@ -18,7 +18,7 @@ use Rattle.buffer.specs.Contours.{refusals as contour-refusals}
 use Rattle.buffer.specs.Shapes.{refusals as shape-refusals}
 use Rattle.sets.specs.Fates.{ShapeFate, shape-fate, shapes-fate}
 use Rattle.sets.specs.Fates.ShapeFate.{stands, fallen}
-use Rattle.sets.specs.Outcome.{Lent, Outcome, swept, lacking, outcome, shape-left, shape-outcome, shapes-left, shapes-outcome}
+use Rattle.sets.specs.Outcome.{Lent, Outcome, swept, lacking, outcome, cleaned-shape, shape-outcome, cleaned-shapes, shapes-outcome}
 
 reply-of : {o u : Outcome} → o ≡ u → o .answer .reply ≡ u .answer .reply
 reply-of e = ap (λ (w : Outcome). w .answer .reply) e
@@ -39,7 +39,7 @@ ended rungs t l done o e = go (first-of rungs) refl e
 -- One shape, whatever the call; o is what the contract allows.
 module _ (rule : Rule) (p : List ℤ) (cs : List (List ℕ)) (l : Lent) (o : Outcome) (is : o ≡ shape-outcome rule p cs l) where
   abbrev Done : Type 0
-  Done = (first-of (contour-refusals p cs ++ lacking p cs [] l) ≡ 0) × (o ≡ shape-left (count p) (shape-fate rule (contours p (spans cs))) l)
+  Done = (first-of (contour-refusals p cs ++ lacking p cs [] l) ≡ 0) × (o ≡ cleaned-shape (count p) (shape-fate rule (contours p (spans cs))) l)
 
   end : Done ⊎ ((o .answer .reply ≡ 0 → ⊥) × (o .answer .reply ≡ 7 → ⊥) × (o .rows ≡ l))
   unfolding shape-outcome
@@ -49,7 +49,7 @@ module _ (rule : Rule) (p : List ℤ) (cs : List (List ℕ)) (l : Lent) (o : Out
   pub a-refused-shape-leaves-every-row-as-it-was : (o .answer .reply ≡ 0 → ⊥) → (o .answer .reply ≡ 7 → ⊥) → o .rows ≡ l
   a-refused-shape-leaves-every-row-as-it-was n m = ⊎-elim (λ x. go (shape-fate rule (contours p (spans cs))) (x .1)) (λ x. x .2) end
     where
-      go : (f : ShapeFate) → o ≡ shape-left (count p) f l → o .rows ≡ l
+      go : (f : ShapeFate) → o ≡ cleaned-shape (count p) f l → o .rows ≡ l
       go (stands t k) e = absurd (n (reply-of e))
       go (fallen k) e = absurd (m (reply-of e))
 
@@ -65,7 +65,7 @@ module _ (rule : Rule) (p : List ℤ) (cs : List (List ℕ)) (l : Lent) (o : Out
     collapsed-rows : o .rows ≡ swept (count p) l
     collapsed-rows = go (shape-fate rule (contours p (spans cs))) (seven-is-done .1)
       where
-        go : (f : ShapeFate) → o ≡ shape-left (count p) f l → o .rows ≡ swept (count p) l
+        go : (f : ShapeFate) → o ≡ cleaned-shape (count p) f l → o .rows ≡ swept (count p) l
         go (stands t k) e = let z : _≡_ {A = ℕ} 0 7 = sym (reply-of e) ∙ seven in absurd (omega arith)
         go (fallen k) e = ap (λ (w : Outcome). w .rows) e
 
@@ -81,7 +81,7 @@ module _ (rule : Rule) (p : List ℤ) (cs : List (List ℕ)) (l : Lent) (o : Out
 -- Shapes, whatever the call; o is what the contract allows.
 module _ (rule : Rule) (p : List ℤ) (cs ss : List (List ℕ)) (l : Lent) (o : Outcome) (is : o ≡ shapes-outcome rule p cs ss l) where
   abbrev ShapesDone : Type 0
-  ShapesDone = (first-of (shape-refusals p cs ss ++ lacking p cs ss l) ≡ 0) × (o ≡ shapes-left (count p) (shapes-fate rule (shapes p (spans cs) (spans ss))) l)
+  ShapesDone = (first-of (shape-refusals p cs ss ++ lacking p cs ss l) ≡ 0) × (o ≡ cleaned-shapes (count p) (shapes-fate rule (shapes p (spans cs) (spans ss))) l)
 
   shapes-end : ShapesDone ⊎ ((o .answer .reply ≡ 0 → ⊥) × (o .answer .reply ≡ 7 → ⊥) × (o .rows ≡ l))
   unfolding shapes-outcome

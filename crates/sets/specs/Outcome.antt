@@ -67,22 +67,22 @@ outcome (suc k) l done = leaving (answer (suc k) 0 0 0 0) l
 outcome zero l done = done
 
 -- a cleaned shape: kept in front of the rows, or collapsed with its first contour
-abbrev pub shape-left : ℕ → ShapeFate → Lent → Outcome
-shape-left n (stands cs k) l = record { answer = answer 0 (count (joined cs)) (length cs) 1 k; rows = swept n (with-contours cs l) }
-shape-left n (fallen k) l = record { answer = answer 7 0 0 0 k; rows = swept n l }
+abbrev pub cleaned-shape : ℕ → ShapeFate → Lent → Outcome
+cleaned-shape n (stands cs k) l = record { answer = answer 0 (count (joined cs)) (length cs) 1 k; rows = swept n (with-contours cs l) }
+cleaned-shape n (fallen k) l = record { answer = answer 7 0 0 0 k; rows = swept n l }
 
 -- cleaning one shape: the contours of a contour set
 unfoldable pub shape-outcome : Rule → List ℤ → List (List ℕ) → Lent → Outcome
 shape-outcome rule p cs l =
     outcome (first-of (contour-refusals p cs ++ lacking p cs [] l)) l
-    (shape-left (count p) (shape-fate rule (contours p (spans cs))) l)
+    (cleaned-shape (count p) (shape-fate rule (contours p (spans cs))) l)
 
 -- cleaned shapes, in front of the rows
-abbrev pub shapes-left : ℕ → Shapes → Lent → Outcome
-shapes-left n ss l = record { answer = answer 0 (count (joined (joined (ss .shapes)))) (length (joined (ss .shapes))) (length (ss .shapes)) (ss .decisions); rows = swept n (with-shapes (ss .shapes) l) }
+abbrev pub cleaned-shapes : ℕ → Shapes → Lent → Outcome
+cleaned-shapes n ss l = record { answer = answer 0 (count (joined (joined (ss .shapes)))) (length (joined (ss .shapes))) (length (ss .shapes)) (ss .decisions); rows = swept n (with-shapes (ss .shapes) l) }
 
 -- cleaning shapes: those of a shape set
 unfoldable pub shapes-outcome : Rule → List ℤ → List (List ℕ) → List (List ℕ) → Lent → Outcome
 shapes-outcome rule p cs ss l =
     outcome (first-of (shape-refusals p cs ss ++ lacking p cs ss l)) l
-    (shapes-left (count p) (shapes-fate rule (shapes p (spans cs) (spans ss))) l)
+    (cleaned-shapes (count p) (shapes-fate rule (shapes p (spans cs) (spans ss))) l)

@@ -3,7 +3,7 @@ ghost use mathlib.Core.Path.{_≡_};
 ghost use mathlib.Core.List.{[]};
 ghost use Rattle.buffer.specs.Answers.{leaving};
 ghost use Rattle.drawing.specs.Importing.{outcome as import-outcome};
-ghost use Rattle.drawing.specs.Exporting.{leaving as drawn-left, outcome as export-outcome};
+ghost use Rattle.drawing.specs.Exporting.{leaving as export-leaving, outcome as export-outcome};
 use buffer::Packed;
 use drawing::Drawn;
 
@@ -32,7 +32,7 @@ pub extern "C" fn ukm_export_mm(
     floats: &mut [f64],
 ) -> Drawn
     ensures { λ r. ⌜
-        drawn-left r (now (kinds .exit)) (now (floats .exit))
+        export-leaving r (now (kinds .exit)) (now (floats .exit))
         ≡ export-outcome (now (points .entry)) (now (ranges .entry)) (now (kinds .entry)) (now (floats .entry))
         ⌝ }
 {

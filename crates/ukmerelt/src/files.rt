@@ -2,8 +2,8 @@
 ghost use mathlib.Core.Path.{_≡_};
 ghost use Rattle.buffer.specs.Answers.{leaving};
 ghost use Rattle.setfile.specs.Reading.{outcome as read-outcome};
-ghost use Rattle.setfile.specs.Writing.{leaving as written-left, outcome as write-outcome};
-ghost use Rattle.salvage.specs.Outcome.{leaving as salvage-left, outcome as salvage-outcome};
+ghost use Rattle.setfile.specs.Writing.{leaving as write-leaving, outcome as write-outcome};
+ghost use Rattle.salvage.specs.Outcome.{leaving as salvage-leaving, outcome as salvage-outcome};
 use buffer::Packed;
 use salvage::Salvaged;
 use setfile::Written;
@@ -33,7 +33,7 @@ pub extern "C" fn ukm_write_set(
     bytes: &mut [u8],
 ) -> Written
     ensures { λ r. ⌜
-        written-left (r .reply) (r .bytes) (now (bytes .exit))
+        write-leaving (r .reply) (r .bytes) (now (bytes .exit))
         ≡ write-outcome (now (points .entry)) (now (contours .entry)) (now (shapes .entry)) (now (bytes .entry))
         ⌝ }
 {
@@ -44,7 +44,7 @@ pub extern "C" fn ukm_write_set(
 #[no_mangle]
 pub extern "C" fn ukm_salvage(bytes: &[u8], out: &mut [u8], dropped: &mut [[usize; 2]]) -> Salvaged
     ensures { λ r. ⌜
-        salvage-left r (now (out .exit)) (now (dropped .exit))
+        salvage-leaving r (now (out .exit)) (now (dropped .exit))
         ≡ salvage-outcome (now (bytes .entry)) (now (out .entry)) (now (dropped .entry))
         ⌝ }
 {

@@ -16,7 +16,7 @@ use Rattle.ring.specs.inside.Rows.{Standing}
 use Rattle.clean.specs.declared.inner.look.Look.{Look}
 use Rattle.clean.specs.Verdicts.{passes}
 
--- on the way round the points that are left without equal neighbours, from the one at position first on: so many are met before position i, the last of them b, to which one edge leads from the one before it, a; some corner is a spike if one from b on is
+-- on the way round the points that remain without equal neighbours, from the one at position first on: so many are met before position i, the last of them b, to which one edge leads from the one before it, a; some corner is a spike if one from b on is
 pub record Onward (row : List ℤ) (n first : ℕ) (to : Edge) (kept i : ℕ) : Type 0 where
   pub a : Point
   pub b : Point

@@ -7,7 +7,7 @@ ghost use Rattle.grid.specs.Domain.{Contour};
 ghost use Rattle.ring.specs.declared.Rule as R;
 ghost use Rattle.ring.specs.Rule.{goes};
 ghost use Rattle.ring.specs.inside.Rows.{FirstStand};
-ghost use Rattle.clean.specs.Verdicts.{no-spike-left};
+ghost use Rattle.clean.specs.Verdicts.{spike-free-distinct};
 ghost use Rattle.clean.specs.inside.Looking.{Onward, LookedOver};
 use grid::Edge;
 use ring::Rule;
@@ -18,12 +18,12 @@ pub struct Look {
     pub standing: usize,
 }
 
-// Whether, equal neighbours skipped, three or more points are left and none of them is a spike, where so many are met
+// Whether, equal neighbours skipped, three or more points remain and none of them is a spike, where so many are met
 // and looked at before position start. Only where the way does not turn can an edge be still: it leads to an equal
 // neighbour, and is passed over.
 fn onward(points: &[i32], n: usize, first: usize, begun: Edge, met: usize, start: usize) -> bool
     requires { ⌜ Contour (now points) n × Onward (now points) n first begun met start ⌝ }
-    ensures { λ r. ⌜ r ≡ no-spike-left (distinct-neighbours (points-of (now (points .entry)))) ⌝ }
+    ensures { λ r. ⌜ r ≡ spike-free-distinct (distinct-neighbours (points-of (now (points .entry)))) ⌝ }
 {
     let mut to = begun;
     let mut kept = met;
@@ -51,7 +51,7 @@ fn onward(points: &[i32], n: usize, first: usize, begun: Edge, met: usize, start
 // The same from the front.
 pub fn none_reverses(points: &[i32], n: usize) -> bool
     requires { ⌜ Contour (now points) n × (3 ≤ n) ⌝ }
-    ensures { λ r. ⌜ r ≡ no-spike-left (distinct-neighbours (points-of (now (points .entry)))) ⌝ }
+    ensures { λ r. ⌜ r ≡ spike-free-distinct (distinct-neighbours (points-of (now (points .entry)))) ⌝ }
 {
     let first = grid::inner::first_other(points, n);
     if first == n {
@@ -65,7 +65,7 @@ pub fn none_reverses(points: &[i32], n: usize) -> bool
 fn none_reverses_after(points: &[i32], n: usize, k: usize) -> bool
     requires { ⌜ Contour (now points) n × (3 ≤ n) ⌝ }
     requires { ⌜ (k < n) × FirstStand (goes R.Rule.Spike (now points)) n k ⌝ }
-    ensures { λ r. ⌜ r ≡ no-spike-left (distinct-neighbours (points-of (now (points .entry)))) ⌝ }
+    ensures { λ r. ⌜ r ≡ spike-free-distinct (distinct-neighbours (points-of (now (points .entry)))) ⌝ }
 {
     if k == 0 {
         return none_reverses(points, n);

@@ -5,7 +5,7 @@ use native.Mathlib.Omega.{arith}
 use Rattle.grid.specs.Domain.{domain}
 use Rattle.replies.specs.Ladder.{first-of}
 use Rattle.grid.proofs.DomainLaws.{in-domain}
-use Rattle.grid.proofs.AlongLaws.{nothing-left}
+use Rattle.grid.proofs.AlongLaws.{none-distinct}
 use Rattle.replies.proofs.VerdictLaws.{verdict-refused, verdict-given}
 use Rattle.path.specs.Convex.{convex}
 use Rattle.path.proofs.ConvexLaws.{convex-few, convex-many, convex-nothing}
@@ -38,7 +38,7 @@ returns-3 c =
     let row = many .before .before .before .args .points .now in
     let none = rw (c .if3 .taken) at (c .before .first-other .ensures) in
     verdict-given _ _ _ (in-grid many)
-    (convex-nothing row (nothing-left row (in-domain row (in-grid many)) none (omega (arith, many .if2 .left))) ∙ convex-many row (many .if2 .left))
+    (convex-nothing row (none-distinct row (in-domain row (in-grid many)) none (omega (arith, many .if2 .left))) ∙ convex-many row (many .if2 .left))
 
 is-box-requires : tie.Need-is-box-requires
 is-box-requires c κs = in-domain _ (in-grid (c .before .before))

@@ -12,8 +12,8 @@ use Rattle.ring.specs.declared.Ending.{Ending}
 pub record Linked (m next prev : List ℕ) : Type 0 where
   pub next-long : length next ≡ length m
   pub prev-long : length prev ≡ length m
-  pub forward : (p : ℕ) → Survivor m p → getD next p 0 ≡ successor m p
-  pub backward : (p : ℕ) → Survivor m p → getD prev p 0 ≡ predecessor m p
+  pub to-successor : (p : ℕ) → Survivor m p → getD next p 0 ≡ successor m p
+  pub to-predecessor : (p : ℕ) → Survivor m p → getD prev p 0 ≡ predecessor m p
 
 -- Three rows of one length, whose positions fit their elements.
 pub record Level (next prev mark : List ℕ) : Type 0 where

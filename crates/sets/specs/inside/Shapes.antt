@@ -15,19 +15,19 @@ use Rattle.sets.specs.declared.inner.shapes.Total.{Total}
 use Rattle.sets.specs.inside.Contour.{Scratch, Reached, none-yet}
 use Rattle.sets.specs.inside.Shape.{Room, Named, Going, Tested, run-shape}
 
--- the shapes that are written, how many, and how far the cleaning has come
+-- the shapes, how many are written, and how far the cleaning has come
 pub record Grouped : Type 0 where
-  pub count : ℕ
+  pub written : ℕ
   pub reached : Reached
   pub shapes : List (List ℕ)
 
 abbrev pub grouped : ℕ → Reached → List (List ℕ) → Grouped
-grouped count reached shapes = record { count = count; reached = reached; shapes = shapes }
+grouped written reached shapes = record { written = written; reached = reached; shapes = shapes }
 
 -- a shape that was tried, behind those that are written
 abbrev pub adding : Bool → Reached → Grouped → Grouped
-adding true r s = grouped (s .count + 1) r (set (s .shapes) (s .count) (s .reached .progress .contours ∷ r .progress .contours ∷ []))
-adding false r s = grouped (s .count) r (s .shapes)
+adding true r s = grouped (s .written + 1) r (set (s .shapes) (s .written) (s .reached .progress .contours ∷ r .progress .contours ∷ []))
+adding false r s = grouped (s .written) r (s .shapes)
 
 abbrev pub added : Tested → Grouped → Grouped
 added t s = adding (t .stands) (t .reached) s

@@ -10,7 +10,7 @@ use mir.Val.{toZ, ofZ}
 use mir.Facts.{toZ-ofZ}
 use Rattle.grid.specs.Edges.{turn}
 use Rattle.grid.proofs.AlongLaws.{next-short, closing-next}
-use Rattle.path.proofs.ConvexLaws.{Sight, sight-start, sight-skip, sight-left, sight-right, sight-on, both-ways, few-left, closed}
+use Rattle.path.proofs.ConvexLaws.{Sight, sight-start, sight-skip, sight-left, sight-right, sight-on, both-ways, few-distinct, closed}
 use Rattle.path.proofs.inner.one_way.Statement.{statement}
 use Rattle.path.proofs.inner.one_way.Tie as tie
 
@@ -19,6 +19,13 @@ Inv-loop row n first closing to₀ left₀ right₀ reversed₀ kept₀ i₀ to 
 
 abbrev μ-loop : tie.MeasureT-loop
 μ-loop row n first closing to₀ left₀ right₀ reversed₀ kept₀ i₀ to left right reversed kept i = n - i
+
+-- the loop's turn, from where it is asked how the way turns, and the start
+abbrev entered : tie.After-turn Inv-loop μ-loop → tie.In-loop Inv-loop μ-loop
+entered c = c .before .before
+
+abbrev start : tie.In-loop Inv-loop μ-loop → tie.Start Inv-loop μ-loop
+start t = t .before .before .before
 
 -- the turn that was answered
 told : (c : tie.After-turn Inv-loop μ-loop) → toZ w32 (ofZ w32 (c .turn .result)) ≡ turn (c .before .before .before .loop .to) (c .before .edge-at2 .result)
@@ -69,34 +76,34 @@ turn-requires c κs =
 
 returns : tie.Need-returns Inv-loop μ-loop
 returns c =
-    let s = c .before .before .before .before .before .before .before in
+    let s = start (entered (c .before .before)) in
     both-ways (s .args .points .now) (s .pre .0) (left-seen (c .before)) (c .if2 .taken)
 
 add-kept : tie.Need-add-kept Inv-loop μ-loop
-add-kept c = omega (arith, c .before .before .before .before .before .loop .inv .along .few, c .before .before .before .before .before .before .before .fits .n, c .before .before .before .before .loop-test .taken)
+add-kept c = let t = entered (c .before .before) in omega (arith, t .before .loop .inv .along .few, start t .fits .n, t .loop-test .taken)
 
 add-i-2 : tie.Need-add-i-2 Inv-loop μ-loop
-add-i-2 c = omega (arith, c .before .before .before .before .before .before .before .fits .n, c .before .before .before .before .loop-test .taken)
+add-i-2 c = let t = entered (c .before .before) in omega (arith, start t .fits .n, t .loop-test .taken)
 
 loop-less : tie.Need-loop-less Inv-loop μ-loop
-loop-less c = omega (arith, c .before .before .before .before .loop-test .taken)
+loop-less c = omega (arith, entered (c .before .before) .loop-test .taken)
 
 loop-again : tie.Need-loop-again Inv-loop μ-loop
 loop-again c = left-seen (c .before)
 
 returns-2 : tie.Need-returns-2 Inv-loop μ-loop
 returns-2 c =
-    let s = c .before .before .before .before .before .before .before .before in
+    let s = start (entered (c .before .before .before)) in
     both-ways (s .args .points .now) (s .pre .0) (right-seen (c .before)) (ap (λ (t : Bool). t && true) (c .if4 .taken))
 
 add-kept-2 : tie.Need-add-kept-2 Inv-loop μ-loop
-add-kept-2 c = omega (arith, c .before .before .before .before .before .before .loop .inv .along .few, c .before .before .before .before .before .before .before .before .fits .n, c .before .before .before .before .before .loop-test .taken)
+add-kept-2 c = let t = entered (c .before .before .before) in omega (arith, t .before .loop .inv .along .few, start t .fits .n, t .loop-test .taken)
 
 add-i-3 : tie.Need-add-i-3 Inv-loop μ-loop
-add-i-3 c = omega (arith, c .before .before .before .before .before .before .before .before .fits .n, c .before .before .before .before .before .loop-test .taken)
+add-i-3 c = let t = entered (c .before .before .before) in omega (arith, start t .fits .n, t .loop-test .taken)
 
 loop-less-2 : tie.Need-loop-less-2 Inv-loop μ-loop
-loop-less-2 c = omega (arith, c .before .before .before .before .before .loop-test .taken)
+loop-less-2 c = omega (arith, entered (c .before .before .before) .loop-test .taken)
 
 loop-again-2 : tie.Need-loop-again-2 Inv-loop μ-loop
 loop-again-2 c = right-seen (c .before)
@@ -105,31 +112,31 @@ still-requires : tie.Need-still-requires Inv-loop μ-loop
 still-requires c κs = search needs
 
 add-i-4 : tie.Need-add-i-4 Inv-loop μ-loop
-add-i-4 c = omega (arith, c .before .before .before .before .before .before .before .before .before .fits .n, c .before .before .before .before .before .before .loop-test .taken)
+add-i-4 c = let t = entered (c .before .before .before .before) in omega (arith, start t .fits .n, t .loop-test .taken)
 
 loop-less-3 : tie.Need-loop-less-3 Inv-loop μ-loop
-loop-less-3 c = omega (arith, c .before .before .before .before .before .before .loop-test .taken)
+loop-less-3 c = omega (arith, entered (c .before .before .before .before) .loop-test .taken)
 
 loop-again-3 : tie.Need-loop-again-3 Inv-loop μ-loop
 loop-again-3 c =
-    let t = c .before .before .before .before .before .before in
-    let s = t .before .before .before in
+    let t = entered (c .before .before .before .before) in
+    let s = start t in
     sight-skip (s .args .points .now) (s .pre .0) (t .before .loop .inv) (t .loop-test .taken) (c .before .before .before .before .before .edge-at2 .ensures) (sym (c .before .still .ensures) ∙ c .if5 .taken)
 
 backward-requires : tie.Need-backward-requires Inv-loop μ-loop
 backward-requires c κs =
-    let l = c .before .before .before .before .before .before .before in
+    let l = entered (c .before .before .before .before) .before in
     let s = l .before .before in
     next-short (s .args .points .now) (s .pre .0) (l .loop .inv .along) (l .loop .i) (c .before .before .before .before .before .edge-at2 .ensures)
 
 add-kept-3 : tie.Need-add-kept-3 Inv-loop μ-loop
-add-kept-3 c = omega (arith, c .before .before .before .before .before .before .before .before .loop .inv .along .few, c .before .before .before .before .before .before .before .before .before .before .fits .n, c .before .before .before .before .before .before .before .loop-test .taken)
+add-kept-3 c = let t = entered (c .before .before .before .before .before) in omega (arith, t .before .loop .inv .along .few, start t .fits .n, t .loop-test .taken)
 
 add-i-5 : tie.Need-add-i-5 Inv-loop μ-loop
-add-i-5 c = omega (arith, c .before .before .before .before .before .before .before .before .before .before .fits .n, c .before .before .before .before .before .before .before .loop-test .taken)
+add-i-5 c = let t = entered (c .before .before .before .before .before) in omega (arith, start t .fits .n, t .loop-test .taken)
 
 loop-less-4 : tie.Need-loop-less-4 Inv-loop μ-loop
-loop-less-4 c = omega (arith, c .before .before .before .before .before .before .before .loop-test .taken)
+loop-less-4 c = omega (arith, entered (c .before .before .before .before .before) .loop-test .taken)
 
 loop-again-4 : tie.Need-loop-again-4 Inv-loop μ-loop
 loop-again-4 c =
@@ -151,7 +158,7 @@ returns-3 : tie.Need-returns-3 Inv-loop μ-loop
 returns-3 c =
     let l = c .before .before in
     let s = l .before .before in
-    le-leb _ 2 (c .if6 .taken) ∙ few-left (s .args .points .now) (s .pre .0) (l .loop .inv) (c .before .loop-test .left) (c .if6 .taken)
+    le-leb _ 2 (c .if6 .taken) ∙ few-distinct (s .args .points .now) (s .pre .0) (l .loop .inv) (c .before .loop-test .left) (c .if6 .taken)
 
 returns-4 : tie.Need-returns-4 Inv-loop μ-loop
 returns-4 c =

@@ -2,7 +2,7 @@
 use borrow.Author.Needs.{needs}
 use Prim.Native.Nat.{_<_}
 use native.Mathlib.Omega.{arith}
-use Rattle.grid.proofs.AlongLaws.{nothing-left}
+use Rattle.grid.proofs.AlongLaws.{none-distinct}
 use Rattle.clean.proofs.LookLaws.{too-few, onward-start}
 use Rattle.clean.proofs.inner.look.none_reverses.Statement.{statement}
 use Rattle.clean.proofs.inner.look.none_reverses.Tie as tie
@@ -18,7 +18,7 @@ returns : tie.Need-returns
 returns c =
     let s = c .before .before in
     let row = s .args .points .now in
-    let none = nothing-left row (s .pre .0) (rw (c .if1 .taken) at (c .before .first-other .ensures)) (omega (arith, s .pre .1)) in
+    let none = none-distinct row (s .pre .0) (rw (c .if1 .taken) at (c .before .first-other .ensures)) (omega (arith, s .pre .1)) in
     too-few row (rw none (omega arith))
 
 sub-edge-at : tie.Need-sub-edge-at
