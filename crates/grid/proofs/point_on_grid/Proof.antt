@@ -47,7 +47,9 @@ on-grid-requires c κs = search needs
 
 -- the point, and the answer for its x
 point : tie.After-on-grid → Point
-point c = c .before .before .before .before .before .before .before .args .p
+point c =
+    let raised-both = c .before .before .before in
+    raised-both .before .before .before .before .args .p
 
 told : (c : tie.After-on-grid) → c .on-grid .result ≡ on-grid (point c .x)
 unfolding point

@@ -6,6 +6,12 @@ use Rattle.grid.specs.Edges.{dot}
 use Rattle.grid.proofs.inner.dot.Statement.{statement}
 use Rattle.grid.proofs.inner.dot.Tie as tie
 
+-- the start, from where the factors of both products are read
+abbrev start : tie.After-struct-told4 → tie.Start
+start c =
+    let first-factors = c .before .before .before .before in
+    first-factors .before .before .before .before
+
 mul-result : tie.Need-mul-result
 unfolding limit
 mul-result c =
@@ -15,13 +21,13 @@ mul-result c =
 mul-result-2 : tie.Need-mul-result-2
 unfolding limit
 mul-result-2 c =
-    let s = c .before .before .before .before .before .before .before .before .pre in
+    let s = start c .pre in
     in-fits (in-mul (back-in w64 (s .uy-in) tt) (back-in w64 (s .vy-in) tt)) tt
 
 add-result : tie.Need-add-result
 unfolding limit
 add-result c =
-    let s = c .before .before .before .before .before .before .before .before .pre in
+    let s = start c .pre in
     in-fits
     (in-add
     (back-in w64 (in-mul (back-in w64 (s .ux-in) tt) (back-in w64 (s .vx-in) tt)) tt)
@@ -30,7 +36,7 @@ add-result c =
 returns : tie.Need-returns
 unfolding limit dot
 returns c =
-    let s = c .before .before .before .before .before .before .before .before .pre in
+    let s = start c .pre in
     let p = in-mul (s .ux-in) (s .vx-in) in
     let q = in-mul (s .uy-in) (s .vy-in) in
     simp (back w64 (s .ux-in) tt, back w64 (s .uy-in) tt, back w64 (s .vx-in) tt, back w64 (s .vy-in) tt, back w64 p tt, back w64 q tt, back w64 (in-add p q) tt)
