@@ -34,6 +34,10 @@ share-in row a b c on e =
     (in-mul (on-grid-in (at row b .x) (x-on (at row b) (at-on row b on)))
     (gap-in (at row a .y) (at row c .y) (y-on (at row a) (at-on row a on)) (y-on (at row c) (at-on row c on)))))
 
+-- the start, from the loop's head
+abbrev head : tie.At-loop Inv-loop μ-loop → tie.Start Inv-loop μ-loop
+head l = l .before .before .before .before .before .before
+
 -- three points or more
 many : (c : tie.Else1 Inv-loop μ-loop) → 3 ≤ c .before .args .n
 many c = omega (arith, c .if1 .left)
@@ -88,18 +92,18 @@ sub-share-4 : tie.Need-sub-share-4 Inv-loop μ-loop
 sub-share-4 c = search needs
 
 add-share : tie.Need-add-share Inv-loop μ-loop
-add-share c = omega (arith, c .before .loop .inv .high, c .before .before .before .before .before .before .before .fits .n)
+add-share c = omega (arith, c .before .loop .inv .high, head (c .before) .fits .n)
 
 share-requires-3 : tie.Need-share-requires-3 Inv-loop μ-loop
 share-requires-3 c κs =
-    let p = c .before .before .before .before .before .before .before .pre .0 in
+    let p = head (c .before) .pre .0 in
     let m = c .before .loop .inv .high in
     record { a-in = omega (arith, p .even, m); b-in = omega (arith, p .even, m); c-in = omega (arith, p .even, m); on = p .on }
 
 added-requires-3 : tie.Need-added-requires-3 Inv-loop μ-loop
 added-requires-3 c κs =
     let l = c .before .before in
-    let s = l .before .before .before .before .before .before in
+    let s = head l in
     share-in (s .args .points .now) (l .loop .i - 1) (l .loop .i) (l .loop .i + 1) (s .pre .0 .on) (toZ-ofZ (sfits-of (c .share3 .ok)) ∙ c .share3 .ensures)
 
 sub-i-2 : tie.Need-sub-i-2 Inv-loop μ-loop
@@ -112,11 +116,11 @@ loop-again : tie.Need-loop-again Inv-loop μ-loop
 loop-again c =
     let h = c .before in
     let l = h .before .before in
-    gathered-more (l .before .before .before .before .before .before .pre .0) (l .loop .i) (l .loop .sum) _ (l .loop .inv) (h .before .loop-test .taken)
+    gathered-more (head l .pre .0) (l .loop .i) (l .loop .sum) _ (l .loop .inv) (h .before .loop-test .taken)
     (c .added3 .ensures ∙ ap (λ (z : ℤ). mod64 (pos (l .loop .sum) +ℤ z)) (toZ-ofZ (sfits-of (h .share3 .ok)) ∙ h .share3 .ensures))
 
 returns-2 : tie.Need-returns-2 Inv-loop μ-loop
-returns-2 c = gathered-all (c .before .before .before .before .before .before .before .pre .0) (c .before .loop .i) (c .before .loop .sum) (c .before .loop .inv) (c .loop-test .left)
+returns-2 c = let l = c .before in gathered-all (head l .pre .0) (l .loop .i) (l .loop .sum) (l .loop .inv) (c .loop-test .left)
 
 pub total-spec : {M : Type 1} → statement M
 total-spec =
