@@ -4,14 +4,22 @@ use Rattle.ring.proofs.Links.{unlinked-before, removed-now}
 use Rattle.ring.proofs.inner.remove.Statement.{statement}
 use Rattle.ring.proofs.inner.remove.Tie as tie
 
+-- from where the rows are back to what was unlinked, and from there to the start
+abbrev unlinked : tie.After-slice-known6 → tie.After-unlink
+unlinked back = back .before .before .before .before .before .before
+
+abbrev head : tie.After-unlink → tie.Start
+head u =
+    let lent = u .before .before .before in
+    lent .before .before .before .before
+
 unlink-requires : tie.Need-unlink-requires
 unlink-requires c κs = search needs
 
 unmark-about-requires : tie.Need-unmark-about-requires
 unmark-about-requires c κs =
-    let u = c .before .before .before .before .before .before .before .before .before in
-    let s = u .before .before .before .before .before .before .before in
-    unlinked-before (s .pre) (u .unlink .ensures)
+    let u = unlinked (c .before .before .before) in
+    unlinked-before (head u .pre) (u .unlink .ensures)
 
 same-length : tie.Need-same-length
 same-length c = search needs
@@ -25,9 +33,8 @@ same-length-3 c = search needs
 returns : tie.Need-returns
 returns c =
     let a = c .before .before in
-    let u = a .before .before .before .before .before .before .before .before .before .before in
-    let s = u .before .before .before .before .before .before .before in
-    removed-now (s .pre) (u .unlink .ensures) (a .unmark-about .ensures)
+    let u = unlinked (a .before .before .before .before) in
+    removed-now (head u .pre) (u .unlink .ensures) (a .unmark-about .ensures)
 
 pub remove-spec : {M : Type 1} → statement M
 remove-spec =

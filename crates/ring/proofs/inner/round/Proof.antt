@@ -31,8 +31,15 @@ head c =
 due : (c : tie.Then1 Inv-loop μ-loop) → mark-at (c .before .before .loop .mark) (c .before .before .loop .at) ≡ unmarked
 due c = sym (head (c .before .before) .0 .read) ∙ c .if1 .taken
 
+-- from the rule's answer to where the position is due, and from there to the loop's head
+abbrev due-of : tie.After-goes Inv-loop μ-loop → tie.Then1 Inv-loop μ-loop
+due-of g = g .before .before .before .before .before
+
+abbrev round-of : tie.Then1 Inv-loop μ-loop → tie.At-loop Inv-loop μ-loop
+round-of t = t .before .before
+
 -- what the rule said
-said : (c : tie.After-goes Inv-loop μ-loop) → let l = c .before .before .before .before .before .before .before in let s = l .before .before .before .before in
+said : (c : tie.After-goes Inv-loop μ-loop) → let l = round-of (due-of c) in let s = l .before .before .before .before in
     c .goes .result ≡ to-go (goes (by (s .args .collinear)) (s .args .points .now)) (l .loop .mark) (l .loop .at)
 said c =
     let w = c .before in
@@ -76,60 +83,62 @@ goes-requires c κs =
     }
 
 add-t22 : tie.Need-add-t22 Inv-loop μ-loop
-add-t22 c = let h = head (c .before .before .before .before .before .before .before .before .before) in omega arith
+add-t22 c = let h = head (round-of (due-of (c .before .before))) in omega arith
 
 unmarked-requires : tie.Need-unmarked-requires Inv-loop μ-loop
 unmarked-requires c κs = search needs
 
 sub-t26 : tie.Need-sub-t26 Inv-loop μ-loop
-sub-t26 c = let h = head (c .before .before .before .before .before .before .before .before .before .before .before) .0 in omega (arith, c .unmarked .ensures, h .few)
+sub-t26 c = let h = head (round-of (due-of (c .before .before .before .before))) .0 in omega (arith, c .unmarked .ensures, h .few)
 
 same-length : tie.Need-same-length Inv-loop μ-loop
 same-length c =
-    let l = c .before .before .before .before .before .before .before .before .before .before .before in
+    let l = round-of (due-of (c .before .before .before .before)) in
     let h = head l .0 in
     omega (arith, l .before .before .before .before .pre .1 .linked .next-long)
 
 same-length-2 : tie.Need-same-length-2 Inv-loop μ-loop
 same-length-2 c =
-    let l = c .before .before .before .before .before .before .before .before .before .before .before in
+    let l = round-of (due-of (c .before .before .before .before)) in
     let h = head l .0 in
     omega (arith, l .before .before .before .before .pre .1 .linked .prev-long)
 
 same-length-3 : tie.Need-same-length-3 Inv-loop μ-loop
-same-length-3 c = head (c .before .before .before .before .before .before .before .before .before .before .before) .0 .mark-long
+same-length-3 c = head (round-of (due-of (c .before .before .before .before))) .0 .mark-long
 
 returns : tie.Need-returns Inv-loop μ-loop
 returns c =
-    let t = c .before .before .before .before .before .before .before .before .before in
-    let l = t .before .before in
+    let t = due-of (c .before .before .before .before) in
+    let l = round-of t in
     turn-fall _ _ (many l) (l .loop .inv) (due t) (sym (said (c .before .before .before .before)) ∙ c .before .before .before .if2 .taken) (c .before .before .if3 .taken) _ (c .unmarked .ensures)
 
 remove-requires : tie.Need-remove-requires Inv-loop μ-loop
 remove-requires c κs =
     let i = c .before .before .before in
-    let t = i .before .before .before .before .before .before .before in
-    let l = t .before .before in
+    let t = due-of (i .before .before) in
+    let l = round-of t in
     turn-removable _ _ (many l) (l .loop .inv) (due t) (i .if3 .left)
 
 add-decisions : tie.Need-add-decisions Inv-loop μ-loop
 add-decisions c =
     let r = c .before .before .before .before .before .before in
-    let h = head (r .before .before .before .before .before .before .before .before .before .before .before .before .before) in
+    let i = r .before .before .before .before in
+    let h = head (round-of (due-of (i .before .before))) in
     omega (arith, r .remove .ensures .small)
 
 sub-remaining : tie.Need-sub-remaining Inv-loop μ-loop
 sub-remaining c =
-    let i = c .before .before .before .before .before .before .before .before .before .before in
-    let h = head (i .before .before .before .before .before .before .before .before .before) in
+    let r = c .before .before .before .before .before .before in
+    let i = r .before .before .before .before in
+    let h = head (round-of (due-of (i .before .before))) in
     omega arith
 
 loop-less : tie.Need-loop-less Inv-loop μ-loop
 loop-less c =
     let r = c .before .before .before .before .before .before in
     let i = r .before .before .before .before in
-    let t = i .before .before .before .before .before .before .before in
-    let l = t .before .before in
+    let t = due-of (i .before .before) in
+    let l = round-of t in
     go-less _ _ (many l) (l .loop .inv) (due t) (r .remove .ensures) (i .if3 .left)
 
 loop-again : tie.Need-loop-again Inv-loop μ-loop
@@ -137,25 +146,25 @@ loop-again c =
     let r = c .before .before .before .before .before .before in
     let i = r .before .before .before .before in
     let g = i .before .before in
-    let t = g .before .before .before .before .before in
-    let l = t .before .before in
+    let t = due-of g in
+    let l = round-of t in
     turn-go _ _ (many l) (l .loop .inv) (due t) (r .remove .ensures) (sym (said g) ∙ i .before .if2 .taken) (i .if3 .left) _
     (g .before .before .before .wide .ensures ∙ head l .0 .at .prev-is)
 
 slice-write-mark : tie.Need-slice-write-mark Inv-loop μ-loop
-slice-write-mark c = head (c .before .before .before .before .before .before .before .before) .0 .at .inside-marks
+slice-write-mark c = head (round-of (due-of (c .before))) .0 .at .inside-marks
 
 loop-less-2 : tie.Need-loop-less-2 Inv-loop μ-loop
 loop-less-2 c =
-    let t = c .before .before .before .before .before .before in
-    let l = t .before .before in
+    let t = due-of (c .before) in
+    let l = round-of t in
     stay-less _ _ (many l) (l .loop .inv) (due t)
 
 loop-again-2 : tie.Need-loop-again-2 Inv-loop μ-loop
 loop-again-2 c =
     let g = c .before in
-    let t = g .before .before .before .before .before in
-    let l = t .before .before in
+    let t = due-of g in
+    let l = round-of t in
     turn-stay _ _ (many l) (l .loop .inv) (due t) (sym (said g) ∙ c .if2 .left) _ (g .before .wide2 .ensures ∙ head l .0 .at .next-is)
 
 same-length-4 : tie.Need-same-length-4 Inv-loop μ-loop

@@ -10,6 +10,10 @@ use Rattle.ring.proofs.inner.unlink.Tie as tie
 at : (c : tie.Start) → Here (now (c .args .mark)) (now (c .args .next)) (now (c .args .prev)) (c .args .c)
 at c = here (c .pre .linked) _ (omega (arith, c .pre .due))
 
+-- The start, from where both neighbours are read.
+abbrev start : tie.After-slice-known5 → tie.Start
+start c = c .before .before .before .before .before
+
 mul-after : tie.Need-mul-after
 mul-after c = let s = c .before .before .before in let h = at s in omega (arith, s .pre .linked .next-long, s .pre .linked .prev-long)
 
@@ -20,28 +24,28 @@ mul-before : tie.Need-mul-before
 mul-before c = let s = c .before .before .before .before in let h = at s in omega (arith, s .pre .linked .next-long, s .pre .linked .prev-long)
 
 slice-read-before : tie.Need-slice-read-before
-slice-read-before c = let s = c .before .before .before .before .before in let h = at s in omega (arith, s .pre .linked .next-long, s .pre .linked .prev-long)
+slice-read-before c = let s = start c in let h = at s in omega (arith, s .pre .linked .next-long, s .pre .linked .prev-long)
 
 wide-requires : tie.Need-wide-requires
 wide-requires c κs = search needs
 
 mul-next : tie.Need-mul-next
-mul-next c = let s = c .before .before .before .before .before .before in let h = at s in omega (arith, s .pre .linked .next-long, s .pre .linked .prev-long)
+mul-next c = let s = start (c .before) in let h = at s in omega (arith, s .pre .linked .next-long, s .pre .linked .prev-long)
 
 slice-write-next : tie.Need-slice-write-next
-slice-write-next c = let s = c .before .before .before .before .before .before in let h = at s in omega (arith, s .pre .linked .next-long, s .pre .linked .prev-long)
+slice-write-next c = let s = start (c .before) in let h = at s in omega (arith, s .pre .linked .next-long, s .pre .linked .prev-long)
 
 wide-requires-2 : tie.Need-wide-requires-2
 wide-requires-2 c κs = search needs
 
 mul-prev : tie.Need-mul-prev
-mul-prev c = let s = c .before .before .before .before .before .before .before in let h = at s in omega (arith, s .pre .linked .next-long, s .pre .linked .prev-long)
+mul-prev c = let s = start (c .before .before) in let h = at s in omega (arith, s .pre .linked .next-long, s .pre .linked .prev-long)
 
 slice-write-prev : tie.Need-slice-write-prev
-slice-write-prev c = let s = c .before .before .before .before .before .before .before in let h = at s in omega (arith, s .pre .linked .next-long, s .pre .linked .prev-long)
+slice-write-prev c = let s = start (c .before .before) in let h = at s in omega (arith, s .pre .linked .next-long, s .pre .linked .prev-long)
 
 slice-write-mark : tie.Need-slice-write-mark
-slice-write-mark c = let s = c .before .before .before .before .before .before .before in let h = at s in omega (arith, s .pre .linked .next-long, s .pre .linked .prev-long)
+slice-write-mark c = let s = start (c .before .before) in let h = at s in omega (arith, s .pre .linked .next-long, s .pre .linked .prev-long)
 
 wide-requires-3 : tie.Need-wide-requires-3
 wide-requires-3 c κs = search needs
@@ -56,7 +60,7 @@ same-length-3 : tie.Need-same-length-3
 same-length-3 c = search needs
 
 returns : tie.Need-returns
-returns c = unlinked _ _ _ (c .before .before .before .before .before .before .before .before .pre) (c .before .before .wide .ensures) (c .before .wide2 .ensures) (c .wide3 .ensures)
+returns c = unlinked _ _ _ (start (c .before .before .before) .pre) (c .before .before .wide .ensures) (c .before .wide2 .ensures) (c .wide3 .ensures)
 
 pub unlink-spec : {M : Type 1} → statement M
 unlink-spec =

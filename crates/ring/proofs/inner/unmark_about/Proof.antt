@@ -33,7 +33,7 @@ wide-requires-2 c κs = search needs
 -- p and its neighbours survive
 module _ (w : tie.After-wide2) where
   abbrev start : tie.Start
-  start = w .before .before .before .before .before .before .before
+  start = let after-read = w .before .before in after-read .before .before .before .before .before
 
   p-lives : Survivor (start .args .mark .now) (start .args .p)
   p-lives = start .pre .0

@@ -17,10 +17,14 @@ use Rattle.ring.proofs.inner.walk.Tie as tie
 
 -- from the marks to the links, and from there to the start
 abbrev linking : tie.After-mark-first → tie.After-link
-linking c = c .before .before .before .before .before .before .before .before
+linking c =
+    let back = c .before .before in
+    back .before .before .before .before .before .before
 
 abbrev head : tie.After-link → tie.Start
-head c = c .before .before .before .before .before .before .before
+head c =
+    let lent = c .before .before .before in
+    lent .before .before .before .before
 
 -- the marks are as many as they were
 long : (c : tie.After-mark-first) → length (c .mark-first .last .0) ≡ length (head (linking c) .args .mark .now)
@@ -48,8 +52,9 @@ link-requires c κs =
 
 mark-first-requires : tie.Need-mark-first-requires
 mark-first-requires c κs =
-    let d = c .before .before .before .before .before .before .before in
-    let s = d .before .before .before .before .before .before .before in
+    let back = c .before in
+    let d = back .before .before .before .before .before .before in
+    let s = head d in
     let k = d .link .kept .1 .1 .0 in
     (d .link .ensures .marks ∙ ap fresh (sym k), omega (arith, k, s .pre .1 .1 .0))
 
