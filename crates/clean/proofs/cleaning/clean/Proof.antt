@@ -60,7 +60,8 @@ same-length-4 c = search needs
 
 returns-2 : tie.Need-returns-2
 returns-2 c =
-    let w = c .before .before .before .before .before .before .before in
+    let back = c .before in
+    let w = back .before .before .before .before .before .before in
     let i = w .before .before .before .before .before in
     let s = i .before .before .before .before .before .args in
     joined (s .rule) (s .points .now) (rows i) (taken i) _ _ _ _ _ (w .sweep .ensures .0) (w .sweep .ensures .1)

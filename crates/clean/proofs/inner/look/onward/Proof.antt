@@ -16,6 +16,10 @@ Inv-loop row n first met start to₀ kept₀ i₀ to kept i = Onward row n first
 abbrev μ-loop : tie.MeasureT-loop
 μ-loop row n first met start to₀ kept₀ i₀ to kept i = n - i
 
+-- the loop's turn, from where the edge is not still
+abbrev entered : tie.Else2 Inv-loop μ-loop → tie.In-loop Inv-loop μ-loop
+entered moves = moves .before .before .before .before .before
+
 loop-holds : tie.Need-loop-holds Inv-loop μ-loop
 loop-holds c = c .pre .1
 
@@ -87,15 +91,15 @@ returns c =
 
 add-kept-2 : tie.Need-add-kept-2 Inv-loop μ-loop
 add-kept-2 c =
-    let test = c .before .before .before .before .before .before .before in
+    let test = entered (c .before .before) in
     let round = test .before in
     omega (arith, round .loop .inv .few, round .before .fits .n, test .loop-test .taken)
 
 add-i-3 : tie.Need-add-i-3 Inv-loop μ-loop
-add-i-3 c = let test = c .before .before .before .before .before .before .before in omega (arith, test .before .before .fits .n, test .loop-test .taken)
+add-i-3 c = let test = entered (c .before .before) in omega (arith, test .before .before .fits .n, test .loop-test .taken)
 
 loop-less-3 : tie.Need-loop-less-3 Inv-loop μ-loop
-loop-less-3 c = omega (arith, c .before .before .before .before .before .before .before .loop-test .taken)
+loop-less-3 c = omega (arith, entered (c .before .before) .loop-test .taken)
 
 loop-again-3 : tie.Need-loop-again-3 Inv-loop μ-loop
 loop-again-3 c =

@@ -10,6 +10,15 @@ walk-requires c κs =
     let ready = p .0 .0 in
     ((ready .contour, p .0 .1), ((ready .next-long, ready .prev-long), p .1))
 
+-- from where the rows are back to the walk, and from there to the start
+abbrev walked-of : tie.After-slice-known6 → tie.After-walk
+walked-of back = back .before .before .before .before .before .before
+
+abbrev head : tie.After-walk → tie.Start
+head w =
+    let lent = w .before .before .before in
+    lent .before .before .before .before
+
 write-requires : tie.Need-write-requires
 write-requires c κs = search needs
 
@@ -29,8 +38,8 @@ returns : tie.Need-returns
 returns c =
     let said = c .before in
     let kept = said .before .before .before in
-    let walked = kept .before .before .before .before .before .before .before in
-    let s = walked .before .before .before .before .before .before .before in
+    let walked = walked-of (kept .before) in
+    let s = head walked in
     settled-kept (s .args .rule) (s .args .points .now) _ (s .pre .0 .0 .contour) (walked .walk .result) _ (walked .walk .ensures) (kept .if1 .taken) _ _ (said .write .ensures .0) (said .write .ensures .1)
 
 same-length-5 : tie.Need-same-length-5
@@ -44,8 +53,8 @@ same-length-7 c = search needs
 
 returns-2 : tie.Need-returns-2
 returns-2 c =
-    let walked = c .before .before .before .before .before .before .before in
-    let s = walked .before .before .before .before .before .before .before in
+    let walked = walked-of (c .before) in
+    let s = head walked in
     settled-fallen (s .args .rule) (s .args .points .now) _ (s .pre .0 .0 .contour) (walked .walk .result) _ (walked .walk .ensures) (c .if1 .left)
 
 pub settle-from-spec : {M : Type 1} → statement M

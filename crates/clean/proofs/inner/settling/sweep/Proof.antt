@@ -38,8 +38,10 @@ returns c =
     let b = c .before .before in
     let y = b .before .before .before .before in
     let x = y .before .before .before .before in
-    let d = x .before .before .before .before .before .before .before .before .before in
-    let p = d .before .before .before .before .before .before .before .before .pre in
+    let back = x .before .before .before in
+    let d = back .before .before .before .before .before .before in
+    let lent = d .before .before .before .before in
+    let p = lent .before .before .before .before .pre in
     let k = d .settle .kept .1 .1 in (
       d .settle .ensures,
       record {
