@@ -39,7 +39,11 @@ start v = let l = v .before .before .before .before in at (l .before .args .poin
 abbrev end : tie.After-lies-above Inv-loop μ-loop → Point
 end v = let l = v .before .before .before .before in at (l .before .args .points .now) (l .loop .i)
 
--- their sides
+-- the loop's turn
+abbrev entered : tie.After-lies-above Inv-loop μ-loop → tie.In-loop Inv-loop μ-loop
+entered v = v .before .before .before
+
+-- the sides of the ends
 told-end : (v : tie.After-lies-above Inv-loop μ-loop) → v .lies-above .result ≡ above (asked v) (end v)
 told-end v = v .lies-above .ensures ∙ ap (above (asked v)) (v .before .point-at2 .ensures)
 
@@ -121,16 +125,16 @@ returns c =
     (turn-met _ _ _ (start-low t) (end-high t) (sym (turned t) ∙ bits-eq w32 {b = pos 0} (sfits-of (t .turn-on .ok)) (sfits-lit tt) (c .if2 .taken)))
 
 add-next-across : tie.Need-add-next-across Inv-loop μ-loop
-add-next-across c = omega (arith, c .before .before .before .before .before .before .loop-test .taken, c .before .before .before .before .before .before .before .before .fits .n)
+add-next-across c = let t = entered (rising (c .before)) in omega (arith, t .loop-test .taken, t .before .before .fits .n)
 
 next-across-requires : tie.Need-next-across-requires Inv-loop μ-loop
-next-across-requires c κs = (c .before .before .before .before .before .before .before .before .pre .0, omega (arith, c .before .before .before .before .before .before .loop-test .taken))
+next-across-requires c κs = let t = entered (rising (c .before)) in (t .before .before .pre .0, omega (arith, t .loop-test .taken))
 
 sub-a : tie.Need-sub-a Inv-loop μ-loop
 sub-a c = omega (arith, c .next-across .ensures .from)
 
 loop-less : tie.Need-loop-less Inv-loop μ-loop
-loop-less c = omega (arith, c .next-across .ensures .from, c .before .before .before .before .before .before .before .loop-test .taken)
+loop-less c = omega (arith, c .next-across .ensures .from, entered (rising (c .before .before)) .loop-test .taken)
 
 loop-again : tie.Need-loop-again Inv-loop μ-loop
 unfolding xor
@@ -162,16 +166,16 @@ returns-2 c =
     (on-edge-swap _ _ _ ∙ turn-met _ _ _ (end-low t) (start-high t) (sym (turned-2 t) ∙ bits-eq w32 {b = pos 0} (sfits-of (t .turn-on2 .ok)) (sfits-lit tt) (c .if4 .taken)))
 
 add-next-reached : tie.Need-add-next-reached Inv-loop μ-loop
-add-next-reached c = omega (arith, c .before .before .before .before .before .before .before .before .loop-test .taken, c .before .before .before .before .before .before .before .before .before .before .fits .n)
+add-next-reached c = let t = entered (falling (c .before)) in omega (arith, t .loop-test .taken, t .before .before .fits .n)
 
 next-reached-requires : tie.Need-next-reached-requires Inv-loop μ-loop
-next-reached-requires c κs = (c .before .before .before .before .before .before .before .before .before .before .pre .0, omega (arith, c .before .before .before .before .before .before .before .before .loop-test .taken), c .before .before .before .before .before .before .before .before .before .before .pre .1)
+next-reached-requires c κs = let t = entered (falling (c .before)) in let s = t .before .before in (s .pre .0, omega (arith, t .loop-test .taken), s .pre .1)
 
 sub-a-2 : tie.Need-sub-a-2 Inv-loop μ-loop
 sub-a-2 c = omega (arith, c .next-reached .ensures .from)
 
 loop-less-2 : tie.Need-loop-less-2 Inv-loop μ-loop
-loop-less-2 c = omega (arith, c .next-reached .ensures .from, c .before .before .before .before .before .before .before .before .before .loop-test .taken)
+loop-less-2 c = omega (arith, c .next-reached .ensures .from, entered (falling (c .before .before)) .loop-test .taken)
 
 loop-again-2 : tie.Need-loop-again-2 Inv-loop μ-loop
 unfolding xor
@@ -199,16 +203,16 @@ returns-3 c =
     untouched-met (s .args .points .now) (s .args .p) (s .pre .0) (l .loop .inv) (level t .before .before .before .loop-test .taken) (sym (touched t) ∙ c .if5 .taken)
 
 add-next-reached-2 : tie.Need-add-next-reached-2 Inv-loop μ-loop
-add-next-reached-2 c = omega (arith, c .before .before .before .before .before .before .before .before .loop-test .taken, c .before .before .before .before .before .before .before .before .before .before .fits .n)
+add-next-reached-2 c = let t = entered (level (c .before)) in omega (arith, t .loop-test .taken, t .before .before .fits .n)
 
 next-reached-requires-2 : tie.Need-next-reached-requires-2 Inv-loop μ-loop
-next-reached-requires-2 c κs = (c .before .before .before .before .before .before .before .before .before .before .pre .0, omega (arith, c .before .before .before .before .before .before .before .before .loop-test .taken), c .before .before .before .before .before .before .before .before .before .before .pre .1)
+next-reached-requires-2 c κs = let t = entered (level (c .before)) in let s = t .before .before in (s .pre .0, omega (arith, t .loop-test .taken), s .pre .1)
 
 sub-a-3 : tie.Need-sub-a-3 Inv-loop μ-loop
 sub-a-3 c = omega (arith, c .next-reached2 .ensures .from)
 
 loop-less-3 : tie.Need-loop-less-3 Inv-loop μ-loop
-loop-less-3 c = omega (arith, c .next-reached2 .ensures .from, c .before .before .before .before .before .before .before .before .before .loop-test .taken)
+loop-less-3 c = omega (arith, c .next-reached2 .ensures .from, entered (level (c .before .before)) .loop-test .taken)
 
 loop-again-3 : tie.Need-loop-again-3 Inv-loop μ-loop
 loop-again-3 c =

@@ -19,6 +19,10 @@ Inv-loop row n p from to odd₀ a₀ i₀ odd a i = Changing row n p odd a i
 abbrev μ-loop : tie.MeasureT-loop
 μ-loop row n p from to odd₀ a₀ i₀ odd a i = n - i
 
+-- the loop's turn, from where the side of the edge's end is told
+abbrev entered : tie.After-lies-above Inv-loop μ-loop → tie.In-loop Inv-loop μ-loop
+entered v = v .before .before .before
+
 -- the side of the edge's end
 told : (c : tie.After-lies-above Inv-loop μ-loop) → let l = c .before .before .before .before in
     c .lies-above .result ≡ above (l .before .args .p) (at (l .before .args .points .now) (l .loop .i))
@@ -50,10 +54,10 @@ meets-right-requires c κs =
     (s .pre .1, rw (e .before .point-at .ensures) (at-on row (l .loop .a) (s .pre .0 .on)), rw (e .point-at2 .ensures) (at-on row (l .loop .i) (s .pre .0 .on)))
 
 add-next-across : tie.Need-add-next-across Inv-loop μ-loop
-add-next-across c = omega (arith, c .before .before .before .before .before .loop-test .taken, c .before .before .before .before .before .before .before .fits .n)
+add-next-across c = let t = entered (c .before .before) in omega (arith, t .loop-test .taken, t .before .before .fits .n)
 
 next-across-requires : tie.Need-next-across-requires Inv-loop μ-loop
-next-across-requires c κs = (c .before .before .before .before .before .before .before .pre .0, omega (arith, c .before .before .before .before .before .loop-test .taken))
+next-across-requires c κs = let t = entered (c .before .before) in (t .before .before .pre .0, omega (arith, t .loop-test .taken))
 
 sub-a : tie.Need-sub-a Inv-loop μ-loop
 sub-a c = omega (arith, c .next-across .ensures .from)
@@ -85,10 +89,10 @@ meets-right-requires-2 c κs =
     (s .pre .1, rw (e .point-at2 .ensures) (at-on row (l .loop .i) (s .pre .0 .on)), rw (e .before .point-at .ensures) (at-on row (l .loop .a) (s .pre .0 .on)))
 
 add-next-across-2 : tie.Need-add-next-across-2 Inv-loop μ-loop
-add-next-across-2 c = omega (arith, c .before .before .before .before .before .loop-test .taken, c .before .before .before .before .before .before .before .fits .n)
+add-next-across-2 c = let t = entered (c .before .before) in omega (arith, t .loop-test .taken, t .before .before .fits .n)
 
 next-across-requires-2 : tie.Need-next-across-requires-2 Inv-loop μ-loop
-next-across-requires-2 c κs = (c .before .before .before .before .before .before .before .pre .0, omega (arith, c .before .before .before .before .before .loop-test .taken))
+next-across-requires-2 c κs = let t = entered (c .before .before) in (t .before .before .pre .0, omega (arith, t .loop-test .taken))
 
 sub-a-2 : tie.Need-sub-a-2 Inv-loop μ-loop
 sub-a-2 c = omega (arith, c .next-across2 .ensures .from)

@@ -29,15 +29,21 @@ not-both true true u e = absurd (true≢false e)
 not-both true false u e = refl
 not-both false t u e = refl
 
+-- where the y are told, and the start
+abbrev heights : tie.After-amid2 → tie.After-amid
+heights c = c .before .before .before .before
+
+abbrev start : tie.After-amid2 → tie.Start
+start c = heights c .before .before .before .before
+
 -- whether p lies between the ends
-told : (c : tie.After-amid2) → let s = c .before .before .before .before .before .before .before .before in
-    (c .before .before .before .before .amid .result && c .amid2 .result)
+told : (c : tie.After-amid2) → let s = start c in
+    (heights c .amid .result && c .amid2 .result)
     ≡ (amid (s .args .a .y) (s .args .b .y) (s .args .p .y) && amid (s .args .a .x) (s .args .b .x) (s .args .p .x))
 told c =
-    let d = c .before .before .before .before in
-    let s = d .before .before .before .before in
+    let s = start c in
     ap₂ _&&_
-    (d .amid .ensures ∙ passed _ _ _ (y-on _ (s .pre .1)) (y-on _ (s .pre .2)) (y-on _ (s .pre .0)))
+    (heights c .amid .ensures ∙ passed _ _ _ (y-on _ (s .pre .1)) (y-on _ (s .pre .2)) (y-on _ (s .pre .0)))
     (c .amid2 .ensures ∙ passed _ _ _ (x-on _ (s .pre .1)) (x-on _ (s .pre .2)) (x-on _ (s .pre .0)))
 
 amid-requires : tie.Need-amid-requires
@@ -54,19 +60,19 @@ between-requires-2 c κs = search needs
 
 aligned-requires : tie.Need-aligned-requires
 aligned-requires c κs =
-    let s = c .before .before .before .before .before .before .before .before .before .before .before in
+    let s = start (c .before .before .before) in
     rw (c .before .between .ensures, c .between2 .ensures) (edges-short (s .args .a) (s .args .b) (s .args .a) (s .args .p) (s .pre .1) (s .pre .2) (s .pre .1) (s .pre .0))
 
 returns : tie.Need-returns
 returns c =
     let i = c .before .before .before in
-    let s = i .before .before .before .before .before .before .before .before .before .args in
+    let s = start (i .before) .args in
     c .aligned .ensures ∙ ap₂ aligned (c .before .before .between .ensures) (c .before .between2 .ensures)
     ∙ both (amid (s .a .y) (s .b .y) (s .p .y)) (amid (s .a .x) (s .b .x) (s .p .x)) (aligned (between (s .a) (s .b)) (between (s .a) (s .p))) (sym (told (i .before)) ∙ i .if1 .taken) ∙ what-is-tested (s .p) (s .a) (s .b)
 
 returns-2 : tie.Need-returns-2
 returns-2 c =
-    let s = c .before .before .before .before .before .before .before .before .before .args in
+    let s = start (c .before) .args in
     not-both (amid (s .a .y) (s .b .y) (s .p .y)) (amid (s .a .x) (s .b .x) (s .p .x)) (aligned (between (s .a) (s .b)) (between (s .a) (s .p))) (sym (told (c .before)) ∙ c .if1 .left) ∙ what-is-tested (s .p) (s .a) (s .b)
 
 pub touches-spec : {M : Type 1} → statement M
