@@ -27,7 +27,9 @@ first-of-all c = let s = head c in shape-first (s .args .points .now) (s .args .
 
 -- from the end to what was cleaned, and from there to where nothing is refused
 abbrev cleaned-of : tie.After-shape-answer → tie.After-sweep-shape
-cleaned-of c = c .before .before .before .before .before .before .before .before .before
+cleaned-of c =
+    let back = c .before .before .before in
+    back .before .before .before .before .before .before
 
 abbrev done-of : tie.After-sweep-shape → tie.Else1
 done-of c = c .before .before .before .before .before .before

@@ -26,10 +26,14 @@ first-of-all c = let s = head c in shapes-first (s .args .points .now) (s .args 
 
 -- from the end to what was cleaned, and from there to where nothing is refused
 abbrev cleaned-of : tie.After-shapes-answer → tie.After-sweep-shapes
-cleaned-of c = c .before .before .before .before .before .before .before .before .before .before
+cleaned-of c =
+    let back = c .before .before .before .before in
+    back .before .before .before .before .before .before
 
 abbrev done-of : tie.After-sweep-shapes → tie.Else1
-done-of c = c .before .before .before .before .before .before .before
+done-of c =
+    let lent = c .before .before .before .before .before .before in
+    lent .before
 
 -- what is not refused
 clear-of : (c : tie.Else1) → let s = head (c .before) in first-of (shapes-rungs (s .args .points .now) (s .args .contours .now) (s .args .shapes .now) (rows-of s)) ≡ 0

@@ -8,13 +8,18 @@ use Rattle.sets.proofs.BehindLaws.{cleanable-behind, notable, behind-is
 use Rattle.sets.proofs.inner.contour.behind.Statement.{statement}
 use Rattle.sets.proofs.inner.contour.behind.Tie as tie
 
--- from the contour's answer to the start
+-- from where the first row is lent to the start, and from the contour's answer
+abbrev start : tie.After-one-arg → tie.Start
+start lent = lent .before .before .before .before .before
+
 abbrev head : tie.After-one → tie.Start
-head c = c .before .before .before .before .before .before .before .before .before
+head c = start (c .before .before .before .before)
 
 -- from the end to the contour's answer
 abbrev said-of : tie.After-records → tie.After-one
-said-of c = c .before .before .before .before .before .before .before .before .before .before
+said-of c =
+    let back = c .before .before .before .before in
+    back .before .before .before .before .before .before
 
 mul-from : tie.Need-mul-from
 mul-from c = search needs
@@ -32,11 +37,12 @@ part-one-end : tie.Need-part-one-end
 part-one-end c = search needs
 
 one-requires : tie.Need-one-requires
-one-requires c κs = cleanable-behind _ _ _ _ _ _ _ (c .before .before .before .before .before .before .before .before .pre)
+one-requires c κs = cleanable-behind _ _ _ _ _ _ _ (start (c .before .before .before) .pre)
 
 note-requires : tie.Need-note-requires
 note-requires c κs =
-    let said = c .before .before .before .before .before .before .before .before in
+    let back = c .before .before in
+    let said = back .before .before .before .before .before .before in
     let s = head said in
     notable (s .args .rule) (s .args .contour .now) (s .args .out .now) (s .args .at) (s .args .records .now) _ _ (said .one .ensures) _ _ _ (s .pre) (omega arith)
 

@@ -15,7 +15,9 @@ head c = c .before .before .before .before .before .before
 
 -- from the end to the walk, and from there to where it began
 abbrev walked : tie.After-out2 → tie.After-settle-from
-walked c = c .before .before .before .before .before .before .before
+walked c =
+    let back = c .before in
+    back .before .before .before .before .before .before
 
 abbrev walk-of : tie.After-settle-from → tie.Else2
 walk-of c = c .before .before .before .before .before

@@ -49,7 +49,9 @@ behind-requires c κs =
 
 -- from the end of a round to the contour that was cleaned in it
 abbrev cleaned-of : tie.After-progress Inv-loop μ-loop → tie.After-behind Inv-loop μ-loop
-cleaned-of c = c .before .before .before .before .before .before .before .before .before .before
+cleaned-of c =
+    let back = c .before .before .before .before in
+    back .before .before .before .before .before .before
 
 there-of : (c : tie.After-progress Inv-loop μ-loop) → let named = due (cleaned-of c) in round named .loop .i < length (head named .args .ranges .now)
 there-of c = let named = due (cleaned-of c) in there (round named .loop .inv .0) (head named .pre .named) (named .before .loop-test .taken)

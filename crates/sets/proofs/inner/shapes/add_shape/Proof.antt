@@ -6,7 +6,9 @@ use Rattle.sets.proofs.inner.shapes.add_shape.Tie as tie
 
 -- from the end to the shape's answer
 abbrev cleaned-of : tie.After-groups → tie.After-shape
-cleaned-of c = c .before .before .before .before .before .before .before .before .before .before .before
+cleaned-of c =
+    let back = c .before .before .before .before .before in
+    back .before .before .before .before .before .before
 
 shape-requires : tie.Need-shape-requires
 shape-requires c κs = search needs
@@ -35,7 +37,8 @@ same-length-6 c = c .before .group .kept .1 .1 .0
 returns : tie.Need-returns
 returns c =
     let cleaned = cleaned-of c in
-    let s = cleaned .before .before .before .before .before .before .before .before .before .before in
+    let lent = cleaned .before .before .before .before .before in
+    let s = lent .before .before .before .before .before in
     added-is _ _ _ _ _ _ _ (c .before .group .ensures) (s .args .out .now) _ (s .args .records .now) _ _ (cleaned .shape .ensures)
 
 pub add-shape-spec : {M : Type 1} → statement M

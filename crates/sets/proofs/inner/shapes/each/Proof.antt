@@ -46,7 +46,8 @@ loop-less c = search needs
 
 loop-again : tie.Need-loop-again Inv-loop μ-loop
 loop-again c =
-    let added = c .before .before .before .before .before .before .before .before .before in
+    let back = c .before .before .before in
+    let added = back .before .before .before .before .before .before in
     let long = added .add-shape .kept .1 .1 .1 .1 in
     let own = due (added .before) in
     let t = own .before in

@@ -7,7 +7,9 @@ use Rattle.sets.proofs.inner.shapes.sweep_shape.Tie as tie
 
 -- from where the one range is written to the start
 abbrev head : tie.After-group → tie.Start
-head c = c .before .before .before .before .before .before .before .before .before .before
+head c =
+    let lent = c .before .before .before .before .before in
+    lent .before .before .before .before .before
 
 slice-aggregate-sweep-shapes : tie.Need-slice-aggregate-sweep-shapes
 slice-aggregate-sweep-shapes c = search needs
@@ -40,7 +42,8 @@ same-length-5 c = search needs
 
 returns : tie.Need-returns
 returns c =
-    let cleaned = c .before .before .before .before .before .before .before .before .before .before in
+    let back = c .before .before .before .before in
+    let cleaned = back .before .before .before .before .before .before in
     let s = head (cleaned .before) in
     let said = cleaned .sweep-shapes .ensures in
     (alone-tested (s .args .points .now) (s .args .ranges .now) (s .args .out .now) (s .args .records .now) _ (s .args .rule) (cleaned .sweep-shapes .result) _ _ _ (said .0) _ (c .only .ensures), said .1)

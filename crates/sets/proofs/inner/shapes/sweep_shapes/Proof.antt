@@ -10,7 +10,10 @@ abbrev zeroed-of : tie.After-slice-known9 → tie.After-zero-scratch
 zeroed-of c = c .before .before .before .before .before .before
 
 abbrev cleaned-of : tie.After-zero-scratch → tie.After-each
-cleaned-of c = c .before .before .before .before .before .before .before .before .before .before .before .before .before
+cleaned-of c =
+    let lent = c .before .before .before in
+    let back = lent .before .before .before .before in
+    back .before .before .before .before .before .before
 
 each-requires : tie.Need-each-requires
 each-requires c κs = search needs
