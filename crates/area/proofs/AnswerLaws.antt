@@ -8,6 +8,7 @@ use lib.Signed.{mag}
 use borrow.Author.Tests.{eq-eqb, ne-eqb, eqb-false}
 use mir.Syntax.{w64}
 use mir.Val.{SFits}
+use Rattle.grid.specs.Limits.{limit}
 use Rattle.grid.specs.Points.{points}
 use Rattle.grid.specs.Area.{reported, halved}
 use Rattle.replies.specs.Ladder.{first-of}
@@ -23,10 +24,10 @@ answer-refused (suc k) z n = refl
 
 module _ (row : List ℤ) where
   -- the refusals, one by one
-  pub refused-domain : (k : ℕ) → k ≡ first-of (domain row) → (k ≡ 0 → ⊥) → k ≡ first-of (refusals row)
+  pub refused-domain : (k : ℕ) → k ≡ first-of (domain limit row) → (k ≡ 0 → ⊥) → k ≡ first-of (refusals row)
   refused-domain k e n = first-is (refusals row) k (stopped _ _ _ e n)
 
-  module _ (e : first-of (domain row) ≡ 0) where
+  module _ (e : first-of (domain limit row) ≡ 0) where
     pub refused-empty : count row ≡ 0 → 8 ≡ first-of (refusals row)
     refused-empty h = first-is (refusals row) 8 (onward _ _ _ tt e (here (eq-eqb _ _ h)))
 
@@ -36,7 +37,7 @@ module _ (row : List ℤ) where
   -- a contour that is not refused
   pub filled-contour : first-of (refusals row) ≡ 0 → Contour row (count row) × (0 < count row)
   filled-contour z =
-      let d = cleared (domain row) (empty row) tt z in
+      let d = cleared (domain limit row) (empty row) tt z in
       (in-domain row (d .0), omega (arith, eqb-false (count row) 0 (clear (empty row) tt (d .1) .0)))
 
   -- what is answered

@@ -19,10 +19,15 @@ Areas row two one = (doubled row ≡ record { reply = 0; value = two }) × (half
 abbrev Refused : List ℤ → ℕ → Type 0
 Refused row k = (doubled row ≡ record { reply = k; value = pos 0 }) × (half row ≡ record { reply = k; value = pos 0 })
 
-at-the-limit : Areas (pos 536870912 ∷ negsuc 536870911 ∷ []) (pos 0) (pos 0)
+at-the-limit : Areas (pos 1073741823 ∷ negsuc 1073741822 ∷ []) (pos 0) (pos 0)
 unfolding doubled half first-of limit most on-grid all-on-grid points cross around exact wrapped mod64
 at-the-limit = (refl, refl)
 
-past-the-limit : Refused (pos 536870913 ∷ pos 0 ∷ []) 3
+-- what is off the narrow grid alone is answered
+past-the-narrow-grid : Areas (pos 536870913 ∷ pos 0 ∷ []) (pos 0) (pos 0)
+unfolding doubled half first-of limit most on-grid all-on-grid points cross around exact wrapped mod64
+past-the-narrow-grid = (refl, refl)
+
+past-the-limit : Refused (pos 1073741824 ∷ pos 0 ∷ []) 3
 unfolding doubled half first-of limit most on-grid all-on-grid
 past-the-limit = (refl, refl)

@@ -3,6 +3,7 @@ use mathlib.Core.List.{List, [], _∷_, _++_}
 use Prim.Native.Nat.{ℕ, zero, suc}
 use lib.Dec.{eqb}
 use lib.IntN.{ℤ, pos}
+use Rattle.grid.specs.Limits.{limit}
 use Rattle.grid.specs.Points.{points}
 use Rattle.grid.specs.Area.{reported, halved}
 use Rattle.replies.specs.Ladder.{Rung, first-of}
@@ -15,7 +16,7 @@ empty row = (eqb (count row) 0, 8) ∷ []
 
 -- the refusals of an area
 abbrev pub refusals : List ℤ → List Rung
-refusals row = domain row ++ empty row
+refusals row = domain limit row ++ empty row
 
 -- a refusal's number and 0, or 0 and the value
 abbrev pub answer : ℕ → ℤ → Area

@@ -28,7 +28,7 @@ fn added(total: u64, t: i64) -> u64
 
 // A coordinate times how far another goes.
 fn product(x: i32, dy: i64) -> i64
-    requires { ⌜ (on-grid x ≡ true) × In (2 * limit) dy ⌝ }
+    requires { ⌜ (on-grid limit x ≡ true) × In (2 * limit) dy ⌝ }
     ensures { λ r. ⌜ r ≡ x *ℤ dy ⌝ }
 {
     integers::wide(x) * dy

@@ -117,7 +117,7 @@ shape-added = refl
 -- an odd row is told before unsound ranges, and these before a coordinate off the grid
 in-order :
     (C.points-count (row (0 ∷ [])) (1 to 2 ∷ []) ≡ record { reply = 1; count = 0 })
-    × (C.points-count (row (536870913 ∷ 0 ∷ [])) [] ≡ record { reply = 6; count = 0 })
-    × (C.points-count (row (536870913 ∷ 0 ∷ [])) (0 to 1 ∷ []) ≡ record { reply = 3; count = 0 })
+    × (C.points-count (row (1073741824 ∷ 0 ∷ [])) [] ≡ record { reply = 6; count = 0 })
+    × (C.points-count (row (1073741824 ∷ 0 ∷ [])) (0 to 1 ∷ []) ≡ record { reply = 3; count = 0 })
 unfolding limit most on-grid all-on-grid first-of sound-from C.points-count
 in-order = (refl, refl, refl)

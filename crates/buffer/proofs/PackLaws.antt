@@ -9,7 +9,7 @@ use lib.IntN.{ℤ}
 use lib.Dec.{leb}
 use borrow.Author.Tests.{ltb-false, eqb-false, not-false}
 use Rattle.integers.proofs.Logic.{and-left, and-right}
-use Rattle.grid.specs.Limits.{most, all-on-grid}
+use Rattle.grid.specs.Limits.{limit, most, all-on-grid}
 use Rattle.replies.specs.Ladder.{first-of, so-far, room}
 use Rattle.grid.specs.Domain.{count}
 use Rattle.replies.proofs.LadderLaws.{clear}
@@ -30,19 +30,19 @@ use Rattle.buffer.proofs.AnswerLaws.{Fits, packing-refused, packing-fit
 pub shape-movable : (p : List ℤ) (cs : List (List ℕ)) (k : ℕ) → k ≡ first-of (C.refusals p cs) → k ≡ 0 → Movable cs 0
 unfolding most
 shape-movable p cs k e z =
-    let a = accepted p (sound (spans cs) (count p)) (sym e ∙ z) in
+    let a = accepted limit p (sound (spans cs) (count p)) (sym e ∙ z) in
     movable cs (count p) 0 (a .sound) (omega (arith, a .few))
 
 module _ (p : List ℤ) (cs ss : List (List ℕ)) (k : ℕ) (e : k ≡ first-of (S.refusals p cs ss)) (z : k ≡ 0) where
   pub contours-movable : Movable cs 0
   unfolding most
   contours-movable =
-      let a = accepted p (sound (spans cs) (count p) && sound (spans ss) (length cs)) (sym e ∙ z) in
+      let a = accepted limit p (sound (spans cs) (count p) && sound (spans ss) (length cs)) (sym e ∙ z) in
       movable cs (count p) 0 (and-left (sound (spans cs) (count p)) _ (a .sound)) (omega (arith, a .few))
 
   pub shapes-movable : length cs < 2 ^ 64 → Movable ss 0
   shapes-movable h =
-      let a = accepted p (sound (spans cs) (count p) && sound (spans ss) (length cs)) (sym e ∙ z) in
+      let a = accepted limit p (sound (spans cs) (count p) && sound (spans ss) (length cs)) (sym e ∙ z) in
       movable ss (length cs) 0 (and-right (sound (spans cs) (count p)) _ (a .sound)) (omega arith)
 
 -- a set and what is added to it, not refused
@@ -51,8 +51,8 @@ pub record Joined (p more : List ℤ) (s : Bool) : Type 0 where
   pub more-even : length more ≡ 2 * count more
   pub few : count p + count more ≤ most
   pub sound : s ≡ true
-  pub on : all-on-grid p ≡ true
-  pub more-on : all-on-grid more ≡ true
+  pub on : all-on-grid limit p ≡ true
+  pub more-on : all-on-grid limit more ≡ true
 
 pub joined : (p more : List ℤ) (s : Bool) (k : ℕ) → k ≡ first-of (both p more s) → k ≡ 0 → Joined p more s
 joined p more s k e z =
@@ -62,8 +62,8 @@ joined p more s k e z =
       more-even = omega (arith, eqb-false (length more % 2) 1 (c .1 .0));
       few = ltb-false _ _ (c .1 .1 .0);
       sound = not-false s (c .1 .1 .1 .0);
-      on = not-false (all-on-grid p) (c .1 .1 .1 .1 .0);
-      more-on = not-false (all-on-grid more) (c .1 .1 .1 .1 .1 .0);
+      on = not-false (all-on-grid limit p) (c .1 .1 .1 .1 .0);
+      more-on = not-false (all-on-grid limit more) (c .1 .1 .1 .1 .1 .0);
     }
 
 pub count-append : (p more : List ℤ) → length p ≡ 2 * count p → count p + count more ≡ count (p ++ more)

@@ -11,6 +11,7 @@ use lib.Dec.{ltb}
 use borrow.Author.Tests.{ltb-true, ltb-false}
 use Rattle.integers.proofs.Logic.{and-left, and-right}
 use Rattle.replies.specs.Ladder.{first-of}
+use Rattle.grid.specs.Limits.{limit}
 use Rattle.grid.specs.Domain.{count, domain, Contour}
 use Rattle.grid.proofs.LimitLaws.{on-dropped, on-taken}
 use Rattle.buffer.specs.declared.answer.Counted.{Counted}
@@ -44,7 +45,7 @@ module _ (p : List ℤ) (cs : List (List ℕ)) (k : ℕ) (d : Contour p (count p
       record {
         even = omega (arith, part-long, n .forward);
         few = omega (arith, part-long, n .fits, d .even, d .few);
-        on = on-taken (2 * r .end - 2 * r .start) (drop (2 * r .start) p) (on-dropped (2 * r .start) p (d .on));
+        on = on-taken limit (2 * r .end - 2 * r .start) (drop (2 * r .start) p) (on-dropped limit (2 * r .start) p (d .on));
       }
 
 -- what a caller who does not ask where a part lies knows of it
@@ -107,7 +108,7 @@ module _ (p : Part) (cs : List (List ℕ)) (k r : ℕ) (e : r ≡ first-of (C.re
 
 module _ (p : List ℤ) (cs : List (List ℕ)) (k r : ℕ) (e : r ≡ first-of (C.refusals p cs)) (z : r ≡ 0) (h : k < length cs) where
   pub contour-named : Names p cs k
-  contour-named = let a = accepted p (sound (spans cs) (count p)) (sym e ∙ z) in names-of p cs k (a .even) (a .sound) h
+  contour-named = let a = accepted limit p (sound (spans cs) (count p)) (sym e ∙ z) in names-of p cs k (a .even) (a .sound) h
 
 -- the first contour
 pub first-there : (p : Part) (cs : List (List ℕ)) → (length cs ≡ 0 → ⊥) → C.contour-at p cs 0 ≡ C.first-contour p cs
@@ -115,12 +116,12 @@ unfolding C.first-contour
 first-there p [] n = absurd (n refl)
 first-there p (r ∷ cs) n = refl
 
-module _ (p : Part) (cs : List (List ℕ)) (e : length cs ≡ 0) (r : ℕ) (f : r ≡ first-of (domain (p .numbers))) where
-  loose : handed (first-of (domain (p .numbers))) p p ≡ C.first-contour p cs
+module _ (p : Part) (cs : List (List ℕ)) (e : length cs ≡ 0) (r : ℕ) (f : r ≡ first-of (domain limit (p .numbers))) where
+  loose : handed (first-of (domain limit (p .numbers))) p p ≡ C.first-contour p cs
   unfolding C.first-contour
   loose = go cs e
     where
-      go : (cs : List (List ℕ)) → length cs ≡ 0 → handed (first-of (domain (p .numbers))) p p ≡ C.first-contour p cs
+      go : (cs : List (List ℕ)) → length cs ≡ 0 → handed (first-of (domain limit (p .numbers))) p p ≡ C.first-contour p cs
       go [] e = refl
       go (c ∷ cs) e = absurd (omega arith)
 
@@ -175,7 +176,7 @@ module _ (p : List ℤ) (cs ss : List (List ℕ)) (s r : ℕ) (e : r ≡ first-o
 
     module _ (h : s < length ss) where
       pub shape-within : Within (length cs) (span (getD ss s []))
-      shape-within = range-within ss (length cs) s (and-right (sound (spans cs) (count p)) (sound (spans ss) (length cs)) (accepted p _ (sym e ∙ z) .sound)) h
+      shape-within = range-within ss (length cs) s (and-right (sound (spans cs) (count p)) (sound (spans ss) (length cs)) (accepted limit p _ (sym e ∙ z) .sound)) h
 
       pub inside-there : (a : Counted) → a ≡ counted 0 (getD (getD ss s []) 1 0 - getD (getD ss s []) 0 0) → a ≡ S.contours-in p cs ss s
       unfolding S.contours-in shape
@@ -213,7 +214,7 @@ module _ (p : Part) (cs ss : List (List ℕ)) (s c : ℕ) (a : Counted) (e : a �
               let k = ltb-true s (length ss) g in
               let w = shape-within (p .numbers) cs ss s 0 f refl k in
               let l : c < getD (getD ss s []) 1 0 - getD (getD ss s []) 0 0 = omega (arith, shape-length (contour (p .numbers)) cs ss s w k) in
-              let ok = accepted (p .numbers) _ (sym f) in
+              let ok = accepted limit (p .numbers) _ (sym f) in
               record {
                 shape = k;
                 names = names-of (p .numbers) cs _ (ok .even) (and-left (sound (spans cs) (count (p .numbers))) _ (ok .sound)) (omega (arith, w .ends));

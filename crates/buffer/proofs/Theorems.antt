@@ -8,6 +8,7 @@ use lib.ListN.{length, getD, length-append, length-map}
 use lib.IntN.{ℤ}
 use Rattle.integers.proofs.Logic.{and-left}
 use Rattle.replies.specs.Ladder.{Rung, first-of}
+use Rattle.grid.specs.Limits.{limit}
 use Rattle.grid.specs.Domain.{count, domain}
 use Rattle.grid.proofs.LimitLaws.{on-joined}
 use Rattle.grid.proofs.DomainLaws.{in-domain}
@@ -30,14 +31,14 @@ whole-is : (c : List ℤ) → length c ≡ 2 * count c → contour c (whole c) �
 whole-is c e = all-of c (doubled (whole c)) refl (sym e)
 
 -- what an addition that is not refused has written is a set that no call refuses
-grown : (p more : List ℤ) (s : Bool) → Joined p more s → (t : Bool) → t ≡ true → Accepted (p ++ more) t
+grown : (p more : List ℤ) (s : Bool) → Joined p more s → (t : Bool) → t ≡ true → Accepted limit (p ++ more) t
 grown p more s j t e =
     let l : length (p ++ more) ≡ length p + length more = length-append p more in
     record {
       even = omega (arith, j .even, j .more-even);
       few = omega (arith, j .few, count-append p more (j .even));
       sound = e;
-      on = rw (on-joined p more, j .on, j .more-on);
+      on = rw (on-joined limit p more, j .on, j .more-on);
     }
 
 -- a flat set that is sound
@@ -134,10 +135,10 @@ whole-sound n s e f = sound-first 0 n s [] (sym e) (omega arith) (sound-nothing 
 -- the calls that pack, and are not refused
 module _ (o : Outcome) (ok : o .answer .reply ≡ 0) where
   module _ (p out : List ℤ) (records : List (List ℕ)) (e : o ≡ C.with-contour p out records) where
-    contour-written : Written (domain p) p (whole p ∷ []) [] o
-    contour-written = written (domain p) tt p (whole p ∷ []) [] out records [] o e ok
+    contour-written : Written (domain limit p) p (whole p ∷ []) [] o
+    contour-written = written (domain limit p) tt p (whole p ∷ []) [] out records [] o e ok
 
-    contour-accepted : Accepted p (sound (whole p ∷ []) (count p))
+    contour-accepted : Accepted limit p (sound (whole p ∷ []) (count p))
     contour-accepted = let c = in-domain p (contour-written .clear) in record { even = c .even; few = c .few; sound = whole-sound (count p) (whole p) refl refl; on = c .on }
 
     pub a-packed-contour-is-unpacked : (at : ℕ × ℕ) → C.contour-at (lying at (written-points o)) (written-contours o) 0 .numbers ≡ p
@@ -151,18 +152,18 @@ module _ (o : Outcome) (ok : o .answer .reply ≡ 0) where
     shape-written = written (C.refusals p cs) tt p (spans cs) [] out records [] o e ok
 
     pub every-contour-of-a-packed-shape-is-unpacked : (at : ℕ × ℕ) (k : ℕ) → C.contour-at (lying at (written-points o)) (written-contours o) k .numbers ≡ getD (contours p (spans cs)) k []
-    every-contour-of-a-packed-shape-is-unpacked = unpacked-contour _ p (spans cs) [] o shape-written (accepted p _ (shape-written .clear))
+    every-contour-of-a-packed-shape-is-unpacked = unpacked-contour _ p (spans cs) [] o shape-written (accepted limit p _ (shape-written .clear))
 
     pub a-packed-shape-is-a-set-that-no-call-refuses : first-of (C.refusals (written-points o) (written-contours o)) ≡ 0
-    a-packed-shape-is-a-set-that-no-call-refuses = contours-taken _ p (spans cs) [] o shape-written (accepted p _ (shape-written .clear))
+    a-packed-shape-is-a-set-that-no-call-refuses = contours-taken _ p (spans cs) [] o shape-written (accepted limit p _ (shape-written .clear))
 
   module _ (p : List ℤ) (cs ss : List (List ℕ)) (out : List ℤ) (records : List (List ℕ)) (e : o ≡ C.with-shapes p cs ss out records) where
     shapes-written : Written (S.refusals p cs ss) p (spans cs) [] o
     shapes-written = written (S.refusals p cs ss) tt p (spans cs) [] out records [] o e ok
 
-    shapes-accepted : Accepted p (sound (spans cs) (count p))
+    shapes-accepted : Accepted limit p (sound (spans cs) (count p))
     shapes-accepted =
-        let a = accepted p (sound (spans cs) (count p) && sound (spans ss) (length cs)) (shapes-written .clear) in
+        let a = accepted limit p (sound (spans cs) (count p) && sound (spans ss) (length cs)) (shapes-written .clear) in
         record { even = a .even; few = a .few; sound = and-left (sound (spans cs) (count p)) _ (a .sound); on = a .on }
 
     pub every-contour-of-packed-shapes-is-unpacked : (at : ℕ × ℕ) (k : ℕ) → C.contour-at (lying at (written-points o)) (written-contours o) k .numbers ≡ getD (contours p (spans cs)) k []
@@ -183,10 +184,10 @@ module _ (o : Outcome) (ok : o .answer .reply ≡ 0) where
     abbrev only : List Span
     only = every (whole p ∷ []) ∷ []
 
-    lone-written : Written (domain p) p (whole p ∷ []) only o
-    lone-written = written (domain p) tt p (whole p ∷ []) only out records groups o e ok
+    lone-written : Written (domain limit p) p (whole p ∷ []) only o
+    lone-written = written (domain limit p) tt p (whole p ∷ []) only out records groups o e ok
 
-    lone-accepted : Accepted p (sound (whole p ∷ []) (count p) && sound only 1)
+    lone-accepted : Accepted limit p (sound (whole p ∷ []) (count p) && sound only 1)
     lone-accepted =
         let c = in-domain p (lone-written .clear) in
         record { even = c .even; few = c .few; sound = rw (whole-sound (count p) (whole p) refl refl, whole-sound 1 (every (whole p ∷ [])) refl refl); on = c .on }
@@ -202,9 +203,9 @@ module _ (o : Outcome) (ok : o .answer .reply ≡ 0) where
     one-written : Written (C.refusals p cs) p (spans cs) (every cs ∷ []) o
     one-written = written (C.refusals p cs) tt p (spans cs) (every cs ∷ []) out records groups o e ok
 
-    one-accepted : Accepted p (sound (spans cs) (count p) && sound (every cs ∷ []) (length (spans cs)))
+    one-accepted : Accepted limit p (sound (spans cs) (count p) && sound (every cs ∷ []) (length (spans cs)))
     one-accepted =
-        let a = accepted p (sound (spans cs) (count p)) (one-written .clear) in
+        let a = accepted limit p (sound (spans cs) (count p)) (one-written .clear) in
         record { even = a .even; few = a .few; sound = rw (a .sound, whole-sound (length (spans cs)) (every cs) refl (sym (spans-length cs))); on = a .on }
 
     pub every-contour-of-a-packed-shape-is-unpacked-from-it : (at : ℕ × ℕ) (c : ℕ)
@@ -221,8 +222,8 @@ module _ (o : Outcome) (ok : o .answer .reply ≡ 0) where
     all-written : Written (S.refusals p cs ss) p (spans cs) (spans ss) o
     all-written = written (S.refusals p cs ss) tt p (spans cs) (spans ss) out records groups o e ok
 
-    all-accepted : Accepted p (sound (spans cs) (count p) && sound (spans ss) (length (spans cs)))
-    all-accepted = rw (spans-length cs) (accepted p (sound (spans cs) (count p) && sound (spans ss) (length cs)) (all-written .clear))
+    all-accepted : Accepted limit p (sound (spans cs) (count p) && sound (spans ss) (length (spans cs)))
+    all-accepted = rw (spans-length cs) (accepted limit p (sound (spans cs) (count p) && sound (spans ss) (length cs)) (all-written .clear))
 
     pub every-contour-of-every-packed-shape-is-unpacked : (at : ℕ × ℕ) (s c : ℕ)
         → S.contour-of (lying at (written-points o)) (written-contours o) (written-shapes o) s c .numbers ≡ getD (getD (shapes p (spans cs) (spans ss)) s []) c []

@@ -10,6 +10,7 @@ use lib.Seq.{take-at}
 use lib.IntN.{ℤ}
 use borrow.Author.Tests.{ne-eqb, le-ltb}
 use Rattle.replies.specs.Ladder.{Rung, first-of, room}
+use Rattle.grid.specs.Limits.{limit}
 use Rattle.grid.specs.Domain.{count}
 use Rattle.replies.proofs.LadderLaws.{numbered, cleared, first-is}
 use Rattle.replies.proofs.LadderLaws.First.{past, foot}
@@ -30,7 +31,7 @@ pub spans-rows : (l : List Span) → spans (rows l) ≡ l
 spans-rows [] = refl
 spans-rows (s ∷ l) = ap (λ (k : List Span). s ∷ k) (spans-rows l)
 
-pub accepted-clear : (p : List ℤ) (s : Bool) → Accepted p s → first-of (set p s) ≡ 0
+pub accepted-clear : (p : List ℤ) (s : Bool) → Accepted limit p s → first-of (set limit p s) ≡ 0
 accepted-clear p s a =
     sym
     (first-is _ 0
@@ -76,19 +77,19 @@ refused-unchanged l p cs ss out contours shapes o e n = go (first-of (l ++ room 
 
 -- unpacked by number
 module _ (l : List Rung) (p : List ℤ) (cs ss : List Span) (o : Outcome) (w : Written l p cs ss o) where
-  pub unpacked-contour : Accepted p (sound cs (count p)) → (at : ℕ × ℕ) (k : ℕ) → C.contour-at (lying at (written-points o)) (written-contours o) k .numbers ≡ getD (contours p cs) k []
+  pub unpacked-contour : Accepted limit p (sound cs (count p)) → (at : ℕ × ℕ) (k : ℕ) → C.contour-at (lying at (written-points o)) (written-contours o) k .numbers ≡ getD (contours p cs) k []
   unfolding C.contour-at
   unpacked-contour a at k = rw (w .points (a .even), w .contours, accepted-clear p (sound cs (count p)) a) (part-holds (lying at p) cs k)
 
-  pub contours-taken : Accepted p (sound cs (count p)) → first-of (C.refusals (written-points o) (written-contours o)) ≡ 0
+  pub contours-taken : Accepted limit p (sound cs (count p)) → first-of (C.refusals (written-points o) (written-contours o)) ≡ 0
   contours-taken a = rw (w .points (a .even), w .contours) (accepted-clear p (sound cs (count p)) a)
 
-  pub shapes-taken : Accepted p (sound cs (count p) && sound ss (length cs)) → first-of (S.refusals (written-points o) (written-contours o) (written-shapes o)) ≡ 0
+  pub shapes-taken : Accepted limit p (sound cs (count p) && sound ss (length cs)) → first-of (S.refusals (written-points o) (written-contours o) (written-shapes o)) ≡ 0
   shapes-taken a =
       let n : length (written-contours o) ≡ length cs = sym (spans-length (written-contours o)) ∙ ap length (w .contours) in
       rw (w .points (a .even), n, w .contours, w .shapes) (accepted-clear p (sound cs (count p) && sound ss (length cs)) a)
 
-  pub unpacked-shape : Accepted p (sound cs (count p) && sound ss (length cs)) → (at : ℕ × ℕ) (s c : ℕ)
+  pub unpacked-shape : Accepted limit p (sound cs (count p) && sound ss (length cs)) → (at : ℕ × ℕ) (s c : ℕ)
       → S.contour-of (lying at (written-points o)) (written-contours o) (written-shapes o) s c .numbers ≡ getD (getD (shapes p cs ss) s []) c []
   unfolding S.contour-of
   unpacked-shape a at s c =

@@ -6,6 +6,7 @@ use lib.ListN.{length, getD}
 use lib.IntN.{ℤ}
 use Rattle.replies.specs.declared.Verdict.{Verdict}
 use Rattle.replies.specs.Ladder.{Rung, first-of}
+use Rattle.grid.specs.Limits.{limit}
 use Rattle.grid.specs.Domain.{count, domain}
 use Rattle.replies.specs.Verdicts.{verdict}
 use Rattle.buffer.specs.declared.answer.Counted.{Counted}
@@ -19,7 +20,7 @@ use Rattle.buffer.specs.Shapes.{refusals as shape-refusals}
 
 -- what every call asks of a contour set
 abbrev pub refusals : List ℤ → List (List ℕ) → List Rung
-refusals p ranges = set p (sound (spans ranges) (count p))
+refusals p ranges = set limit p (sound (spans ranges) (count p))
 
 -- no points, even with ranges
 unfoldable pub is-empty : List ℤ → List (List ℕ) → Verdict
@@ -43,12 +44,12 @@ contour-at p ranges k = handed (first-of (refusals (p .numbers) ranges)) p (getD
 
 -- the first contour; all points where there are no ranges
 unfoldable pub first-contour : Part → List (List ℕ) → Part
-first-contour p [] = handed (first-of (domain (p .numbers))) p p
+first-contour p [] = handed (first-of (domain limit (p .numbers))) p p
 first-contour p (r ∷ ranges) = contour-at p (r ∷ ranges) 0
 
 -- a set of one contour
 abbrev pub with-contour : List ℤ → List ℤ → List (List ℕ) → Outcome
-with-contour p out ranges = stored (domain p) p (whole p ∷ []) [] out ranges []
+with-contour p out ranges = stored (domain limit p) p (whole p ∷ []) [] out ranges []
 
 -- the contours of a shape
 abbrev pub with-shape : List ℤ → List (List ℕ) → List ℤ → List (List ℕ) → Outcome

@@ -7,6 +7,7 @@ use lib.ListN.{length, getD}
 use lib.IntN.{ℤ}
 use Rattle.replies.specs.declared.Verdict.{Verdict}
 use Rattle.replies.specs.Ladder.{Rung, first-of}
+use Rattle.grid.specs.Limits.{limit}
 use Rattle.grid.specs.Domain.{count, domain}
 use Rattle.replies.specs.Verdicts.{verdict}
 use Rattle.buffer.specs.declared.answer.Counted.{Counted}
@@ -19,7 +20,7 @@ use Rattle.buffer.specs.Answers.{counted, Outcome, stored}
 
 -- what every call asks of a shape set: its contours and its shapes have sound ranges
 abbrev pub refusals : List ℤ → List (List ℕ) → List (List ℕ) → List Rung
-refusals p cs ss = set p (sound (spans cs) (count p) && sound (spans ss) (length cs))
+refusals p cs ss = set limit p (sound (spans cs) (count p) && sound (spans ss) (length cs))
 
 -- no points, even with ranges
 unfoldable pub is-empty : List ℤ → List (List ℕ) → List (List ℕ) → Verdict
@@ -47,12 +48,12 @@ contour-of p cs ss s c = handed (first-of (refusals (p .numbers) cs ss)) p (getD
 
 -- a set of one shape, of one contour
 abbrev pub with-contour : List ℤ → List ℤ → List (List ℕ) → List (List ℕ) → Outcome
-with-contour p out contours shapes = stored (domain p) p (whole p ∷ []) (every (whole p ∷ []) ∷ []) out contours shapes
+with-contour p out contours shapes = stored (domain limit p) p (whole p ∷ []) (every (whole p ∷ []) ∷ []) out contours shapes
 
 -- a set of one shape
 abbrev pub with-shape : List ℤ → List (List ℕ) → List ℤ → List (List ℕ) → List (List ℕ) → Outcome
 with-shape p cs out contours shapes =
-    stored (set p (sound (spans cs) (count p)))
+    stored (set limit p (sound (spans cs) (count p)))
     p (spans cs) (every cs ∷ [])
     out contours shapes
 

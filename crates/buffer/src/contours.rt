@@ -12,6 +12,7 @@ use crate::answer::Packed;
 use crate::inner::joining;
 use crate::inner::packing;
 use crate::inner::parts;
+use crate::inner::refusing;
 use crate::ranges;
 use crate::refusal;
 use crate::shapes;
@@ -21,7 +22,7 @@ use replies::Verdict;
 pub fn refused(points: &[i32], ranges: &[[usize; 2]]) -> u32
     ensures { λ r. ⌜ r ≡ first-of (refusals (now (points .entry)) (now (ranges .entry))) ⌝ }
 {
-    refusal::of_set(points, ranges::sound(ranges, points.len() / 2))
+    refusing::contours(grid::LIMIT, points, ranges)
 }
 
 // Whether the set has no points, even with ranges.

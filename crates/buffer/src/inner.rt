@@ -2,3 +2,4 @@
 pub mod joining;
 pub mod packing;
 pub mod parts;
+pub mod refusing;

@@ -1,24 +1,7 @@
-// The refusals that the calls on sets share.
+// The refusals of an addition.
 ghost use mathlib.Core.Path.{_≡_};
 ghost use Rattle.replies.specs.Ladder.{first-of};
-ghost use Rattle.buffer.specs.Refusals.{set, both};
-
-// What every call asks of a set, whose ranges are sound or not: 0, or the number of its first refusal.
-pub fn of_set(points: &[i32], sound: bool) -> u32
-    ensures { λ r. ⌜ r ≡ first-of (set (now (points .entry)) sound) ⌝ }
-{
-    let domain = grid::domain(points);
-    if domain == replies::ODD {
-        return replies::ODD;
-    }
-    if domain == replies::TOO_MANY {
-        return replies::TOO_MANY;
-    }
-    if !sound {
-        return replies::RANGES;
-    }
-    domain
-}
+ghost use Rattle.buffer.specs.Refusals.{both};
 
 // What an addition asks of a set and of what is added to it, a number of both before the next number.
 pub fn of_both(points: &[i32], more: &[i32], sound: bool) -> u32

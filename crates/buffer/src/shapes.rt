@@ -12,6 +12,7 @@ use crate::contours;
 use crate::inner::joining;
 use crate::inner::packing;
 use crate::inner::parts;
+use crate::inner::refusing;
 use crate::ranges;
 use crate::refusal;
 use replies::Verdict;
@@ -22,8 +23,7 @@ pub fn refused(points: &[i32], contours: &[[usize; 2]], shapes: &[[usize; 2]]) -
         r ≡ first-of (refusals (now (points .entry)) (now (contours .entry)) (now (shapes .entry)))
         ⌝ }
 {
-    let sound = ranges::sound(contours, points.len() / 2) & ranges::sound(shapes, contours.len());
-    refusal::of_set(points, sound)
+    refusing::shapes(grid::LIMIT, points, contours, shapes)
 }
 
 // Whether the set has no points, even with ranges.

@@ -9,6 +9,7 @@ use lib.ListN.{length, take, drop, replicate, length-replicate}
 use lib.Seq.{length-take-le}
 use borrow.Author.Tests.{ltb-false, le-ltb}
 use Rattle.replies.specs.Ladder.{Rung}
+use Rattle.grid.specs.Limits.{limit}
 use Rattle.grid.specs.Domain.{count, domain, Contour}
 use Rattle.rows.specs.Rows.{front}
 use Rattle.grid.specs.Corners.{Corner}
@@ -31,7 +32,7 @@ use Rattle.clean.specs.inside.Settling.{Ready, Settled, Swept}
 pub accepted : (row : List ℤ) (l : Lent) → NotRefused row l → InDomainWithRoom row l
 accepted row l e =
     let rest : List Rung = scratch (count row) (length (l .next)) (length (l .prev)) (length (l .mark)) ++ room (count row) (length (l .out)) in
-    let d = cleared (domain row) rest tt e in
+    let d = cleared (domain limit row) rest tt e in
     let x = in-domain row (d .0) in
     let c = clear rest tt (d .1) in
     record {
@@ -53,7 +54,7 @@ module _ {row : List ℤ} {l : Lent} (x : InDomainWithRoom row l) where
   not-refused =
       sym
       (first-is _ 0
-      (onward (domain row) _ 0 tt (contour-clear row contour)
+      (onward (domain limit row) _ 0 tt (contour-clear row contour)
       (past (le-ltb _ _ (x .room-in-next))
       (past (le-ltb _ _ (x .room-in-prev))
       (past (le-ltb _ _ (x .room-in-mark))

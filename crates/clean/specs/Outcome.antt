@@ -7,6 +7,7 @@ use lib.IntN.{ℤ, pos}
 use lib.Dec.{ltb}
 use Rattle.replies.specs.Ladder.{Rung, first-of}
 use Rattle.rows.specs.Rows.{front, zeroed}
+use Rattle.grid.specs.Limits.{limit}
 use Rattle.grid.specs.Corners.{Corner}
 use Rattle.grid.specs.Domain.{count, domain}
 use Rattle.ring.specs.declared.Rule.{Rule}
@@ -25,7 +26,7 @@ room n out = (ltb out (2 * n), 5) ∷ []
 
 -- the refusals of a cleaning, by the row and the lengths of what is lent
 abbrev pub refusals : List ℤ → ℕ → ℕ → ℕ → ℕ → List Rung
-refusals row next prev mark out = domain row ++ (scratch (count row) next prev mark ++ room (count row) out)
+refusals row next prev mark out = domain limit row ++ (scratch (count row) next prev mark ++ room (count row) out)
 
 -- the walk of the contour by any rule
 abbrev pub walked-by : (Corner → Bool) → List ℤ → Walked

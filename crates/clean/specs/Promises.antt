@@ -6,7 +6,7 @@ use Prim.Native.Nat.{ℕ, _*_, _<_, _≤_}
 use lib.ListN.{length, take, drop, replicate}
 use lib.IntN.{ℤ}
 use Rattle.grid.specs.declared.Point.{Point}
-use Rattle.grid.specs.Limits.{most, all-on-grid}
+use Rattle.grid.specs.Limits.{limit, most, all-on-grid}
 use Rattle.grid.specs.Points.{at, points}
 use Rattle.grid.specs.Corners.{Corner, corner-in}
 use Rattle.grid.specs.Domain.{count}
@@ -23,7 +23,7 @@ NotRefused row l = refusal row l ≡ 0
 pub record InDomainWithRoom (row : List ℤ) (l : Lent) : Type 0 where
   pub even-count : length row ≡ 2 * count row
   pub at-most-65536 : count row ≤ most
-  pub on-the-grid : all-on-grid row ≡ true
+  pub on-the-grid : all-on-grid limit row ≡ true
   pub room-in-next : count row ≤ length (l .next)
   pub room-in-prev : count row ≤ length (l .prev)
   pub room-in-mark : count row ≤ length (l .mark)

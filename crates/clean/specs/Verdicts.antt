@@ -4,6 +4,7 @@ use mathlib.Core.List.{List}
 use lib.Dec.{leb}
 use lib.ListN.{length}
 use lib.IntN.{ℤ}
+use Rattle.grid.specs.Limits.{limit}
 use Rattle.grid.specs.declared.Point.{Point}
 use Rattle.replies.specs.declared.Verdict.{Verdict}
 use Rattle.grid.specs.Points.{points}
@@ -33,7 +34,7 @@ passes Spike l = no-spikes l
 
 -- the answers
 unfoldable pub simple : List ℤ → Verdict
-simple row = verdict (first-of (domain row)) (is-simple (points row))
+simple row = verdict (first-of (domain limit row)) (is-simple (points row))
 
 unfoldable pub spike-free : List ℤ → Verdict
-spike-free row = verdict (first-of (domain row)) (no-spikes (points row))
+spike-free row = verdict (first-of (domain limit row)) (no-spikes (points row))

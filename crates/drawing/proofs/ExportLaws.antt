@@ -12,7 +12,7 @@ use Rattle.integers.proofs.Logic.{and-left, and-right}
 use borrow.Author.Tests.{le-leb, lt-leb, leb-true, leb-false}
 use Rattle.grid.specs.declared.Point.{Point}
 use Rattle.grid.specs.Points.{points}
-use Rattle.grid.specs.Limits.{limit, most, on-grid, all-on-grid}
+use Rattle.grid.specs.Limits.{narrow, most}
 use Rattle.replies.specs.Ladder.{first-of, room}
 use Rattle.grid.specs.Domain.{count}
 use Rattle.rows.specs.Rows.{front}
@@ -22,37 +22,18 @@ use Rattle.grid.proofs.RowLaws.{points-count}
 use Rattle.buffer.specs.declared.ranges.Span.{Span}
 use Rattle.buffer.specs.Spans.{spans, sound-from, sound, size, total}
 use Rattle.buffer.specs.Sets.{joined, contour, contours, Even}
-use Rattle.buffer.specs.Contours as C
 use Rattle.buffer.proofs.RefusalLaws.{Accepted, accepted}
 use Rattle.buffer.proofs.SetLaws.{contours-even, joined-append, sizes-are}
 use Rattle.buffer.proofs.SpanLaws.{ends-at, first-starts, first-forward, others-sound, range-within}
 use Rattle.buffer.proofs.Theorems.{a-sound-set's-contours-laid-end-to-end-are-its-points}
-use Rattle.millimetres.specs.Scale.{bound, millimetres}
+use Rattle.millimetres.specs.Scale.{millimetres}
 use Rattle.drawing.specs.declared.answer.Drawn.{Drawn}
 use Rattle.drawing.specs.declared.command.Command.{Command}
 use Rattle.drawing.specs.declared.command.Command.the-variants.{Line, Close}
 use Rattle.drawing.specs.Commands.{kind, floats, kinds-of, floats-of}
-use Rattle.drawing.specs.Exporting.{place, outline, commands, all-within, refusals, leaving, enough, put, outcome}
+use Rattle.drawing.specs.Exporting.{place, outline, commands, refusals, leaving, enough, put, outcome}
 use Rattle.drawing.specs.inside.Rows.{one, contour-kinds, set-kinds, filled, Forward, none-drawn}
 use Rattle.drawing.proofs.PutLaws.{ones, set-length}
-
--- a coordinate of a drawing is one of the grid
-within-is-on : (z : ℤ) → leb (natAbs z) bound ≡ on-grid z
-unfolding bound on-grid limit
-within-is-on (pos n) = refl
-within-is-on (negsuc n) = go (leb n 536870911) refl
-  where
-    go : (b : Bool) → leb n 536870911 ≡ b → leb (suc n) 536870912 ≡ (leb n 536870911 && true)
-    go true e = rw e (le-leb (suc n) 536870912 (omega (arith, leb-true n 536870911 e)))
-    go false e = rw e (lt-leb (suc n) 536870912 (omega (arith, leb-false n 536870911 e)))
-
-all-within-is : (row : List ℤ) → all-within row ≡ all-on-grid row
-unfolding all-within all-on-grid
-all-within-is [] = refl
-all-within-is (z ∷ row) = ap₂ (λ (a b : Bool). a && b) (within-is-on z) (all-within-is row)
-
-pub same-refusals : (p : List ℤ) (ranges : List (List ℕ)) → C.refusals p ranges ≡ refusals p ranges
-same-refusals p ranges = rw (all-within-is p)
 
 -- the kinds of a contour
 outline-kinds : (l : List Point) → kinds-of (outline l) ≡ contour-kinds (length l)
@@ -149,24 +130,24 @@ module _ (p : List ℤ) (ranges : List (List ℕ)) (kinds : List ℕ) (floats : 
   unfolding outcome
   by-number r f = ap (λ (n : ℕ). put n told-commands kinds floats) f
 
-  pub export-refused : (k : ℕ) → k ≡ first-of (C.refusals p ranges) → (w : Drawn) → w ≡ none-drawn k → (k ≡ 0 → ⊥)
+  pub export-refused : (k : ℕ) → k ≡ first-of (refusals p ranges) → (w : Drawn) → w ≡ none-drawn k → (k ≡ 0 → ⊥)
       → leaving w kinds floats ≡ outcome p ranges kinds floats
   export-refused k e w g n =
       ap (λ (a : Drawn). leaving a kinds floats) g ∙ put-refused told-commands kinds floats k n
       ∙ by-number k
-      (first-is _ _ (stopped (refusals p ranges) (room (enough told-commands kinds floats)) k (e ∙ ap first-of (same-refusals p ranges)) n))
+      (first-is _ _ (stopped (refusals p ranges) (room (enough told-commands kinds floats)) k e n))
 
 -- a set of which nothing is refused, n of whose contours have points, and the rows for its drawing
 pub record Exporting (p : List ℤ) (ranges : List (List ℕ)) (kinds : List ℕ) (floats : List Float) (n : ℕ) : Type 0 where
-  pub free : first-of (C.refusals p ranges) ≡ 0
+  pub free : first-of (refusals p ranges) ≡ 0
   pub filled-ones : n ≡ filled (spans ranges)
 
 module _ {p : List ℤ} {ranges : List (List ℕ)} {kinds : List ℕ} {floats : List Float} {n : ℕ} (set : Exporting p ranges kinds floats n) where
   abbrev drawing : List Command
   drawing = told-commands p ranges kinds floats
 
-  taken : Accepted p (sound (spans ranges) (count p))
-  taken = accepted p (sound (spans ranges) (count p)) (set .free)
+  taken : Accepted narrow p (sound (spans ranges) (count p))
+  taken = accepted narrow p (sound (spans ranges) (count p)) (set .free)
 
   pub export-few : count p + filled (spans ranges) ≤ 2 * most
   export-few = omega (arith, commands-few p ranges (taken .even) (taken .sound), taken .few)
@@ -178,7 +159,7 @@ module _ {p : List ℤ} {ranges : List (List ℕ)} {kinds : List ℕ} {floats : 
       (sym (floats-count p ranges (taken .even) (taken .sound)))
 
   onto : (r : ℕ) → First (room (enough drawing kinds floats)) r → put r drawing kinds floats ≡ outcome p ranges kinds floats
-  onto r f = by-number p ranges kinds floats r (first-is _ _ (onward (refusals p ranges) (room (enough drawing kinds floats)) r tt (sym (ap first-of (same-refusals p ranges)) ∙ set .free) f))
+  onto r f = by-number p ranges kinds floats r (first-is _ _ (onward (refusals p ranges) (room (enough drawing kinds floats)) r tt (set .free) f))
 
   pub export-cramped : (w : Drawn) → w ≡ none-drawn 5 → (leb (count p + n) (length kinds) && leb (length p) (length floats)) ≡ false → leaving w kinds floats ≡ outcome p ranges kinds floats
   export-cramped w g h =

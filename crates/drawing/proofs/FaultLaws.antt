@@ -9,7 +9,8 @@ use Rattle.integers.proofs.Logic.{and-left, and-right}
 use Rattle.replies.specs.Ladder.{first-of}
 use Rattle.replies.proofs.LadderLaws.{first-is}
 use Rattle.replies.proofs.LadderLaws.First.{here, past, foot}
-use Rattle.millimetres.specs.Scale.{bound, finite, size, on-grid}
+use Rattle.grid.specs.Limits.{narrow}
+use Rattle.millimetres.specs.Scale.{finite, size, on-grid}
 use Rattle.drawing.specs.declared.command.Place.{Place}
 use Rattle.drawing.specs.Commands.{Item}
 use Rattle.drawing.specs.Commands.Item.{no-command}
@@ -36,7 +37,7 @@ no-command-decides opened l = refl
 -- what is on the grid is finite
 on-finite : (v : Float) → on-grid v ≡ true → finite v ≡ true
 unfolding on-grid
-on-finite v t = and-left (finite v) (leb (size v) bound) t
+on-finite v t = and-left (finite v) (leb (size v) narrow) t
 
 -- a place on the grid, off it, and none: the code asks for the grid first
 module _ (p : Place) where

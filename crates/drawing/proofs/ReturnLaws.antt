@@ -2,25 +2,24 @@
 use mathlib.Core.Path.{_≡_, refl, ap, ap₂, _∙_}
 use mathlib.Core.Bool.{true, false}
 use mathlib.Core.List.{List, [], _∷_, _++_, map}
-use Prim.Native.Nat.{ℕ, _-_, _*_, _%_, _≤_}
+use Prim.Native.Nat.{ℕ, _-_, _*_, _≤_}
 use native.Mathlib.Omega.{arith}
-use lib.Dec.{leb}
 use lib.ListN.{length}
-use lib.IntN.{ℤ, natAbs}
-use borrow.Author.Tests.{leb-true, eqb-false, ltb-false, not-false}
+use lib.IntN.{ℤ}
 use Rattle.integers.specs.Bound.{In}
 use Rattle.integers.proofs.Logic.{and-left, and-right}
 use Rattle.grid.specs.declared.Point.{Point}
 use Rattle.grid.specs.Points.{points}
-use Rattle.grid.specs.Limits.{most}
+use Rattle.grid.specs.Limits.{narrow, on-grid, all-on-grid}
 use Rattle.replies.specs.Ladder.{first-of}
 use Rattle.grid.specs.Domain.{count}
-use Rattle.replies.proofs.LadderLaws.{clear}
+use Rattle.grid.proofs.LimitLaws.{on-grid-in}
 use Rattle.buffer.specs.Spans.{spans, sound}
 use Rattle.buffer.specs.Sets.{joined, contour, contours, Even}
+use Rattle.buffer.proofs.RefusalLaws.{Accepted}
 use Rattle.buffer.proofs.SetLaws.{contours-even}
 use Rattle.buffer.proofs.Theorems.{a-sound-set's-contours-laid-end-to-end-are-its-points}
-use Rattle.millimetres.specs.Scale.{bound, units, millimetres}
+use Rattle.millimetres.specs.Scale.{units, millimetres}
 use Rattle.millimetres.proofs.Theorems.{in-undoes-out}
 use Rattle.drawing.specs.declared.command.Command.{Command}
 use Rattle.drawing.specs.declared.command.Command.the-variants.{Move, Line, Close}
@@ -28,7 +27,7 @@ use Rattle.drawing.specs.Commands.{Item, item, brought, asked, items, ki
 use Rattle.drawing.specs.Commands.Item.{command}
 use Rattle.drawing.specs.Faults.{place-faults, first-fault}
 use Rattle.drawing.specs.Outlines.{lines, outlines}
-use Rattle.drawing.specs.Exporting.{place, outline, commands, all-within, refusals}
+use Rattle.drawing.specs.Exporting.{place, outline, commands}
 use Rattle.drawing.specs.Promises.{without-empty}
 use Rattle.drawing.proofs.FaultLaws.{fault-passes, place-sound}
 
@@ -49,21 +48,21 @@ floats-match (Line p ∷ l) = omega (arith, floats-match l)
 floats-match (Close ∷ l) = omega (arith, floats-match l)
 
 -- two coordinates of a drawing, out and in again
-module _ (x y : ℤ) (row : List ℤ) (h : all-within (x ∷ y ∷ row) ≡ true) where
+module _ (x y : ℤ) (row : List ℤ) (h : all-on-grid narrow (x ∷ y ∷ row) ≡ true) where
   abbrev one : Point
   one = record { x = x; y = y }
 
-  first-in : In bound x
-  unfolding all-within
-  first-in = record { abs = leb-true _ _ (and-left (leb (natAbs x) bound) _ h) }
+  first-in : In narrow x
+  unfolding all-on-grid
+  first-in = on-grid-in narrow x (and-left (on-grid narrow x) _ h)
 
-  second-in : In bound y
-  unfolding all-within
-  second-in = record { abs = leb-true _ _ (and-left (leb (natAbs y) bound) _ (and-right (leb (natAbs x) bound) _ h)) }
+  second-in : In narrow y
+  unfolding all-on-grid
+  second-in = on-grid-in narrow y (and-left (on-grid narrow y) _ (and-right (on-grid narrow x) _ h))
 
-  others-within : all-within row ≡ true
-  unfolding all-within
-  others-within = and-right (leb (natAbs y) bound) _ (and-right (leb (natAbs x) bound) _ h)
+  others-within : all-on-grid narrow row ≡ true
+  unfolding all-on-grid
+  others-within = and-right (on-grid narrow y) _ (and-right (on-grid narrow x) _ h)
 
   placed-sound : 0 ≡ first-of (place-faults (place one))
   placed-sound = place-sound (place one) (rw (in-undoes-out x first-in .0, in-undoes-out y second-in .0))
@@ -75,14 +74,14 @@ module _ (x y : ℤ) (row : List ℤ) (h : all-within (x ∷ y ∷ row) ≡ true
 abbrev rest : List ℤ → List Command → List Item
 rest row l = map command ((map (λ (q : Point). Line (place q)) (points row) ++ Close ∷ []) ++ l)
 
-rest-faultless : (row : List ℤ) (l : List Command) → all-within row ≡ true → first-fault true (rest row l) ≡ first-fault false (map command l)
+rest-faultless : (row : List ℤ) (l : List Command) → all-on-grid narrow row ≡ true → first-fault true (rest row l) ≡ first-fault false (map command l)
 unfolding points first-fault first-of
 rest-faultless [] l h = refl
 rest-faultless (x ∷ []) l h = refl
 rest-faultless (x ∷ y ∷ row) l h =
     fault-passes true (command (Line (place (one x y row h)))) (rest row l) 0 (placed-sound x y row h) refl ∙ rest-faultless row l (others-within x y row h)
 
-rest-lines : (row : List ℤ) (l : List Command) → length row ≡ 2 * count row → all-within row ≡ true → lines (rest row l) ≡ row
+rest-lines : (row : List ℤ) (l : List Command) → length row ≡ 2 * count row → all-on-grid narrow row ≡ true → lines (rest row l) ≡ row
 unfolding points lines
 rest-lines [] l even h = refl
 rest-lines (x ∷ []) l even h = absurd (omega arith)
@@ -95,18 +94,18 @@ rest-passed (x ∷ []) l = refl
 rest-passed (x ∷ y ∷ row) l = rest-passed row l
 
 -- the parts of a row
-within-front : (a b : List ℤ) → all-within (a ++ b) ≡ true → all-within a ≡ true
-unfolding all-within
+within-front : (a b : List ℤ) → all-on-grid narrow (a ++ b) ≡ true → all-on-grid narrow a ≡ true
+unfolding all-on-grid
 within-front [] b h = refl
-within-front (z ∷ a) b h = rw (and-left (leb (natAbs z) bound) _ h, within-front a b (and-right (leb (natAbs z) bound) _ h))
+within-front (z ∷ a) b h = rw (and-left (on-grid narrow z) _ h, within-front a b (and-right (on-grid narrow z) _ h))
 
-within-behind : (a b : List ℤ) → all-within (a ++ b) ≡ true → all-within b ≡ true
-unfolding all-within
+within-behind : (a b : List ℤ) → all-on-grid narrow (a ++ b) ≡ true → all-on-grid narrow b ≡ true
+unfolding all-on-grid
 within-behind [] b h = h
-within-behind (z ∷ a) b h = within-behind a b (and-right (leb (natAbs z) bound) _ h)
+within-behind (z ∷ a) b h = within-behind a b (and-right (on-grid narrow z) _ h)
 
 -- the commands of a set: none is at fault, and they draw its contours but for its empty ones
-pub faultless : (set : List (List ℤ)) → all-within (joined set) ≡ true → first-fault false (map command (commands set)) ≡ 0
+pub faultless : (set : List (List ℤ)) → all-on-grid narrow (joined set) ≡ true → first-fault false (map command (commands set)) ≡ 0
 unfolding joined outline points first-fault
 faultless [] h = refl
 faultless ([] ∷ set) h = faultless set h
@@ -117,7 +116,7 @@ faultless ((x ∷ y ∷ c) ∷ set) h =
     ∙ rest-faultless c (commands set) (others-within x y c w)
     ∙ faultless set (within-behind (x ∷ y ∷ c) (joined set) h)
 
-pub drawn-back : (set : List (List ℤ)) → Even set → all-within (joined set) ≡ true → outlines (map command (commands set)) ≡ without-empty set
+pub drawn-back : (set : List (List ℤ)) → Even set → all-on-grid narrow (joined set) ≡ true → outlines (map command (commands set)) ≡ without-empty set
 unfolding joined outline points outlines without-empty
 drawn-back [] even h = refl
 drawn-back ([] ∷ set) even h = drawn-back set (even .1) h
@@ -148,28 +147,12 @@ no-more ([] ∷ set) = omega (arith, no-more set)
 no-more ((z ∷ c) ∷ set) = omega (arith, no-more set)
 
 -- a flat set that is not refused
-pub record Drawable (p : List ℤ) (ranges : List (List ℕ)) : Type 0 where
-  pub even : length p ≡ 2 * count p
-  pub few : count p ≤ most
-  pub sound : sound (spans ranges) (count p) ≡ true
-  pub within : all-within p ≡ true
-
-pub drawable : (p : List ℤ) (ranges : List (List ℕ)) → first-of (refusals p ranges) ≡ 0 → Drawable p ranges
-drawable p ranges e =
-    let c = clear (refusals p ranges) tt e in
-    record {
-      even = omega (arith, eqb-false (length p % 2) 1 (c .0));
-      few = ltb-false _ _ (c .1 .0);
-      sound = not-false _ (c .1 .1 .0);
-      within = not-false _ (c .1 .1 .1 .0);
-    }
-
-module _ (p : List ℤ) (ranges : List (List ℕ)) (d : Drawable p ranges) where
+module _ (p : List ℤ) (ranges : List (List ℕ)) (d : Accepted narrow p (sound (spans ranges) (count p))) where
   pub all-points : joined (contours p (spans ranges)) ≡ p
   all-points = a-sound-set's-contours-laid-end-to-end-are-its-points p (spans ranges) (d .even) (d .sound)
 
   pub all-even : Even (contours p (spans ranges))
   all-even = contours-even p 0 (spans ranges) (d .even) (d .sound)
 
-  pub set-within : all-within (joined (contours p (spans ranges))) ≡ true
-  set-within = ap all-within all-points ∙ d .within
+  pub set-within : all-on-grid narrow (joined (contours p (spans ranges))) ≡ true
+  set-within = ap (all-on-grid narrow) all-points ∙ d .on

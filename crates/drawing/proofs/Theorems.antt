@@ -10,11 +10,13 @@ use lib.IntN.{ℤ}
 use lib.Ieee.{Float}
 use borrow.Author.Tests.{le-leb}
 use Rattle.replies.specs.Ladder.{Rung, first-of, room}
+use Rattle.grid.specs.Limits.{narrow}
 use Rattle.grid.specs.Domain.{count}
 use Rattle.replies.proofs.LadderLaws.{cleared, first-is, found}
-use Rattle.buffer.specs.Spans.{spans}
+use Rattle.buffer.specs.Spans.{spans, sound}
 use Rattle.buffer.specs.Sets.{joined, contour, contours, contour-spans}
 use Rattle.buffer.specs.Answers.{Outcome, written-points, written-contours, enough, stored, outcome}
+use Rattle.buffer.proofs.RefusalLaws.{Accepted, accepted}
 use Rattle.buffer.proofs.RowLaws.{spans-length}
 use Rattle.buffer.proofs.SetLaws.{laid-length}
 use Rattle.buffer.proofs.WrittenLaws.{written}
@@ -28,7 +30,7 @@ use Rattle.drawing.specs.Importing as I
 use Rattle.drawing.specs.Exporting as E
 use Rattle.drawing.specs.Promises.{without-empty, commands-of, drawn-kinds, drawn-floats, written-kinds, written-floats}
 use Rattle.drawing.proofs.ImportLaws.{Taken, taken-past}
-use Rattle.drawing.proofs.ReturnLaws.{read-back, floats-match, faultless, drawn-back, same-points, still-even, no-more, Drawable, drawable, all-points, all-even, set-within}
+use Rattle.drawing.proofs.ReturnLaws.{read-back, floats-match, faultless, drawn-back, same-points, still-even, no-more, all-points, all-even, set-within}
 
 pub commands-laid-in-rows-are-read-as-they-were : (l : List Command) → items (kinds-of l) (floats-of l) ≡ map command l
 commands-laid-in-rows-are-read-as-they-were = read-back
@@ -38,8 +40,8 @@ and-the-lengths-of-the-rows-match = floats-match
 
 -- a set that is not refused, and its drawing
 module _ (p : List ℤ) (ranges : List (List ℕ)) (ok : first-of (E.refusals p ranges) ≡ 0) where
-  fit : Drawable p ranges
-  fit = drawable p ranges ok
+  fit : Accepted narrow p (sound (spans ranges) (count p))
+  fit = accepted narrow p (sound (spans ranges) (count p)) ok
 
   pub no-command-of-a-set-is-at-fault : first-fault false (items (drawn-kinds p ranges) (drawn-floats p ranges)) ≡ 0
   no-command-of-a-set-is-at-fault = ap (first-fault false) (read-back (commands-of p ranges)) ∙ faultless (contours p (spans ranges)) (set-within p ranges fit)
@@ -117,7 +119,7 @@ module _ (p : List ℤ) (ranges : List (List ℕ)) (kinds : List ℕ) (floats : 
 
     pub a-set-drawn-and-imported-comes-back-but-for-its-empty-contours : contours (written-points i) (spans (written-contours i)) ≡ without-empty (contours p (spans ranges))
     a-set-drawn-and-imported-comes-back-but-for-its-empty-contours =
-        let d = drawable p ranges (kept .ok) in
+        let d = accepted narrow p (sound (spans ranges) (count p)) (kept .ok) in
         let w = written [] tt p (contour-spans back) [] out records [] i stored-is what-was-drawn-is-not-refused in
         ap₂ contours (w .points (d .even)) (w .contours)
         ∙ ap (λ (q : List ℤ). contours q (contour-spans back)) (sym (no-point-is-lost p ranges (kept .ok)))

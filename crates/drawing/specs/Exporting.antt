@@ -1,20 +1,21 @@
 -- What an export answers, and what it leaves in the rows that are lent to it.
-use mathlib.Core.Bool.{Bool, true, not, _&&_}
+use mathlib.Core.Bool.{Bool, _&&_}
 use mathlib.Core.List.{List, [], _∷_, _++_, map}
 use Prim.Native.Nat.{ℕ, zero, suc}
 use lib.Dec.{leb}
 use lib.ListN.{length}
-use lib.IntN.{ℤ, natAbs}
+use lib.IntN.{ℤ}
 use lib.Ieee.{Float}
 use Rattle.grid.specs.declared.Point.{Point}
 use Rattle.grid.specs.Points.{points}
 use Rattle.replies.specs.Ladder.{Rung, first-of, room}
-use Rattle.grid.specs.Domain.{count, size}
+use Rattle.grid.specs.Domain.{count}
 use Rattle.rows.specs.Rows.{front}
 use Rattle.buffer.specs.Spans.{spans, sound}
-use Rattle.buffer.specs.Refusals.{unsound}
+use Rattle.buffer.specs.Refusals.{set}
 use Rattle.buffer.specs.Sets.{joined, contours}
-use Rattle.millimetres.specs.Scale.{bound, millimetres}
+use Rattle.grid.specs.Limits.{narrow}
+use Rattle.millimetres.specs.Scale.{millimetres}
 use Rattle.drawing.specs.declared.answer.Drawn.{Drawn}
 use Rattle.drawing.specs.declared.command.Place.{Place}
 use Rattle.drawing.specs.declared.command.Command.{Command}
@@ -32,16 +33,11 @@ outline (p ∷ l) = Move (place p) ∷ map (λ (q : Point). Line (place q)) l ++
 
 -- the commands of a set
 abbrev pub commands : List (List ℤ) → List Command
-commands set = joined (map (λ (c : List ℤ). outline (points c)) set)
+commands l = joined (map (λ (c : List ℤ). outline (points c)) l)
 
--- every number of a row is a coordinate of a drawing
-unfoldable pub all-within : List ℤ → Bool
-all-within [] = true
-all-within (z ∷ row) = leb (natAbs z) bound && all-within row
-
--- what is refused of a set, in order: 1, 2, 6, 3
+-- what is refused of a set, in order: 1, 2, 6, and 3 for what is off the narrow grid
 abbrev pub refusals : List ℤ → List (List ℕ) → List Rung
-refusals p ranges = size p ++ unsound (sound (spans ranges) (count p)) ++ (not (all-within p), 3) ∷ []
+refusals p ranges = set narrow p (sound (spans ranges) (count p))
 
 -- the answer, and the two rows as they are left
 pub record Outcome : Type 0 where

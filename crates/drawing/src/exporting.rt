@@ -23,7 +23,7 @@ pub fn export(points: &[i32], ranges: &[[usize; 2]], kinds: &mut [u8], floats: &
         ≡ outcome (now (points .entry)) (now (ranges .entry)) (now (kinds .entry)) (now (floats .entry))
         ⌝ }
 {
-    let refusal = buffer::contours::refused(points, ranges);
+    let refusal = buffer::inner::refusing::contours(grid::NARROW, points, ranges);
     if refusal != 0 {
         return refused(refusal);
     }

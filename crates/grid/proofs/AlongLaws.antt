@@ -9,6 +9,7 @@ use lib.ListN.{length, drop}
 use lib.IntN.{ℤ}
 use Rattle.grid.specs.declared.Point.{Point}
 use Rattle.grid.specs.declared.Edge.{Edge}
+use Rattle.grid.specs.Limits.{limit}
 use Rattle.grid.specs.Points.{at, on, same, points}
 use Rattle.grid.specs.Edges.{between, still}
 use Rattle.grid.specs.Corners.{last, differing, distinct-neighbours, Corner, corners-from, corners, some}
@@ -31,7 +32,7 @@ module _ (row : List ℤ) where
     pub low : 1 ≤ i
     pub within : i ≤ n
     pub few : kept ≤ i
-    pub a-on : on a ≡ true
+    pub a-on : on limit a ≡ true
     pub here : b ≡ at row (i - 1)
     pub to-is : to ≡ between a b
     pub counted : length distinct-points ≡ kept + length (differing b (drop i (points row)))
@@ -61,7 +62,7 @@ module _ (row : List ℤ) where
         low = omega arith;
         within = omega arith;
         few = omega arith;
-        a-on = at-on row (n - 1) (c .on);
+        a-on = at-on limit row (n - 1) (c .on);
         here = let back : first ≡ first + 1 - 1 = omega arith in ap (at row) back;
         to-is = e;
         counted = ap length starts-with ∙ omega arith;
@@ -78,16 +79,16 @@ module _ (row : List ℤ) where
       }
 
     module _ {a b : Point} {to : Edge} {kept i : ℕ} (w : Along n a b to kept i) where
-      b-on : on b ≡ true
-      b-on = rw (w .here) (at-on row (i - 1) (c .on))
+      b-on : on limit b ≡ true
+      b-on = rw (w .here) (at-on limit row (i - 1) (c .on))
 
       -- the next edge, to position j, leads from b
       module _ (j : ℕ) {from : Edge} (e : from ≡ between (at row (i - 1)) (at row j)) where
         pub next-from : from ≡ between b (at row j)
         next-from = rw (w .here) e
 
-        pub next-short : Short to from
-        next-short = rw (w .to-is, next-from) (corner-short a b (at row j) (w .a-on) b-on (at-on row j (c .on)))
+        pub next-short : Short limit to from
+        next-short = rw (w .to-is, next-from) (corner-short limit a b (at row j) (w .a-on) b-on (at-on limit row j (c .on)))
 
       module _ (l : i < n) {from : Edge} (e : from ≡ between (at row (i - 1)) (at row i)) where
         moves : {t : Bool} → still from ≡ t → same (at row i) b ≡ t

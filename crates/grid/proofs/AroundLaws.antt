@@ -3,7 +3,7 @@ use mathlib.Core.Path.{_≡_, sym, _∙_, ap}
 use mathlib.Core.Bool.{Bool, true, false, _||_, or-false, or-assoc}
 use mathlib.Core.List.{List, [], _∷_}
 use Rattle.grid.specs.declared.Point.{Point}
-use Rattle.grid.specs.Points.{at, on}
+use Rattle.grid.specs.Points.{at}
 use Rattle.grid.specs.Corners.{Corner, corners-from, corners, some}
 
 abbrev pub corner : Point → Point → Point → Corner

@@ -7,23 +7,23 @@ use native.Mathlib.Omega.{arith}
 use lib.ListN.{length}
 use lib.IntN.{ℤ}
 use borrow.Author.Tests.{ltb-false, eqb-false, not-false, ne-eqb, le-ltb}
-use Rattle.grid.specs.Limits.{all-on-grid, most}
+use Rattle.grid.specs.Limits.{limit, all-on-grid, most}
 use Rattle.replies.specs.Ladder.{first-of}
 use Rattle.grid.specs.Domain.{count, domain, Contour}
 use Rattle.replies.proofs.LadderLaws.{clear, first-is}
 use Rattle.replies.proofs.LadderLaws.First.{past, foot}
 
-pub in-domain : (row : List ℤ) → first-of (domain row) ≡ 0 → Contour row (count row)
+pub in-domain : (row : List ℤ) → first-of (domain limit row) ≡ 0 → Contour row (count row)
 in-domain row e =
-    let c = clear (domain row) tt e in
+    let c = clear (domain limit row) tt e in
     record {
       even = omega (arith, eqb-false (length row % 2) 1 (c .0));
       few = ltb-false _ _ (c .1 .0);
-      on = not-false (all-on-grid row) (c .1 .1 .0);
+      on = not-false (all-on-grid limit row) (c .1 .1 .0);
     }
 
 -- and a contour of the domain is not refused
-pub contour-clear : (row : List ℤ) {n : ℕ} → Contour row n → first-of (domain row) ≡ 0
+pub contour-clear : (row : List ℤ) {n : ℕ} → Contour row n → first-of (domain limit row) ≡ 0
 contour-clear row {n} x =
     sym
     (first-is _ 0

@@ -1,8 +1,10 @@
 -- Laws of edges: how long they are on the grid, and those that are still.
-use mathlib.Core.Path.{_≡_, refl, sym, _∙_, ap, ap₂}
+use mathlib.Core.Path.{_≡_, refl, sym, _∙_, ap, ap₂, subst}
 use mathlib.Core.Bool.{Bool, true, false, _&&_, true≢false}
 use mathlib.Core.List.{[], _∷_}
-use Prim.Native.Nat.{_^_}
+use Prim.Native.Nat.{ℕ, _+_, _*_, _^_, _<_, _≤_}
+use native.Mathlib.Omega.{arith}
+use native.Mathlib.Nat.{mul-assoc, mul-comm, mul-le-mul}
 use lib.IntN.{ℤ, pos, _-ℤ_, _*ℤ_, +ℤ-invr}
 use Rattle.integers.specs.Equal.{eqZ}
 use Rattle.integers.specs.Bound.{In}
@@ -19,28 +21,44 @@ use Rattle.grid.specs.Edges.{between, still, cross, dot, aligned}
 use Rattle.grid.specs.inside.Edges.{Short}
 use Rattle.grid.proofs.PointLaws.{x-on, y-on, gap-in}
 
--- the edges from a to b and from c to d, points of the grid
-module _ (a b c d : Point) (p : on a ≡ true) (q : on b ≡ true) (r : on c ≡ true) (s : on d ≡ true) where
-  pub edges-short : Short (between a b) (between c d)
+-- the largest products of edges
+products : (bound : ℕ) → 2 * bound * (2 * bound) + 2 * bound * (2 * bound) ≡ 8 * (bound * bound)
+products bound =
+    let twice : bound * (2 * bound) ≡ 2 * (bound * bound) = sym (mul-assoc bound 2 bound) ∙ ap (λ (n : ℕ). n * bound) (mul-comm bound 2) ∙ mul-assoc 2 bound bound in
+    let one : 2 * bound * (2 * bound) ≡ 2 * (2 * (bound * bound)) = mul-assoc 2 bound (2 * bound) ∙ ap (λ (n : ℕ). 2 * n) twice in
+    omega (arith, one)
+
+-- the edges from a to b and from c to d, points of a grid
+module _ (bound : ℕ) (a b c d : Point) (p : on bound a ≡ true) (q : on bound b ≡ true) (r : on bound c ≡ true) (s : on bound d ≡ true) where
+  pub edges-short : Short bound (between a b) (between c d)
   edges-short = record {
-    ux-in = gap-in (a .x) (b .x) (x-on a p) (x-on b q);
-    uy-in = gap-in (a .y) (b .y) (y-on a p) (y-on b q);
-    vx-in = gap-in (c .x) (d .x) (x-on c r) (x-on d s);
-    vy-in = gap-in (c .y) (d .y) (y-on c r) (y-on d s);
+    ux-in = gap-in bound (a .x) (b .x) (x-on bound a p) (x-on bound b q);
+    uy-in = gap-in bound (a .y) (b .y) (y-on bound a p) (y-on bound b q);
+    vx-in = gap-in bound (c .x) (d .x) (x-on bound c r) (x-on bound d s);
+    vy-in = gap-in bound (c .y) (d .y) (y-on bound c r) (y-on bound d s);
   }
 
-  -- their cross and their dot lie within ±2^61
-  pub cross-within : In (2 ^ 61) (cross (between a b) (between c d))
-  unfolding limit cross
-  cross-within = let w = edges-short in in-sub (in-mul (w .ux-in) (w .vy-in)) (in-mul (w .uy-in) (w .vx-in))
+  -- their cross and their dot lie within 8 times the bound squared
+  pub cross-within : In (8 * (bound * bound)) (cross (between a b) (between c d))
+  unfolding cross
+  cross-within =
+      let w = edges-short in
+      subst (λ (n : ℕ). In n (cross (between a b) (between c d))) (products bound) (in-sub (in-mul (w .ux-in) (w .vy-in)) (in-mul (w .uy-in) (w .vx-in)))
 
-  pub dot-within : In (2 ^ 61) (dot (between a b) (between c d))
-  unfolding limit dot
-  dot-within = let w = edges-short in in-add (in-mul (w .ux-in) (w .vx-in)) (in-mul (w .uy-in) (w .vy-in))
+  pub dot-within : In (8 * (bound * bound)) (dot (between a b) (between c d))
+  unfolding dot
+  dot-within =
+      let w = edges-short in
+      subst (λ (n : ℕ). In n (dot (between a b) (between c d))) (products bound) (in-add (in-mul (w .ux-in) (w .vx-in)) (in-mul (w .uy-in) (w .vy-in)))
+
+-- which fits 64 bits, on either grid
+pub products-fit : (bound : ℕ) → bound ≤ limit → 8 * (bound * bound) < 2 ^ 63
+unfolding limit
+products-fit bound h = omega (arith, mul-le-mul h h)
 
 -- the two edges of a corner
-pub corner-short : (a b c : Point) → on a ≡ true → on b ≡ true → on c ≡ true → Short (between a b) (between b c)
-corner-short a b c p q r = edges-short a b b c p q q r
+pub corner-short : (bound : ℕ) (a b c : Point) → on bound a ≡ true → on bound b ≡ true → on bound c ≡ true → Short bound (between a b) (between b c)
+corner-short bound a b c p q r = edges-short bound a b b c p q q r
 
 -- equal numbers, whichever of them comes first
 eqZ-swap : (x y : ℤ) → eqZ x y ≡ eqZ y x

@@ -6,7 +6,7 @@ use Prim.Native.Nat.{ℕ, _*_, _/_, _%_, _≤_}
 use lib.ListN.{length}
 use lib.IntN.{ℤ}
 use lib.Dec.{ltb, eqb}
-use Rattle.grid.specs.Limits.{most, all-on-grid}
+use Rattle.grid.specs.Limits.{limit, most, all-on-grid}
 use Rattle.replies.specs.Ladder.{Rung}
 
 -- how many points a row has
@@ -17,16 +17,16 @@ count row = length row / 2
 abbrev pub size : List ℤ → List Rung
 size row = (eqb (length row % 2) 1, 1) ∷ (ltb most (count row), 2) ∷ []
 
--- 3: a coordinate off the grid
-abbrev pub off : List ℤ → List Rung
-off row = (not (all-on-grid row), 3) ∷ []
+-- 3: a coordinate beyond the bound
+abbrev pub off : ℕ → List ℤ → List Rung
+off bound row = (not (all-on-grid bound row), 3) ∷ []
 
 -- what every call asks of a contour
-abbrev pub domain : List ℤ → List Rung
-domain row = size row ++ off row
+abbrev pub domain : ℕ → List ℤ → List Rung
+domain bound row = size row ++ off bound row
 
 -- a contour of n points in the domain, as the inner functions ask for it
 pub record Contour (row : List ℤ) (n : ℕ) : Type 0 where
   pub even : length row ≡ 2 * n
   pub few : n ≤ most
-  pub on : all-on-grid row ≡ true
+  pub on : all-on-grid limit row ≡ true

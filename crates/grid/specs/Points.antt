@@ -26,6 +26,6 @@ points (x ∷ y ∷ row) = record { x = x; y = y } ∷ points row
 abbrev pub same : Point → Point → Bool
 same a b = eqZ (a .x) (b .x) && eqZ (a .y) (b .y)
 
--- both coordinates are on the grid
-abbrev pub on : Point → Bool
-on a = on-grid (a .x) && on-grid (a .y)
+-- both coordinates are within a bound
+abbrev pub on : ℕ → Point → Bool
+on bound a = on-grid bound (a .x) && on-grid bound (a .y)

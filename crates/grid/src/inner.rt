@@ -1,4 +1,5 @@
 // The points and edges of a row on the grid, and how the way goes on from one edge to the next.
+pub mod bounds;
 pub mod boxes;
 
 ghost use mathlib.Core.Path.{_≡_};
@@ -6,7 +7,7 @@ ghost use mathlib.Core.Bool.{true};
 ghost use Prim.Native.Nat.{_+_, _*_, _<_};
 ghost use lib.ListN.{length};
 ghost use lib.IntN.{_-ℤ_};
-ghost use Rattle.grid.specs.Limits.{on-grid, all-on-grid};
+ghost use Rattle.grid.specs.Limits.{limit, on-grid, all-on-grid};
 ghost use Rattle.grid.specs.Points.{at, on, same as same-point};
 ghost use Rattle.grid.specs.Edges.{between as between-of, cross as cross-of, dot as dot-of, sign as sign-of, turn as turn-of, turns-left as turns-left-of, aligned as aligned-of, backward as backward-of, reverses as reverses-of};
 ghost use Rattle.grid.specs.Domain.{Contour};
@@ -34,7 +35,7 @@ fn same(a: Point, b: Point) -> bool
 
 // From one coordinate to another.
 fn gap(from: i32, to: i32) -> i64
-    requires { ⌜ (on-grid from ≡ true) × (on-grid to ≡ true) ⌝ }
+    requires { ⌜ (on-grid limit from ≡ true) × (on-grid limit to ≡ true) ⌝ }
     ensures { λ r. ⌜ r ≡ to -ℤ from ⌝ }
 {
     integers::wide(to) - integers::wide(from)
@@ -42,7 +43,7 @@ fn gap(from: i32, to: i32) -> i64
 
 // The edge from a to b.
 pub fn between(a: Point, b: Point) -> Edge
-    requires { ⌜ (on a ≡ true) × (on b ≡ true) ⌝ }
+    requires { ⌜ (on limit a ≡ true) × (on limit b ≡ true) ⌝ }
     ensures { λ r. ⌜ r ≡ between-of a b ⌝ }
 {
     Edge {
@@ -54,7 +55,7 @@ pub fn between(a: Point, b: Point) -> Edge
 // The edge from position a of a row to position b.
 pub fn edge_at(points: &[i32], a: usize, b: usize) -> Edge
     requires { ⌜
-        (all-on-grid (now points) ≡ true)
+        (all-on-grid limit (now points) ≡ true)
         × (2 * a + 1 < length (now points))
         × (2 * b + 1 < length (now points))
         ⌝ }
@@ -65,7 +66,7 @@ pub fn edge_at(points: &[i32], a: usize, b: usize) -> Edge
 
 // The cross of two edges: every turn is told by it.
 fn cross(u: Edge, v: Edge) -> i64
-    requires { ⌜ Short u v ⌝ }
+    requires { ⌜ Short limit u v ⌝ }
     ensures { λ r. ⌜ r ≡ cross-of u v ⌝ }
 {
     u.dx * v.dy - u.dy * v.dx
@@ -73,7 +74,7 @@ fn cross(u: Edge, v: Edge) -> i64
 
 // Their dot, which tells straight on from back.
 fn dot(u: Edge, v: Edge) -> i64
-    requires { ⌜ Short u v ⌝ }
+    requires { ⌜ Short limit u v ⌝ }
     ensures { λ r. ⌜ r ≡ dot-of u v ⌝ }
 {
     u.dx * v.dx + u.dy * v.dy
@@ -94,7 +95,7 @@ fn sign(z: i64) -> i32
 
 // How the way turns from one edge to the next: 1 left, 0 straight on or back, -1 right.
 pub fn turn(u: Edge, v: Edge) -> i32
-    requires { ⌜ Short u v ⌝ }
+    requires { ⌜ Short limit u v ⌝ }
     ensures { λ r. ⌜ r ≡ turn-of u v ⌝ }
 {
     sign(cross(u, v))
@@ -102,7 +103,7 @@ pub fn turn(u: Edge, v: Edge) -> i32
 
 // Whether it turns left.
 pub fn turns_left(u: Edge, v: Edge) -> bool
-    requires { ⌜ Short u v ⌝ }
+    requires { ⌜ Short limit u v ⌝ }
     ensures { λ r. ⌜ r ≡ turns-left-of u v ⌝ }
 {
     0 < cross(u, v)
@@ -110,7 +111,7 @@ pub fn turns_left(u: Edge, v: Edge) -> bool
 
 // Whether two edges have cross 0.
 pub fn aligned(u: Edge, v: Edge) -> bool
-    requires { ⌜ Short u v ⌝ }
+    requires { ⌜ Short limit u v ⌝ }
     ensures { λ r. ⌜ r ≡ aligned-of u v ⌝ }
 {
     cross(u, v) == 0
@@ -118,7 +119,7 @@ pub fn aligned(u: Edge, v: Edge) -> bool
 
 // Whether they have a dot below 0.
 pub fn backward(u: Edge, v: Edge) -> bool
-    requires { ⌜ Short u v ⌝ }
+    requires { ⌜ Short limit u v ⌝ }
     ensures { λ r. ⌜ r ≡ backward-of u v ⌝ }
 {
     dot(u, v) < 0
@@ -126,7 +127,7 @@ pub fn backward(u: Edge, v: Edge) -> bool
 
 // Whether they have cross 0 and a dot below 0.
 pub fn reverses(u: Edge, v: Edge) -> bool
-    requires { ⌜ Short u v ⌝ }
+    requires { ⌜ Short limit u v ⌝ }
     ensures { λ r. ⌜ r ≡ reverses-of u v ⌝ }
 {
     if aligned(u, v) { backward(u, v) } else { false }

@@ -1,6 +1,6 @@
--- What a conjunction that holds says, and a disjunction that does not.
+-- What a conjunction that holds says, and a disjunction that does not; where a conjunction does not hold.
 use mathlib.Core.Path.{_≡_, refl, sym, subst}
-use mathlib.Core.Bool.{Bool, true, false, _&&_, _||_}
+use mathlib.Core.Bool.{Bool, true, false, not, _&&_, _||_}
 use lib.Dec.{T}
 
 pub and-left : (a b : Bool) → (a && b) ≡ true → a ≡ true
@@ -18,3 +18,7 @@ or-left false b e = refl
 pub or-right : (a b : Bool) → (a || b) ≡ false → b ≡ false
 or-right true b e = absurd (subst T e tt)
 or-right false b e = e
+
+pub not-both : (a b : Bool) → not (a && b) ≡ (not a || not b)
+not-both true b = refl
+not-both false b = refl

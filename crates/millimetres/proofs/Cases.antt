@@ -5,7 +5,8 @@ use mathlib.Core.List.{List, [], _∷_, map}
 use Prim.Native.Nat.{ℕ}
 use lib.IntN.{pos, negsuc}
 use lib.Ieee.{Float, binary64, ofBits, ofInt, div}
-use Rattle.millimetres.specs.Scale.{bound, near, finite, size, units, on-grid, millimetres}
+use Rattle.grid.specs.Limits.{narrow}
+use Rattle.millimetres.specs.Scale.{near, finite, size, units, on-grid, millimetres}
 
 abbrev floats : List ℕ → List Float
 floats = map (ofBits binary64)
@@ -34,7 +35,7 @@ unfolding ofBits size near
 past-the-edge = refl
 
 off : map on-grid beyond ≡ false ∷ false ∷ false ∷ false ∷ []
-unfolding beyond ofBits on-grid finite size near bound
+unfolding beyond ofBits on-grid finite size near narrow
 off = refl
 
 off-but-finite : map finite beyond ≡ true ∷ true ∷ true ∷ true ∷ []

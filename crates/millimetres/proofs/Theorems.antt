@@ -13,7 +13,8 @@ use lib.Ieee.Exact.{HasValue}
 use mir.Syntax.{w32}
 use Rattle.integers.specs.Bound.{In}
 use Rattle.integers.proofs.Bound.{in-fits}
-use Rattle.millimetres.specs.Scale.{scale, bound, near, finite, size, signed, units, on-grid, millimetres}
+use Rattle.grid.specs.Limits.{narrow}
+use Rattle.millimetres.specs.Scale.{scale, near, finite, size, signed, units, on-grid, millimetres}
 use Rattle.millimetres.proofs.RoundLaws.{near-is, near-only, near-half, near-whole}
 use Rattle.millimetres.proofs.ExactLaws.{exact-from-zero, exact-below-zero}
 
@@ -53,16 +54,16 @@ nothing-is-lost (pos n) h = exact-from-zero n h
 nothing-is-lost (negsuc n) h = exact-below-zero n h
 
 -- And in again.
-again : (y : Float) (s : Bool) (n : ℕ) → n ≤ bound → HasValue y s n scale → (on-grid y ≡ true) × (units y ≡ signed s n)
+again : (y : Float) (s : Bool) (n : ℕ) → n ≤ narrow → HasValue y s n scale → (on-grid y ≡ true) × (units y ≡ signed s n)
 unfolding on-grid finite size units
 again nan s n h v = absurd v
 again (inf t) s n h v = absurd v
 again (fin t m e) s n h v =
     let q : size (fin t m e) ≡ n = ap (λ (x : ℕ). near x (down e)) (mul-comm scale (m * up e) ∙ v .1) ∙ near-whole n (down e) (down-pos e) in
-    (rw q (le-leb n bound h), rw q (ap (λ (b : Bool). signed b n) (v .0)))
+    (rw q (le-leb n narrow h), rw q (ap (λ (b : Bool). signed b n) (v .0)))
 
-pub in-undoes-out : (x : ℤ) → In bound x → (on-grid (millimetres x) ≡ true) × (units (millimetres x) ≡ x)
-unfolding bound
+pub in-undoes-out : (x : ℤ) → In narrow x → (on-grid (millimetres x) ≡ true) × (units (millimetres x) ≡ x)
+unfolding narrow
 in-undoes-out x h =
     let i = again (millimetres x) (not (nonNeg x)) (natAbs x) (h .abs) (nothing-is-lost x (in-fits {w = w32} h tt .sfits)) in
     (i .0, i .1 ∙ itself x)

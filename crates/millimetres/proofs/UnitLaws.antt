@@ -9,7 +9,8 @@ use lib.Dec.{ltb, leb}
 use lib.IntN.{ℤ, pos, negsuc}
 use lib.Ieee.{Float, nan, inf, fin, up, down, lt, neg}
 use lib.Ieee.Fits.{up-pos, down-pos}
-use Rattle.millimetres.specs.Scale.{bound, near, finite, size, signed, units, on-grid}
+use Rattle.grid.specs.Limits.{narrow}
+use Rattle.millimetres.specs.Scale.{near, finite, size, signed, units, on-grid}
 use Rattle.millimetres.specs.inside.Small.{Small}
 
 -- a float between the infinities
@@ -31,17 +32,17 @@ abbrev pub edge-of : Bool → Float
 edge-of s = fin s 1073741825 (negsuc 10)
 
 -- what lies before it is rounded to a coordinate, and nothing else is
-before-edge : (a c : ℕ) → 0 < c → ltb (a * 2048) (1073741825 * 1 * c) ≡ leb (near (1024 * a) c) bound
-unfolding near bound
+before-edge : (a c : ℕ) → 0 < c → ltb (a * 2048) (1073741825 * 1 * c) ≡ leb (near (1024 * a) c) narrow
+unfolding near narrow
 before-edge a c C = go (ltb (a * 2048) (1073741825 * 1 * c)) refl
   where
-    go : (b : Bool) → ltb (a * 2048) (1073741825 * 1 * c) ≡ b → b ≡ leb (near (1024 * a) c) bound
+    go : (b : Bool) → ltb (a * 2048) (1073741825 * 1 * c) ≡ b → b ≡ leb (near (1024 * a) c) narrow
     go true t =
         let h : a * 2048 < 1073741825 * 1 * c = ltb-true (a * 2048) (1073741825 * 1 * c) t in
-        sym (le-leb (near (1024 * a) c) bound (le-of-suc-le-suc (div-lt-iff-lt-mul {k = 2 * c} (omega arith) .1 (omega arith))))
+        sym (le-leb (near (1024 * a) c) narrow (le-of-suc-le-suc (div-lt-iff-lt-mul {k = 2 * c} (omega arith) .1 (omega arith))))
     go false t =
         let h : 1073741825 * 1 * c ≤ a * 2048 = ltb-false (a * 2048) (1073741825 * 1 * c) t in
-        sym (lt-leb (near (1024 * a) c) bound (le-div-iff-mul-le {k = 2 * c} (omega arith) .1 (omega arith)))
+        sym (lt-leb (near (1024 * a) c) narrow (le-div-iff-mul-le {k = 2 * c} (omega arith) .1 (omega arith)))
 
 pub on-inside : (v : Float) → lt v (edge-of false) ≡ true → lt (edge-of true) v ≡ on-grid v
 unfolding lt on-grid finite size
@@ -61,16 +62,16 @@ on-outside (fin false m e) t = sym t ∙ before-edge (m * up e) (down e) (down-p
 on-outside (fin true m e) t = absurd (true≢false (sym (lt-ltb 0 (m * up e * 2048 + 1073741825 * 1 * down e) (omega (arith, down-pos e))) ∙ t))
 
 -- a float on the grid is small enough for `steps`, without its sign
-pub size-within : (v : Float) → on-grid v ≡ true → size v ≤ bound
+pub size-within : (v : Float) → on-grid v ≡ true → size v ≤ narrow
 unfolding on-grid finite
 size-within nan t = absurd (false≢true t)
 size-within (inf s) t = absurd (false≢true t)
-size-within (fin s m e) t = leb-true (size (fin s m e)) bound t
+size-within (fin s m e) t = leb-true (size (fin s m e)) narrow t
 
-near-small : (a c : ℕ) → 0 < c → near (1024 * a) c ≤ bound → a < 1048576 * c
-unfolding bound
+near-small : (a c : ℕ) → 0 < c → near (1024 * a) c ≤ narrow → a < 1048576 * c
+unfolding narrow
 near-small a c C h =
-    let t : ltb (a * 2048) (1073741825 * 1 * c) ≡ true = before-edge a c C ∙ le-leb (near (1024 * a) c) bound h in
+    let t : ltb (a * 2048) (1073741825 * 1 * c) ≡ true = before-edge a c C ∙ le-leb (near (1024 * a) c) narrow h in
     omega (arith, ltb-true (a * 2048) (1073741825 * 1 * c) t)
 
 abbrev zero-float : Float
@@ -98,7 +99,7 @@ negative m e = lt-ltb 0 (suc m * up e * 1 + 0 * down e) (omega (arith, mul-one (
 -- what `units` hands to `steps`, and what it makes of the answer
 pub record Handed (v a : Float) (s : Bool) : Type 0 where
   pub small : Small a
-  pub few : size a ≤ bound
+  pub few : size a ≤ narrow
   pub is : signed s (size a) ≡ units v
 
 pub below-zero : (v : Float) → on-grid v ≡ true → lt v zero-float ≡ true → Handed v (neg v) true

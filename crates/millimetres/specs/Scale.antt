@@ -4,14 +4,11 @@ use Prim.Native.Nat.{ℕ, _+_, _*_, _/_}
 use lib.Dec.{leb}
 use lib.IntN.{ℤ, pos, negℤ}
 use lib.Ieee.{Float, nan, inf, fin, binary64, up, down, div, ofInt}
+use Rattle.grid.specs.Limits.{narrow}
 
 -- how many units make a millimetre
 abbrev pub scale : ℕ
 scale = 1024
-
--- the largest coordinate of a drawing in units, either side of 0
-unfoldable pub bound : ℕ
-bound = 536870912
 
 -- the whole number nearest to a / c, halves up
 unfoldable pub near : ℕ → ℕ → ℕ
@@ -40,9 +37,9 @@ units nan = pos 0
 units (inf s) = pos 0
 units (fin s m e) = signed s (size (fin s m e))
 
--- a float that is a coordinate of a drawing
+-- a float that is a coordinate of a drawing: in units it is on the narrow grid
 unfoldable pub on-grid : Float → Bool
-on-grid v = finite v && leb (size v) bound
+on-grid v = finite v && leb (size v) narrow
 
 -- x units in millimetres: x as a float, divided by 1,024
 unfoldable pub millimetres : ℤ → Float

@@ -13,12 +13,12 @@ use Rattle.grid.specs.Cases.{row, W1, W2, W9, W10}
 use Rattle.path.specs.Contains.{crosses, odd, contained, contains}
 use Rattle.path.specs.Locate.{on-edge, touched, on-boundary, location, located}
 
--- 536,870,912 may be asked about, 536,870,913 may not
-w1-asked : (contains W1 (pos 536870912) (pos 0) ≡ record { reply = 0; yes = false }) × (contains W1 (pos 536870913) (pos 0) ≡ record { reply = 3; yes = false })
+-- 1,073,741,823 may be asked about, 1,073,741,824 may not
+w1-asked : (contains W1 (pos 1073741823) (pos 0) ≡ record { reply = 0; yes = false }) × (contains W1 (pos 1073741824) (pos 0) ≡ record { reply = 3; yes = false })
 unfolding limit most on-grid all-on-grid first-of points contained contains
 w1-asked = (refl, refl)
 
-w1-located : (located W1 (pos 0) (pos 536870912) ≡ record { reply = 0; place = 0 }) × (located W1 (pos 0) (pos 536870913) ≡ record { reply = 3; place = 0 })
+w1-located : (located W1 (pos 0) (pos 1073741823) ≡ record { reply = 0; place = 0 }) × (located W1 (pos 0) (pos 1073741824) ≡ record { reply = 3; place = 0 })
 unfolding limit most on-grid all-on-grid first-of points contained on-boundary location located
 w1-located = (refl, refl)
 

@@ -12,6 +12,7 @@ use Rattle.integers.specs.Polynomial.{#, _:-_, _:*_}
 use Rattle.integers.specs.Linear.{at as of}
 use Rattle.integers.proofs.Linear.{ltZ-difference, lt-holds, lt-fails, lt-means, lt-denies}
 use Rattle.integers.proofs.Polynomial.{ring}
+use Rattle.grid.specs.Limits.{limit}
 use Rattle.grid.specs.declared.Point.{Point}
 use Rattle.grid.specs.Points.{at, on, points}
 use Rattle.grid.specs.Edges.{between, cross, turns-left}
@@ -227,27 +228,27 @@ module _ (row : List ℤ) (x y : ℤ) where
   asked = record { x = x; y = y }
 
   -- the refusals, one by one
-  pub refused-domain : (k : ℕ) → k ≡ first-of (domain row) → (k ≡ 0 → ⊥) → k ≡ first-of (refusals asked row)
+  pub refused-domain : (k : ℕ) → k ≡ first-of (domain limit row) → (k ≡ 0 → ⊥) → k ≡ first-of (refusals asked row)
   refused-domain k e n = first-is _ k (stopped _ _ k e n)
 
-  module _ (e : first-of (domain row) ≡ 0) where
-    pub refused-off : on asked ≡ false → 3 ≡ first-of (refusals asked row)
-    refused-off f = first-is _ 3 (onward (domain row) _ 3 tt e (here (ap not f)))
+  module _ (e : first-of (domain limit row) ≡ 0) where
+    pub refused-off : on limit asked ≡ false → 3 ≡ first-of (refusals asked row)
+    refused-off f = first-is _ 3 (onward (domain limit row) _ 3 tt e (here (ap not f)))
 
-    pub refused-none : on asked ≡ true → first-of (refusals asked row) ≡ 0
-    refused-none f = sym (first-is _ 0 (onward (domain row) _ 0 tt e (past (ap not f) foot)))
+    pub refused-none : on limit asked ≡ true → first-of (refusals asked row) ≡ 0
+    refused-none f = sym (first-is _ 0 (onward (domain limit row) _ 0 tt e (past (ap not f) foot)))
 
   -- what is answered
-  pub contains-refused : (k : ℕ) → k ≡ first-of (domain row) → (k ≡ 0 → ⊥) → record { reply = k; yes = false } ≡ contains row x y
+  pub contains-refused : (k : ℕ) → k ≡ first-of (domain limit row) → (k ≡ 0 → ⊥) → record { reply = k; yes = false } ≡ contains row x y
   unfolding contains
   contains-refused k e n = verdict-refused (refusals asked row) _ k (refused-domain k e n) n
 
-  module _ (e : first-of (domain row) ≡ 0) where
-    pub contains-off : on asked ≡ false → record { reply = 3; yes = false } ≡ contains row x y
+  module _ (e : first-of (domain limit row) ≡ 0) where
+    pub contains-off : on limit asked ≡ false → record { reply = 3; yes = false } ≡ contains row x y
     unfolding contains
     contains-off f = verdict-refused (refusals asked row) _ 3 (refused-off e f) (λ z. absurd (omega arith))
 
-    pub contains-given : (b : Bool) → on asked ≡ true → b ≡ contained asked (points row) → record { reply = 0; yes = b } ≡ contains row x y
+    pub contains-given : (b : Bool) → on limit asked ≡ true → b ≡ contained asked (points row) → record { reply = 0; yes = b } ≡ contains row x y
     unfolding contains
     contains-given b f g = verdict-given (refusals asked row) _ b (refused-none e f) g
 

@@ -11,6 +11,7 @@ use Rattle.integers.specs.Linear.{num, at as of, _:-_ as _less_}
 use Rattle.integers.proofs.Equal.{eqZ-true}
 use Rattle.integers.proofs.Linear.{lt-fails, lt-means, lt-denies, same-parts}
 use Rattle.integers.proofs.Logic.{and-right, or-left, or-right}
+use Rattle.grid.specs.Limits.{limit}
 use Rattle.grid.specs.declared.Point.{Point}
 use Rattle.grid.specs.Points.{at, on, points, same}
 use Rattle.grid.specs.Domain.{count, domain, Contour}
@@ -157,15 +158,15 @@ answer-refused (suc k) z n = refl
 
 -- the question as a whole
 module _ (row : List ℤ) (x y : ℤ) where
-  pub located-refused : (k : ℕ) → k ≡ first-of (domain row) → (k ≡ 0 → ⊥) → record { reply = k; place = 0 } ≡ located row x y
+  pub located-refused : (k : ℕ) → k ≡ first-of (domain limit row) → (k ≡ 0 → ⊥) → record { reply = k; place = 0 } ≡ located row x y
   unfolding located
   located-refused k e n = rw (← refused-domain row x y k e n) (answer-refused k _ n)
 
-  module _ (e : first-of (domain row) ≡ 0) where
-    pub located-off : on (record { x = x; y = y }) ≡ false → record { reply = 3; place = 0 } ≡ located row x y
+  module _ (e : first-of (domain limit row) ≡ 0) where
+    pub located-off : on limit (record { x = x; y = y }) ≡ false → record { reply = 3; place = 0 } ≡ located row x y
     unfolding located
     located-off f = rw (← refused-off row x y e f)
 
-    pub located-given : (k : ℕ) → on (record { x = x; y = y }) ≡ true → k ≡ location (record { x = x; y = y }) (points row) → record { reply = 0; place = k } ≡ located row x y
+    pub located-given : (k : ℕ) → on limit (record { x = x; y = y }) ≡ true → k ≡ location (record { x = x; y = y }) (points row) → record { reply = 0; place = k } ≡ located row x y
     unfolding located
     located-given k f g = rw (refused-none row x y e f, g)

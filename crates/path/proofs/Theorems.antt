@@ -8,7 +8,7 @@ use lib.Dec.{eqb, ltb}
 use lib.ListN.{length, take, drop, length-append, length-reverse, take-append-drop}
 use lib.IntN.{ℤ}
 use Rattle.grid.specs.declared.Point.{Point}
-use Rattle.grid.specs.Limits.{most, all-on-grid}
+use Rattle.grid.specs.Limits.{limit, most, all-on-grid}
 use Rattle.grid.specs.Points.{at, on, points}
 use Rattle.grid.specs.Corners.{last}
 use Rattle.grid.specs.Domain.{count, domain}
@@ -73,12 +73,12 @@ a-vertex-is-on-the-boundary p l m = ap (λ (t : Bool). place-by t (contained p (
     met [] = touched-there p (last p m) [] m
     met (o ∷ l) = touched-there p (last o (l ++ p ∷ m)) (o ∷ l) m
 
-pub a-vertex-is-located-on-the-boundary : (row : List ℤ) (i : ℕ) → first-of (domain row) ≡ 0 → i < count row → located row (at row i .x) (at row i .y) ≡ record { reply = 0; place = 1 }
+pub a-vertex-is-located-on-the-boundary : (row : List ℤ) (i : ℕ) → first-of (domain limit row) ≡ 0 → i < count row → located row (at row i .x) (at row i .y) ≡ record { reply = 0; place = 1 }
 a-vertex-is-located-on-the-boundary row i e h =
     let c = in-domain row e in
     let split : points row ≡ take i (points row) ++ at row i ∷ drop (i + 1) (points row) = sym (take-append-drop i (points row)) ∙ ap (λ (l : List Point). take i (points row) ++ l) (points-more c i h) in
     sym
-    (located-given row (at row i .x) (at row i .y) e 1 (at-on row i (c .on))
+    (located-given row (at row i .x) (at row i .y) e 1 (at-on limit row i (c .on))
     (sym (ap (location (at row i)) split ∙ a-vertex-is-on-the-boundary (at row i) (take i (points row)) (drop (i + 1) (points row)))))
 
 -- an edge counts the same either way
@@ -139,24 +139,24 @@ length-row-of [] = refl
 length-row-of (a ∷ l) = omega (arith, length-row-of l)
 
 -- whether all its points are on the grid, in any order
-on-both : (l m : List Point) → all-on-grid (row-of (l ++ m)) ≡ (all-on-grid (row-of l) && all-on-grid (row-of m))
-on-both l m = ap all-on-grid (row-of-joined l m) ∙ on-joined (row-of l) (row-of m)
+on-both : (l m : List Point) → all-on-grid limit (row-of (l ++ m)) ≡ (all-on-grid limit (row-of l) && all-on-grid limit (row-of m))
+on-both l m = ap (all-on-grid limit) (row-of-joined l m) ∙ on-joined limit (row-of l) (row-of m)
 
-on-moved : (l m : List Point) → all-on-grid (row-of (m ++ l)) ≡ all-on-grid (row-of (l ++ m))
-on-moved l m = on-both m l ∙ and-comm (all-on-grid (row-of m)) (all-on-grid (row-of l)) ∙ sym (on-both l m)
+on-moved : (l m : List Point) → all-on-grid limit (row-of (m ++ l)) ≡ all-on-grid limit (row-of (l ++ m))
+on-moved l m = on-both m l ∙ and-comm (all-on-grid limit (row-of m)) (all-on-grid limit (row-of l)) ∙ sym (on-both l m)
 
-on-reversed : (c : List Point) → all-on-grid (row-of (reverse c)) ≡ all-on-grid (row-of c)
+on-reversed : (c : List Point) → all-on-grid limit (row-of (reverse c)) ≡ all-on-grid limit (row-of c)
 on-reversed [] = refl
 on-reversed (a ∷ l) =
-    ap (λ (w : List Point). all-on-grid (row-of w)) (reverse-cons a l) ∙ on-moved (a ∷ []) (reverse l)
-    ∙ on-both (a ∷ []) (reverse l) ∙ ap (λ (t : Bool). all-on-grid (row-of (a ∷ [])) && t) (on-reversed l) ∙ sym (on-both (a ∷ []) l)
+    ap (λ (w : List Point). all-on-grid limit (row-of w)) (reverse-cons a l) ∙ on-moved (a ∷ []) (reverse l)
+    ∙ on-both (a ∷ []) (reverse l) ∙ ap (λ (t : Bool). all-on-grid limit (row-of (a ∷ [])) && t) (on-reversed l) ∙ sym (on-both (a ∷ []) l)
 
 -- a row is refused by its length and by whether it is on the grid
-same-refusals : (q : Point) (r s : List ℤ) → length r ≡ length s → all-on-grid r ≡ all-on-grid s → first-of (refusals q r) ≡ first-of (refusals q s)
+same-refusals : (q : Point) (r s : List ℤ) → length r ≡ length s → all-on-grid limit r ≡ all-on-grid limit s → first-of (refusals q r) ≡ first-of (refusals q s)
 same-refusals q r s e f = ap₂ (λ (n : ℕ) (t : Bool). first-of (ladder n t)) e f
   where
     ladder : ℕ → Bool → List Rung
-    ladder n t = (eqb (n % 2) 1, 1) ∷ (ltb most (n / 2), 2) ∷ (not t, 3) ∷ (not (on q), 3) ∷ []
+    ladder n t = (eqb (n % 2) 1, 1) ∷ (ltb most (n / 2), 2) ∷ (not t, 3) ∷ (not (on limit q), 3) ∷ []
 
 module _ (x y : ℤ) where
   pub another-start-is-located-alike : (l m : List Point) → located (row-of (m ++ l)) x y ≡ located (row-of (l ++ m)) x y

@@ -4,6 +4,7 @@ use mathlib.Core.List.{List, [], _∷_, _++_}
 use Prim.Native.Nat.{_-_, _<_}
 use lib.IntN.{ℤ, _-ℤ_, _*ℤ_}
 use lib.Signed.{ltZ}
+use Rattle.grid.specs.Limits.{limit}
 use Rattle.grid.specs.declared.Point.{Point}
 use Rattle.replies.specs.declared.Verdict.{Verdict}
 use Rattle.grid.specs.Points.{on, points}
@@ -37,7 +38,7 @@ contained p (o ∷ l) = odd p (last o l) (o ∷ l)
 
 -- the refusals: 3 also for an asked point off the grid
 abbrev pub refusals : Point → List ℤ → List Rung
-refusals p row = domain row ++ (not (on p), 3) ∷ []
+refusals p row = domain limit row ++ (not (on limit p), 3) ∷ []
 
 -- the answer
 unfoldable pub contains : List ℤ → ℤ → ℤ → Verdict

@@ -4,6 +4,7 @@ use mathlib.Core.List.{List}
 use lib.Dec.{leb}
 use lib.ListN.{length}
 use lib.IntN.{ℤ}
+use Rattle.grid.specs.Limits.{limit}
 use Rattle.grid.specs.declared.Point.{Point}
 use Rattle.replies.specs.declared.Verdict.{Verdict}
 use Rattle.grid.specs.Points.{points}
@@ -26,4 +27,4 @@ is-convex l = leb (length l) 2 || convex-distinct (distinct-neighbours l)
 
 -- the answer
 unfoldable pub convex : List ℤ → Verdict
-convex row = verdict (first-of (domain row)) (is-convex (points row))
+convex row = verdict (first-of (domain limit row)) (is-convex (points row))

@@ -3,6 +3,7 @@
 ghost use mathlib.Core.Path.{_≡_};
 ghost use mathlib.Core.Bool.{true, false};
 ghost use Prim.Native.Nat.{_-_, _<_, _≤_};
+ghost use Rattle.grid.specs.Limits.{limit};
 ghost use Rattle.grid.specs.Points.{at, on, points as points-of};
 ghost use Rattle.grid.specs.Corners.{distinct-neighbours};
 ghost use Rattle.replies.specs.Ladder.{first-of};
@@ -31,7 +32,7 @@ struct Seen {
 
 // Whether what was seen, with the last corner, is one way and never back.
 fn closes(seen: Seen, to: Edge, from: Edge) -> bool
-    requires { ⌜ Short to from ⌝ }
+    requires { ⌜ Short limit to from ⌝ }
     ensures { λ r. ⌜ r ≡ one-sided (looked seen to from) ⌝ }
 {
     let turn = grid::inner::turn(to, from);
@@ -103,7 +104,7 @@ fn lies_above(p: Point, a: Point) -> bool
 
 // Whether the edge from l up to h meets p's horizontal to the right of p: along it and on to p the way turns left.
 fn meets_right(p: Point, l: Point, h: Point) -> bool
-    requires { ⌜ (on p ≡ true) × (on l ≡ true) × (on h ≡ true) ⌝ }
+    requires { ⌜ (on limit p ≡ true) × (on limit l ≡ true) × (on limit h ≡ true) ⌝ }
     ensures { λ r. ⌜ r ≡ meets-right-of p l h ⌝ }
 {
     grid::inner::turns_left(grid::inner::between(l, h), grid::inner::between(h, p))
@@ -148,7 +149,7 @@ fn before(n: usize, i: usize) -> usize
 
 // Whether an odd number of edges crosses p's horizontal to the right of p; the first that changes side leads from `from` to `to`.
 fn parity_from(points: &[i32], n: usize, p: Point, from: usize, to: usize) -> bool
-    requires { ⌜ Contour (now points) n × (on p ≡ true) × Changing (now points) n p false from to ⌝ }
+    requires { ⌜ Contour (now points) n × (on limit p ≡ true) × Changing (now points) n p false from to ⌝ }
     ensures { λ r. ⌜ r ≡ contained p (points-of (now (points .entry))) ⌝ }
 {
     let mut odd = false;
@@ -172,7 +173,7 @@ fn parity_from(points: &[i32], n: usize, p: Point, from: usize, to: usize) -> bo
 
 // Whether an odd number of the closed contour's edges crosses p's horizontal to the right of p.
 fn parity(points: &[i32], n: usize, p: Point) -> bool
-    requires { ⌜ Contour (now points) n × (0 < n) × (on p ≡ true) ⌝ }
+    requires { ⌜ Contour (now points) n × (0 < n) × (on limit p ≡ true) ⌝ }
     ensures { λ r. ⌜ r ≡ contained p (points-of (now (points .entry))) ⌝ }
 {
     let first = first_across(points, n, p);
@@ -186,7 +187,7 @@ fn parity(points: &[i32], n: usize, p: Point) -> bool
 // Whether a contour that no call refuses contains a point on the grid. It is handed on as a part, for which LLVM passes the
 // row in registers.
 pub fn holds(points: &[i32], p: Point) -> bool
-    requires { ⌜ (first-of (domain (now points)) ≡ 0) × (on p ≡ true) ⌝ }
+    requires { ⌜ (first-of (domain limit (now points)) ≡ 0) × (on limit p ≡ true) ⌝ }
     ensures { λ r. ⌜ r ≡ contained p (points-of (now (points .entry))) ⌝ }
 {
     let n = points.len() / 2;
@@ -198,7 +199,7 @@ pub fn holds(points: &[i32], p: Point) -> bool
 
 // The parity of four points. Most contours are boxes: with the count known LLVM makes no loop of the search.
 pub fn parity_of_four(points: &[i32], p: Point) -> bool
-    requires { ⌜ Contour (now points) 4 × (on p ≡ true) ⌝ }
+    requires { ⌜ Contour (now points) 4 × (on limit p ≡ true) ⌝ }
     ensures { λ r. ⌜ r ≡ contained p (points-of (now (points .entry))) ⌝ }
 {
     let first = first_across(points, 4, p);
@@ -218,7 +219,7 @@ fn amid(a: i32, b: i32, z: i32) -> bool
 
 // Whether p lies on the edge from a to b.
 fn touches(p: Point, a: Point, b: Point) -> bool
-    requires { ⌜ (on p ≡ true) × (on a ≡ true) × (on b ≡ true) ⌝ }
+    requires { ⌜ (on limit p ≡ true) × (on limit a ≡ true) × (on limit b ≡ true) ⌝ }
     ensures { λ r. ⌜ r ≡ on-edge p a b ⌝ }
 {
     if amid(a.y, b.y, p.y) & amid(a.x, b.x, p.x) {
@@ -231,7 +232,7 @@ fn touches(p: Point, a: Point, b: Point) -> bool
 // How the way along the edge from l up to h turns on to p: left where the edge meets p's horizontal to the right of p,
 // and not at all where it meets p.
 fn turn_on(p: Point, l: Point, h: Point) -> i32
-    requires { ⌜ (on p ≡ true) × (on l ≡ true) × (on h ≡ true) ⌝ }
+    requires { ⌜ (on limit p ≡ true) × (on limit l ≡ true) × (on limit h ≡ true) ⌝ }
     ensures { λ r. ⌜ r ≡ turn-of (between l h) (between h p) ⌝ }
 {
     grid::inner::turn(grid::inner::between(l, h), grid::inner::between(h, p))
@@ -239,7 +240,7 @@ fn turn_on(p: Point, l: Point, h: Point) -> i32
 
 // The first position from i on whose point does not lie below p's horizontal; n where there is none.
 fn next_reached(points: &[i32], n: usize, i: usize, p: Point) -> usize
-    requires { ⌜ Contour (now points) n × (i ≤ n) × (on p ≡ true) ⌝ }
+    requires { ⌜ Contour (now points) n × (i ≤ n) × (on limit p ≡ true) ⌝ }
     ensures { λ r. ⌜ Across (now (points .entry)) n i (under p) false r ⌝ }
 {
     next_across(points, n, i, Point { x: p.x, y: p.y - 1 }, false)
@@ -247,7 +248,7 @@ fn next_reached(points: &[i32], n: usize, i: usize, p: Point) -> usize
 
 // The first position whose edge, from the point before it, may have p or change side; n where there is none.
 fn first_met(points: &[i32], n: usize, p: Point) -> usize
-    requires { ⌜ Contour (now points) n × (0 < n) × (on p ≡ true) ⌝ }
+    requires { ⌜ Contour (now points) n × (0 < n) × (on limit p ≡ true) ⌝ }
     ensures { λ r. ⌜ Untouched (now (points .entry)) n p false (before-of n r) r ⌝ }
 {
     let last = grid::inner::point_at(points, n - 1);
@@ -263,7 +264,7 @@ fn first_met(points: &[i32], n: usize, p: Point) -> usize
 // Where p lies, once no edge up to position `from` has it, and the next that may leads from `from` to `to`. Of an edge
 // that changes side one turn tells whether it has p and whether it counts.
 fn location_from(points: &[i32], n: usize, p: Point, from: usize, to: usize) -> u8
-    requires { ⌜ Contour (now points) n × (on p ≡ true) × Untouched (now points) n p false from to ⌝ }
+    requires { ⌜ Contour (now points) n × (on limit p ≡ true) × Untouched (now points) n p false from to ⌝ }
     ensures { λ r. ⌜ r ≡ location-of p (points-of (now (points .entry))) ⌝ }
 {
     let mut odd = false;
@@ -301,7 +302,7 @@ fn location_from(points: &[i32], n: usize, p: Point, from: usize, to: usize) -> 
 
 // Where a point on the grid lies to a contour that no call refuses.
 pub fn location(points: &[i32], p: Point) -> u8
-    requires { ⌜ (first-of (domain (now points)) ≡ 0) × (on p ≡ true) ⌝ }
+    requires { ⌜ (first-of (domain limit (now points)) ≡ 0) × (on limit p ≡ true) ⌝ }
     ensures { λ r. ⌜ r ≡ location-of p (points-of (now (points .entry))) ⌝ }
 {
     let n = points.len() / 2;
@@ -318,7 +319,7 @@ pub fn location(points: &[i32], p: Point) -> u8
 
 // The same of four points, where LLVM makes no loop of the search.
 pub fn location_of_four(points: &[i32], p: Point) -> u8
-    requires { ⌜ Contour (now points) 4 × (on p ≡ true) ⌝ }
+    requires { ⌜ Contour (now points) 4 × (on limit p ≡ true) ⌝ }
     ensures { λ r. ⌜ r ≡ location-of p (points-of (now (points .entry))) ⌝ }
 {
     let first = first_met(points, 4, p);

@@ -8,6 +8,7 @@ use lib.IntN.{ℤ}
 use Prim.Native.Nat.{ℕ}
 use lib.Ieee.{Float}
 use denote.Ref.{now}
+use Rattle.grid.specs.Limits.{limit}
 use Rattle.grid.specs.declared.Point.{Point}
 use Rattle.replies.specs.Ladder.{Rung, room}
 use Rattle.grid.specs.Domain.{count, domain}
@@ -101,7 +102,7 @@ pub record NothingTraps : Type 2 where
 
 -- the refusals of the first contour: those of a contour where there are no ranges, and of a set where there are
 abbrev pub first-refusals : List ℤ → List (List ℕ) → List Rung
-first-refusals points [] = domain points
+first-refusals points [] = domain limit points
 first-refusals points (range ∷ ranges) = Contours.refusals points (range ∷ ranges)
 
 -- the refusals of the area of a contour set, and of a shape set
@@ -153,7 +154,7 @@ order ladder = map (λ (rung : Rung). rung .1) ladder
 
 -- "Order: 1, 2, 6, 3, 12, 4, 5, 8, 7"; a number that stands twice is asked of two things
 pub record TheOrderOfTheNumbers : Type 0 where
-  pub a-contour : (points : List ℤ) → order (domain points) ≡ 1 ∷ 2 ∷ 3 ∷ []
+  pub a-contour : (points : List ℤ) → order (domain limit points) ≡ 1 ∷ 2 ∷ 3 ∷ []
   pub the-area-of-a-contour : (points : List ℤ) → order (Areas.refusals points) ≡ 1 ∷ 2 ∷ 3 ∷ 8 ∷ []
   pub a-point-in-a-contour : (asked : Point) (points : List ℤ) → order (Contains.refusals asked points) ≡ 1 ∷ 2 ∷ 3 ∷ 3 ∷ []
   pub a-contour-to-be-cleaned : (points : List ℤ) (l : Cleaning.Lent) → order (cleaning-refusals points l) ≡ 1 ∷ 2 ∷ 3 ∷ 4 ∷ 4 ∷ 4 ∷ 5 ∷ []
@@ -181,9 +182,9 @@ pub record EveryBadInputGetsItsNumber : Type 0 where
   pub area·area : Refuses areas area.area.Reads.Learnt (of-contour Areas.refusals)
   pub path·is-clockwise-ordered : Refuses verdicts path.is_clockwise_ordered.Reads.Learnt (of-contour Areas.refusals)
   -- Verdicts.
-  pub clean·simple·is-simple : Refuses verdicts clean.simple.is_simple.Reads.Learnt (of-contour domain)
-  pub clean·despike·has-no-spikes : Refuses verdicts clean.despike.has_no_spikes.Reads.Learnt (of-contour domain)
-  pub path·is-convex : Refuses verdicts path.is_convex.Reads.Learnt (of-contour domain)
+  pub clean·simple·is-simple : Refuses verdicts clean.simple.is_simple.Reads.Learnt (of-contour (domain limit))
+  pub clean·despike·has-no-spikes : Refuses verdicts clean.despike.has_no_spikes.Reads.Learnt (of-contour (domain limit))
+  pub path·is-convex : Refuses verdicts path.is_convex.Reads.Learnt (of-contour (domain limit))
   pub path·contains-point : Refuses verdicts path.contains_point.Reads.Learnt λ a. three a λ points x y. Contains.refusals (record { x = x; y = y }) (now points)
   pub sets·simple·is-simple : Refuses verdicts sets.simple.is_simple.Reads.Learnt (of-set Contours.refusals)
   pub sets·despike·has-no-spikes : Refuses verdicts sets.despike.has_no_spikes.Reads.Learnt (of-set Contours.refusals)
@@ -202,13 +203,13 @@ pub record EveryBadInputGetsItsNumber : Type 0 where
   pub buffer·shapes·refused : Refuses numbers buffer.shapes.refused.Reads.Learnt (of-shapes Shapes.refusals)
   -- Packing.
   pub buffer·contours·set-with-contour : Refuses packings buffer.contours.set_with_contour.Reads.Learnt λ a. three a λ contour out records.
-      packed (domain (now contour)) (now contour) (whole (now contour) ∷ []) [] (now out) (now records) []
+      packed (domain limit (now contour)) (now contour) (whole (now contour) ∷ []) [] (now out) (now records) []
   pub buffer·contours·set-with-shape : Refuses packings buffer.contours.set_with_shape.Reads.Learnt λ a. four a λ points ranges out records.
       packed (Contours.refusals (now points) (now ranges)) (now points) (spans (now ranges)) [] (now out) (now records) []
   pub buffer·contours·set-with-shapes : Refuses packings buffer.contours.set_with_shapes.Reads.Learnt λ a. five a λ points contours shapes out records.
       packed (Shapes.refusals (now points) (now contours) (now shapes)) (now points) (spans (now contours)) [] (now out) (now records) []
   pub buffer·shapes·set-with-contour : Refuses packings buffer.shapes.set_with_contour.Reads.Learnt λ a. four a λ contour out records groups.
-      packed (domain (now contour)) (now contour) (whole (now contour) ∷ []) (every (whole (now contour) ∷ []) ∷ []) (now out) (now records) (now groups)
+      packed (domain limit (now contour)) (now contour) (whole (now contour) ∷ []) (every (whole (now contour) ∷ []) ∷ []) (now out) (now records) (now groups)
   pub buffer·shapes·set-with-shape : Refuses packings buffer.shapes.set_with_shape.Reads.Learnt λ a. five a λ points ranges out records groups.
       packed (Contours.refusals (now points) (now ranges)) (now points) (spans (now ranges)) (every (now ranges) ∷ []) (now out) (now records) (now groups)
   pub buffer·shapes·set-with-shapes : Refuses packings buffer.shapes.set_with_shapes.Reads.Learnt λ a. six a λ points contours shapes out records groups.

@@ -5,7 +5,7 @@ use lib.IntN.ℤ.{negsuc}
 use Rattle.ring.specs.Walk.{survivors-from, others, successor, predecessor, occurrences, unmark, unmark-about, remove, decide, look, looks, walk}
 use Rattle.ring.specs.Rule.{goes-at}
 use Rattle.replies.specs.Ladder.{first-of}
-use Rattle.grid.specs.Limits.{limit, on-grid, all-on-grid}
+use Rattle.grid.specs.Limits.{narrow, on-grid, all-on-grid}
 use Rattle.grid.specs.Points.{points}
 use Rattle.grid.specs.Edges.{cross}
 use Rattle.grid.specs.Area.{around, exact, wrapped}
@@ -34,6 +34,6 @@ none = refl
 
 w4 : listing (16 ∷ 1 ∷ 128 ∷ 5 ∷ 0 ∷ 0 ∷ 0 ∷ 0 ∷ 0 ∷ 0 ∷ 0 ∷ 0 ∷ 0 ∷ 0 ∷ 0 ∷ 2 ∷ 0 ∷ 0 ∷ 0 ∷ 0 ∷ 0 ∷ 0 ∷ 0 ∷ 4 ∷ 0 ∷ 0 ∷ 0 ∷ 0 ∷ 0 ∷ 0 ∷ 0 ∷ 4 ∷ 0 ∷ 0 ∷ 0 ∷ 4 ∷ 0 ∷ 0 ∷ 0 ∷ 0 ∷ 0 ∷ 0 ∷ 0 ∷ 4 ∷ [])
     ≡ heading ++ 49 ∷ 32 ∷ 53 ∷ 32 ∷ 52 ∷ 32 ∷ 54 ∷ 32 ∷ 51 ∷ 50 ∷ 10 ∷ []
-unfolding listing parsed bits field value first-of decimal places complete coordinates lines line limit on-grid all-on-grid joined
+unfolding listing parsed bits field value first-of decimal places complete coordinates lines line narrow on-grid all-on-grid joined
     survivors-from others successor predecessor occurrences unmark unmark-about remove decide look looks walk goes-at cross points around exact wrapped mod64
 w4 = refl

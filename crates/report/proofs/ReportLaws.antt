@@ -9,11 +9,11 @@ use lib.ListN.{length, length-append, length-map}
 use lib.Seq.{take-append-seam, drop-append-seam}
 use lib.IntN.{ℤ}
 use borrow.Author.Tests.{ltb-false, not-false}
-use Rattle.grid.specs.Limits.{most, all-on-grid}
+use Rattle.grid.specs.Limits.{limit, narrow, most, all-on-grid}
 use Rattle.replies.specs.Ladder.{first-of, so-far}
 use Rattle.replies.proofs.LadderLaws.{first-is}
 use Rattle.replies.proofs.LadderLaws.First.{here}
-use Rattle.grid.proofs.LimitLaws.{on-taken, on-dropped}
+use Rattle.grid.proofs.LimitLaws.{narrow-within, all-on-wider, on-taken, on-dropped}
 use Rattle.buffer.specs.Sets.{joined, Even}
 use Rattle.setfile.specs.declared.inner.judging.Judged.{Judged}
 use Rattle.setfile.specs.Format.{Entry, contours-of, Parsed, promised, parsed, damage, read-contours}
@@ -38,15 +38,15 @@ clear-parts false c (suc k) e = absurd (omega (arith, first-is (so-far (suc k) +
 
 pub record Accepted (f : List ℕ) : Type 0 where
   pub few : length f ≤ 65536
-  pub on : all-on-grid (joined (contours-of (read-contours (parsed f)))) ≡ true
+  pub on : all-on-grid limit (joined (contours-of (read-contours (parsed f)))) ≡ true
 
 accepted : (f : List ℕ) → first-of (refusals f) ≡ 0 → Accepted f
 accepted f e =
-    let c = clear-parts (ltb 65536 (length f)) (not (all-on-grid (joined (contours-of (read-contours (parsed f)))))) (damage (parsed f)) e in
-    record { few = ltb-false 65536 (length f) (c .0); on = not-false _ (c .1) }
+    let c = clear-parts (ltb 65536 (length f)) (not (all-on-grid narrow (joined (contours-of (read-contours (parsed f)))))) (damage (parsed f)) e in
+    record { few = ltb-false 65536 (length f) (c .0); on = all-on-wider narrow limit _ narrow-within (not-false _ (c .1)) }
 
 -- the parts of a set are of the domain
-all-contours : (l : List (List ℤ)) → Even l → all-on-grid (joined l) ≡ true → length (joined l) ≤ 16382 → Contours l
+all-contours : (l : List (List ℤ)) → Even l → all-on-grid limit (joined l) ≡ true → length (joined l) ≤ 16382 → Contours l
 unfolding joined most
 all-contours [] x e h = tt
 all-contours (c ∷ l) x e h =
@@ -54,9 +54,9 @@ all-contours (c ∷ l) x e h =
       record {
         even = x .0;
         few = omega (arith, x .0);
-        on = ap all-on-grid (sym (take-append-seam c (joined l))) ∙ on-taken (length c) (c ++ joined l) e;
+        on = ap (all-on-grid limit) (sym (take-append-seam c (joined l))) ∙ on-taken limit (length c) (c ++ joined l) e;
       },
-      all-contours l (x .1) (ap all-on-grid (sym (drop-append-seam c (joined l))) ∙ on-dropped (length c) (c ++ joined l) e) (omega arith),
+      all-contours l (x .1) (ap (all-on-grid limit) (sym (drop-append-seam c (joined l))) ∙ on-dropped limit (length c) (c ++ joined l) e) (omega arith),
     )
 
 -- the contours of a file that is not refused are

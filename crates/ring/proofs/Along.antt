@@ -7,6 +7,7 @@ use Prim.Native.Nat.{ℕ, suc, _+_, _-_, _<_, _≤_}
 use native.Mathlib.Omega.{arith}
 use native.Mathlib.Numerals.{add-one}
 use lib.IntN.{ℤ}
+use Rattle.grid.specs.Limits.{limit}
 use Rattle.grid.specs.declared.Edge.{Edge}
 use Rattle.grid.specs.Points.{at}
 use Rattle.grid.specs.Edges.{between}
@@ -37,8 +38,8 @@ module _ (rule : Rule) (row : List ℤ) where
     passed-none closing h e = record { within = h; closing-is = e; to-is = rw (fresh-last n h) e; stand = λ j l. absurd (omega arith) }
 
     module _ {closing to : Edge} {i : ℕ} (w : Passed n closing to i) where
-      pub short-on : {from : Edge} (j : ℕ) → from ≡ between (at row i) (at row j) → Short to from
-      short-on j e = rw (w .to-is, e) (corner-short _ _ _ (at-on row _ (c .on)) (at-on row i (c .on)) (at-on row j (c .on)))
+      pub short-on : {from : Edge} (j : ℕ) → from ≡ between (at row i) (at row j) → Short limit to from
+      short-on j e = rw (w .to-is, e) (corner-short limit _ _ _ (at-on limit row _ (c .on)) (at-on limit row i (c .on)) (at-on limit row j (c .on)))
 
       told : {from : Edge} (j : ℕ) → from ≡ between (at row i) (at row j) → successor (fresh n) i ≡ j → goes-along rule to from ≡ to-go (goes rule row) (fresh n) i
       told j e s = ap₂ (goes-along rule) (w .to-is) e ∙ sym (goes-edges rule (at row (predecessor (fresh n) i)) (at row i) (at row j)) ∙ rw s

@@ -3,6 +3,7 @@ ghost use mathlib.Core.Path.{_≡_};
 ghost use mathlib.Core.Bool.{true};
 ghost use Prim.Native.Nat.{_<_, _≤_, _^_};
 ghost use lib.ListN.{length};
+ghost use Rattle.grid.specs.Limits.{limit, narrow};
 ghost use Rattle.grid.specs.Edges.{aligned};
 ghost use Rattle.grid.specs.Domain.{Contour};
 ghost use Rattle.grid.specs.inside.Edges.{Short};
@@ -116,7 +117,7 @@ pub fn remove(next: &mut [u32], prev: &mut [u32], mark: &mut [u8], c: usize) -> 
 
 // Whether a vertex where the way does not turn is to go by the rule Spike, by the edges to it and from it.
 fn spike_along(to: Edge, from: Edge) -> bool
-    requires { ⌜ Short to from × (aligned to from ≡ true) ⌝ }
+    requires { ⌜ Short limit to from × (aligned to from ≡ true) ⌝ }
     ensures { λ r. ⌜ r ≡ goes-along-by R.Rule.Spike to from ⌝ }
 {
     if grid::still(to) {
@@ -132,7 +133,7 @@ fn spike_along(to: Edge, from: Edge) -> bool
 // is not 0 it stays by either rule, and neither edge leads to an equal point. LLVM passes on a bool that is a constant,
 // and no enum.
 fn goes_along(collinear: bool, to: Edge, from: Edge) -> bool
-    requires { ⌜ Short to from ⌝ }
+    requires { ⌜ Short limit to from ⌝ }
     ensures { λ r. ⌜ r ≡ goes-along-by (by collinear) to from ⌝ }
 {
     if !grid::inner::aligned(to, from) {

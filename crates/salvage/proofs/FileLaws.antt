@@ -9,7 +9,7 @@ use lib.IntN.{ℤ}
 use mir.Syntax.{w32}
 use mir.Val.{SFits}
 use borrow.Author.Tests.{not-false}
-use Rattle.grid.specs.Limits.{all-on-grid}
+use Rattle.grid.specs.Limits.{narrow, all-on-grid}
 use Rattle.grid.specs.Domain.{count}
 use Rattle.replies.specs.Ladder.{first-of}
 use Rattle.replies.proofs.LadderLaws.{clear}
@@ -27,7 +27,7 @@ use Rattle.salvage.specs.Outcome.{fates-of, kept-of, dropped-of, mended}
 use Rattle.salvage.proofs.FateLaws.{fates-length, kept-or-dropped, kept-each, kept-even, kept-shorter}
 
 -- one that is kept is on the grid, and begins a shape where none stood open
-kept-sound : (b : Bool) (e : Entry) → reason b e ≡ 0 → (all-on-grid (e .points) ≡ true) × ((e .begins || b) ≡ true)
+kept-sound : (b : Bool) (e : Entry) → reason b e ≡ 0 → (all-on-grid narrow (e .points) ≡ true) × ((e .begins || b) ≡ true)
 unfolding reason
 kept-sound b e z = let c = clear _ tt z in (not-false _ (c .0), not-false _ (c .1 .0))
 
@@ -46,28 +46,28 @@ or-none false e = e
 kept-started : (b : Bool) (l : List Entry) → b ≡ false → Started (kept (fates b l) l)
 unfolding fates kept reason
 kept-started b [] s = tt
-kept-started b (e ∷ l) s = go (reason b e) refl (kept-started (open-behind (e .begins) (all-on-grid (e .points)) b) l)
+kept-started b (e ∷ l) s = go (reason b e) refl (kept-started (open-behind (e .begins) (all-on-grid narrow (e .points)) b) l)
   where
     behind : Bool
-    behind = open-behind (e .begins) (all-on-grid (e .points)) b
+    behind = open-behind (e .begins) (all-on-grid narrow (e .points)) b
 
     go : (r : ℕ) → reason b e ≡ r → (behind ≡ false → Started (kept (fates behind l) l)) → Started (kept (r ∷ fates behind l) (e ∷ l))
     go zero z h = or-none (e .begins) (ap (λ (t : Bool). e .begins || t) (sym s) ∙ kept-sound b e z .1)
     go (suc r) z h =
         h
-        (ap (open-behind (e .begins) (all-on-grid (e .points))) s
-        ∙ still-shut (all-on-grid (e .points)) (e .begins) r (ap (λ (t : Bool). first-of ((not (all-on-grid (e .points)), 3) ∷ (not (e .begins || t), 11) ∷ [])) (sym s) ∙ z))
+        (ap (open-behind (e .begins) (all-on-grid narrow (e .points))) s
+        ∙ still-shut (all-on-grid narrow (e .points)) (e .begins) r (ap (λ (t : Bool). first-of ((not (all-on-grid narrow (e .points)), 3) ∷ (not (e .begins || t), 11) ∷ [])) (sym s) ∙ z))
 
-pub kept-on : (b : Bool) (l : List Entry) → all-on-grid (joined (contours-of (kept (fates b l) l))) ≡ true
+pub kept-on : (b : Bool) (l : List Entry) → all-on-grid narrow (joined (contours-of (kept (fates b l) l))) ≡ true
 unfolding fates kept joined all-on-grid
 kept-on b [] = refl
-kept-on b (e ∷ l) = go (reason b e) refl (kept-on (open-behind (e .begins) (all-on-grid (e .points)) b) l)
+kept-on b (e ∷ l) = go (reason b e) refl (kept-on (open-behind (e .begins) (all-on-grid narrow (e .points)) b) l)
   where
     behind : Bool
-    behind = open-behind (e .begins) (all-on-grid (e .points)) b
+    behind = open-behind (e .begins) (all-on-grid narrow (e .points)) b
 
-    go : (r : ℕ) → reason b e ≡ r → all-on-grid (joined (contours-of (kept (fates behind l) l))) ≡ true → all-on-grid (joined (contours-of (kept (r ∷ fates behind l) (e ∷ l)))) ≡ true
-    go zero z h = on-joined (e .points) (joined (contours-of (kept (fates behind l) l))) ∙ ap₂ (λ (x y : Bool). x && y) (kept-sound b e z .0) h
+    go : (r : ℕ) → reason b e ≡ r → all-on-grid narrow (joined (contours-of (kept (fates behind l) l))) ≡ true → all-on-grid narrow (joined (contours-of (kept (r ∷ fates behind l) (e ∷ l)))) ≡ true
+    go zero z h = on-joined narrow (e .points) (joined (contours-of (kept (fates behind l) l))) ∙ ap₂ (λ (x y : Bool). x && y) (kept-sound b e z .0) h
     go (suc r) z h = h
 
 -- a file with a head

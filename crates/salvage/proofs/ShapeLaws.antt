@@ -3,7 +3,7 @@ use mathlib.Core.Path.{_≡_, refl, sym, _∙_, ap, ap₂}
 use mathlib.Core.Bool.{Bool, true, false, not, _||_}
 use mathlib.Core.List.{List, [], _∷_}
 use lib.IntN.{ℤ}
-use Rattle.grid.specs.Limits.{all-on-grid}
+use Rattle.grid.specs.Limits.{narrow, all-on-grid}
 use Rattle.replies.specs.Ladder.{first-of}
 use Rattle.setfile.specs.Format.{Entry, Gathered, gather, gathered, shapes-of}
 use Rattle.salvage.specs.Fates.{reason, open-behind, fates, keep, kept}
@@ -27,7 +27,7 @@ no-contours true = refl
 no-contours false = refl
 
 -- one contour more, by whether it is on the grid, begins a shape, and stands under one that is kept
-shape-step : (on begins b : Bool) (e : Entry) (l : List Entry) (g : Gathered) → all-on-grid (e .points) ≡ on → e .begins ≡ begins → gathered l ≡ sound-of (open-behind begins on b) g
+shape-step : (on begins b : Bool) (e : Entry) (l : List Entry) (g : Gathered) → all-on-grid narrow (e .points) ≡ on → e .begins ≡ begins → gathered l ≡ sound-of (open-behind begins on b) g
     → gathered (keep (first-of ((not on, 3) ∷ (not (begins || b), 11) ∷ [])) e l) ≡ sound-of b (gather begins (e .points) g)
 unfolding first-of gathered sound-contours sound-shapes
 shape-step true true b e l g p q h =
@@ -47,7 +47,7 @@ kept-gathered : (b : Bool) (l : List Entry) → gathered (kept (fates b l) l) �
 unfolding gathered fates kept reason sound-shapes
 kept-gathered b [] = ap (λ (l : List (List ℤ)). gathered-as l []) (sym (no-contours b))
 kept-gathered b (e ∷ l) =
-    shape-step (all-on-grid (e .points)) (e .begins) b e _ (gathered l) refl refl (kept-gathered (open-behind (e .begins) (all-on-grid (e .points)) b) l)
+    shape-step (all-on-grid narrow (e .points)) (e .begins) b e _ (gathered l) refl refl (kept-gathered (open-behind (e .begins) (all-on-grid narrow (e .points)) b) l)
 
 pub kept-shapes : (b : Bool) (l : List Entry) → shapes-of (kept (fates b l) l) ≡ sound-shapes (shapes-of l)
 kept-shapes b l = ap (λ (g : Gathered). g .shapes) (kept-gathered b l)

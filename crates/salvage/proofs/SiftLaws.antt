@@ -9,7 +9,7 @@ use lib.Dec.{leb}
 use lib.ListN.{length, take, drop, set, length-append, length-drop, length-set}
 use lib.Seq.{drop-drop, length-take-le}
 use borrow.Author.Tests.{leb-true, le-leb, lt-leb}
-use Rattle.grid.specs.Limits.{all-on-grid}
+use Rattle.grid.specs.Limits.{narrow, all-on-grid}
 use Rattle.replies.specs.Ladder.{first-of}
 use Rattle.rows.specs.Rows.{placed}
 use Rattle.buffer.specs.Sets.{joined}
@@ -33,13 +33,13 @@ module _ (f : List ℕ) (at : ℕ) where
   there n e = ap₂ (λ (k m : ℕ). leb (2 + 8 * k) m) e (sym (length-drop at f))
 
 -- the reason, by what the code has found
-pub reason-is : (f : List ℕ) (at h : ℕ) (on b keeping : Bool) (w : ℕ) → h ≡ held (drop at f) → b ≡ starts (drop at f) → on ≡ all-on-grid (decoded (2 * h) (drop (at + 2) f))
+pub reason-is : (f : List ℕ) (at h : ℕ) (on b keeping : Bool) (w : ℕ) → h ≡ held (drop at f) → b ≡ starts (drop at f) → on ≡ all-on-grid narrow (decoded (2 * h) (drop (at + 2) f))
     → w ≡ first-of ((not on, 3) ∷ (not (b || keeping), 11) ∷ []) → w ≡ reason keeping (front-entry (drop at f))
 unfolding reason
 reason-is f at h on b keeping w p q o e =
     e
     ∙ ap₂ (λ (x y : Bool). first-of ((not x, 3) ∷ (not (y || keeping), 11) ∷ []))
-    (o ∙ ap₂ (λ (k : ℕ) (g : List ℕ). all-on-grid (decoded (2 * k) g)) p (sym (drop-drop 2 at f))) q
+    (o ∙ ap₂ (λ (k : ℕ) (g : List ℕ). all-on-grid narrow (decoded (2 * k) g)) p (sym (drop-drop 2 at f))) q
 
 -- a contour is kept or noted, as the code does it
 module _ (f : List ℕ) (s : Sifted) (i : ℕ) (out : List ℕ) (list : List (List ℕ)) where
@@ -108,7 +108,7 @@ module _ (c : Come) (e : Entry) (k i : ℕ) (s : Sifted) (out : List ℕ) (list 
       (placed (s .to) (coded-contours (keep w e (kept (fates b (c .contours)) (c .contours)))) out)
       (placed (s .dropped) (note i w (F.dropped (suc i) (fates b (c .contours)))) list)
 
-  ended-next : (b : Bool) (w : ℕ) → w ≡ reason (s .keeping) e → open-behind (e .begins) (all-on-grid (e .points)) (s .keeping) ≡ b
+  ended-next : (b : Bool) (w : ℕ) → w ≡ reason (s .keeping) e → open-behind (e .begins) (all-on-grid narrow (e .points)) (s .keeping) ≡ b
       → ended (come-next true e k c) i s out list ≡ behind b w
   unfolding behind fates kept F.dropped
   ended-next b w p q = ap₂ behind q (sym p)

@@ -9,7 +9,7 @@ use lib.ListN.{length, take, drop, length-take}
 use lib.Seq.{take-at, getD-take}
 use borrow.Author.Tests.{ltb-false, le-ltb, le-leb, not-false}
 use Rattle.integers.proofs.Logic.{and-left, and-right}
-use Rattle.grid.specs.Limits.{all-on-grid}
+use Rattle.grid.specs.Limits.{narrow, all-on-grid}
 use Rattle.replies.specs.Ladder.{first-of}
 use Rattle.rows.specs.Rows.{front}
 use Rattle.replies.proofs.LadderLaws.{Clear, clear, first-is}
@@ -40,28 +40,28 @@ not-refused f out list c = ap (λ (k : ℕ). answered k f out list) (sym (first-
 -- contours of which each is kept
 abbrev AllKept : Bool → List Entry → Type 0
 AllKept b [] = Unit {0}
-AllKept b (e ∷ l) = (reason b e ≡ 0) × AllKept (open-behind (e .begins) (all-on-grid (e .points)) b) l
+AllKept b (e ∷ l) = (reason b e ≡ 0) × AllKept (open-behind (e .begins) (all-on-grid narrow (e .points)) b) l
 
 all-kept : (b : Bool) (l : List Entry) → AllKept b l → kept (fates b l) l ≡ l
 unfolding fates kept
 all-kept b [] h = refl
 all-kept b (e ∷ l) h =
-    ap (λ (r : ℕ). keep r e (kept (fates (open-behind (e .begins) (all-on-grid (e .points)) b) l) l)) (h .0)
-    ∙ ap (λ (m : List Entry). e ∷ m) (all-kept (open-behind (e .begins) (all-on-grid (e .points)) b) l (h .1))
+    ap (λ (r : ℕ). keep r e (kept (fates (open-behind (e .begins) (all-on-grid narrow (e .points)) b) l) l)) (h .0)
+    ∙ ap (λ (m : List Entry). e ∷ m) (all-kept (open-behind (e .begins) (all-on-grid narrow (e .points)) b) l (h .1))
 
 none-dropped : (b : Bool) (k : ℕ) (l : List Entry) → AllKept b l → dropped k (fates b l) ≡ []
 unfolding fates dropped
 none-dropped b k [] h = refl
 none-dropped b k (e ∷ l) h =
-    ap (λ (r : ℕ). note k r (dropped (suc k) (fates (open-behind (e .begins) (all-on-grid (e .points)) b) l))) (h .0)
-    ∙ none-dropped (open-behind (e .begins) (all-on-grid (e .points)) b) (suc k) l (h .1)
+    ap (λ (r : ℕ). note k r (dropped (suc k) (fates (open-behind (e .begins) (all-on-grid narrow (e .points)) b) l))) (h .0)
+    ∙ none-dropped (open-behind (e .begins) (all-on-grid narrow (e .points)) b) (suc k) l (h .1)
 
 within-kept : (b : Bool) (n : ℕ) (l : List Entry) → AllKept b l → AllKept b (all-within n l)
 unfolding all-within
 within-kept b n [] h = tt
-within-kept b n (e ∷ l) h = go (leb (length-of e) n) (within-kept (open-behind (e .begins) (all-on-grid (e .points)) b) (n - length-of e) l (h .1))
+within-kept b n (e ∷ l) h = go (leb (length-of e) n) (within-kept (open-behind (e .begins) (all-on-grid narrow (e .points)) b) (n - length-of e) l (h .1))
   where
-    go : (t : Bool) → AllKept (open-behind (e .begins) (all-on-grid (e .points)) b) (all-within (n - length-of e) l) → AllKept b (as-long t (e ∷ all-within (n - length-of e) l))
+    go : (t : Bool) → AllKept (open-behind (e .begins) (all-on-grid narrow (e .points)) b) (all-within (n - length-of e) l) → AllKept b (as-long t (e ∷ all-within (n - length-of e) l))
     go true w = (h .0, w)
     go false w = tt
 
@@ -75,16 +75,16 @@ stays-open true on b p q = p
 stays-open false on b p q = q
 
 -- contours on the grid, of which the first begins a shape
-sound-kept : (b : Bool) (l : List Entry) → (b ≡ false → Started l) → all-on-grid (joined (contours-of l)) ≡ true → AllKept b l
+sound-kept : (b : Bool) (l : List Entry) → (b ≡ false → Started l) → all-on-grid narrow (joined (contours-of l)) ≡ true → AllKept b l
 unfolding joined reason
 sound-kept b [] s h = tt
 sound-kept b (e ∷ l) s h =
-    let both : (all-on-grid (e .points) && all-on-grid (joined (contours-of l))) ≡ true = sym (on-joined (e .points) (joined (contours-of l))) ∙ h in
-    let on = and-left (all-on-grid (e .points)) _ both in
+    let both : (all-on-grid narrow (e .points) && all-on-grid narrow (joined (contours-of l))) ≡ true = sym (on-joined narrow (e .points) (joined (contours-of l))) ∙ h in
+    let on = and-left (all-on-grid narrow (e .points)) _ both in
     let shape = or-begun (e .begins) b s in
-    let still = stays-open (e .begins) (all-on-grid (e .points)) b on shape in (
-      sym (first-is ((not (all-on-grid (e .points)), 3) ∷ (not (e .begins || b), 11) ∷ []) 0 (past (ap not on) (past (ap not shape) foot))),
-      sound-kept (open-behind (e .begins) (all-on-grid (e .points)) b) l (λ z. absurd (true≢false (sym still ∙ z))) (and-right (all-on-grid (e .points)) _ both),
+    let still = stays-open (e .begins) (all-on-grid narrow (e .points)) b on shape in (
+      sym (first-is ((not (all-on-grid narrow (e .points)), 3) ∷ (not (e .begins || b), 11) ∷ []) 0 (past (ap not on) (past (ap not shape) foot))),
+      sound-kept (open-behind (e .begins) (all-on-grid narrow (e .points)) b) l (λ z. absurd (true≢false (sym still ∙ z))) (and-right (all-on-grid narrow (e .points)) _ both),
     )
 
 -- what is answered, by what is known of the file
@@ -105,10 +105,10 @@ kept-map g (suc r ∷ fs) (a ∷ l) = kept-map g fs l
 parted : (b : Bool) (k : ℕ) (l : List Entry) → Parted k l (kept (fates b l) l) (dropped k (fates b l))
 unfolding fates kept dropped
 parted b k [] = all-parted
-parted b k (e ∷ l) = go (reason b e) (parted (open-behind (e .begins) (all-on-grid (e .points)) b) (suc k) l)
+parted b k (e ∷ l) = go (reason b e) (parted (open-behind (e .begins) (all-on-grid narrow (e .points)) b) (suc k) l)
   where
     behind : List ℕ
-    behind = fates (open-behind (e .begins) (all-on-grid (e .points)) b) l
+    behind = fates (open-behind (e .begins) (all-on-grid narrow (e .points)) b) l
 
     go : (r : ℕ) → Parted (suc k) l (kept behind l) (dropped (suc k) behind) → Parted k (e ∷ l) (keep r e (kept behind l)) (note k r (dropped (suc k) behind))
     go zero p = one-kept p
@@ -182,7 +182,7 @@ module _ (f : List ℕ) (h : Bytes f) (out : List ℕ) (list : List (List ℕ)) 
   what-is-written-is-always-taken-by-the-reader =
       let a : ltb R.most-bytes (length (written-file o)) ≡ false = le-ltb R.most-bytes (length (written-file o)) (omega (arith, no-longer, ltb-false R.most-bytes (length f) (pass .0))) in
       let b : not (eqb (damage (parsed (written-file o))) 0) ≡ false = rw reads in
-      let c : not (all-on-grid (joined (contours-of (read-contours (parsed (written-file o)))))) ≡ false = ap (λ (l : List Entry). not (all-on-grid (joined (contours-of l)))) kept-is ∙ ap not (kept-on false (come f .contours)) in
+      let c : not (all-on-grid narrow (joined (contours-of (read-contours (parsed (written-file o)))))) ≡ false = ap (λ (l : List Entry). not (all-on-grid narrow (joined (contours-of l)))) kept-is ∙ ap not (kept-on false (come f .contours)) in
       sym (first-is (R.refusals (written-file o)) 0 (past a (past b (past c foot))))
 
   pub every-contour-is-kept-or-dropped-once-and-in-order : Parted 0 (come f .contours) (read-contours (parsed (written-file o))) (written-list o)

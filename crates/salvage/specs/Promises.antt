@@ -6,7 +6,7 @@ use Prim.Native.Nat.{ℕ, suc, _+_, _-_, _*_}
 use lib.Dec.{leb}
 use lib.ListN.{take, drop}
 use lib.IntN.{ℤ}
-use Rattle.grid.specs.Limits.{all-on-grid}
+use Rattle.grid.specs.Limits.{narrow, all-on-grid}
 use Rattle.grid.specs.Domain.{count}
 use Rattle.buffer.specs.Sets.{joined}
 use Rattle.setfile.specs.Format.{Entry, come}
@@ -46,13 +46,13 @@ if-so false a l = l
 -- the contours that are on the grid
 unfoldable pub sound-contours : List (List ℤ) → List (List ℤ)
 sound-contours [] = []
-sound-contours (c ∷ l) = if-so (all-on-grid c) c (sound-contours l)
+sound-contours (c ∷ l) = if-so (all-on-grid narrow c) c (sound-contours l)
 
 -- the shapes whose first contour is on the grid, each with its other contours that are
 unfoldable pub sound-shapes : List (List (List ℤ)) → List (List (List ℤ))
 sound-shapes [] = []
 sound-shapes ([] ∷ l) = sound-shapes l
-sound-shapes ((c ∷ holes) ∷ l) = if-so (all-on-grid c) (c ∷ sound-contours holes) (sound-shapes l)
+sound-shapes ((c ∷ holes) ∷ l) = if-so (all-on-grid narrow c) (c ∷ sound-contours holes) (sound-shapes l)
 
 -- how many bytes a contour has
 abbrev pub length-of : Entry → ℕ

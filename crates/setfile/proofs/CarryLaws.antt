@@ -13,7 +13,7 @@ use mir.Val.{SFits}
 use borrow.Author.Tests.{ltb-true, ltb-false, le-ltb, eqb-false, ne-eqb, not-false}
 use Rattle.integers.proofs.Logic.{and-left, and-right, or-left, or-right}
 use Rattle.integers.proofs.Bound.{in-fits}
-use Rattle.grid.specs.Limits.{limit, most, on-grid, all-on-grid}
+use Rattle.grid.specs.Limits.{narrow, most, on-grid, all-on-grid}
 use Rattle.replies.specs.Ladder.{first-of}
 use Rattle.grid.specs.Domain.{count}
 use Rattle.replies.proofs.LadderLaws.{clear, first-is}
@@ -101,14 +101,14 @@ module _ {A : Type 0} (a : List A) where
       ap₂ (λ (n : ℕ) (k : List ℕ). n ∷ k) (length-take-le (s .end - s .start) (drop (s .start) a) (omega (arith, length-drop (s .start) a))) (cut-sizes (s .end) l o)
 
 -- coordinates on the grid are i32
-on-fits : (c : List ℤ) → all-on-grid c ≡ true → Each (SFits w32) c
-unfolding all-on-grid limit
+on-fits : (c : List ℤ) → all-on-grid narrow c ≡ true → Each (SFits w32) c
+unfolding all-on-grid narrow
 on-fits [] e = tt
-on-fits (z ∷ c) e = (in-fits (on-grid-in z (and-left (on-grid z) _ e)) tt, on-fits c (and-right (on-grid z) _ e))
+on-fits (z ∷ c) e = (in-fits (on-grid-in narrow z (and-left (on-grid narrow z) _ e)) tt, on-fits c (and-right (on-grid narrow z) _ e))
 
-contours-fit : (p : List ℤ) (l : List Span) → all-on-grid p ≡ true → Each (Each (SFits w32)) (contours p l)
+contours-fit : (p : List ℤ) (l : List Span) → all-on-grid narrow p ≡ true → Each (Each (SFits w32)) (contours p l)
 contours-fit p [] e = tt
-contours-fit p (s ∷ l) e = (on-fits (contour p s) (on-taken (2 * s .end - 2 * s .start) (drop (2 * s .start) p) (on-dropped (2 * s .start) p e)), contours-fit p l e)
+contours-fit p (s ∷ l) e = (on-fits (contour p s) (on-taken narrow (2 * s .end - 2 * s .start) (drop (2 * s .start) p) (on-dropped narrow (2 * s .start) p e)), contours-fit p l e)
 
 -- exactly these sets are not refused
 module _ (p : List ℤ) (cs ss : List (List ℕ)) where
@@ -124,7 +124,7 @@ module _ (p : List ℤ) (cs ss : List (List ℕ)) where
         fits = ltb-false most-bytes (file-length (length cs) (count p)) (c .1 .1 .0);
         contours = and-left (sound (spans cs) (count p)) _ s;
         shapes = and-right (sound (spans cs) (count p)) _ s;
-        on = not-false (all-on-grid p) (c .1 .1 .1 .1 .0);
+        on = not-false (all-on-grid narrow p) (c .1 .1 .1 .1 .0);
         few = omega (arith, ltb-false most-contours (length (spans cs)) (or-left many (some-over most-points (spans cs)) u), spans-length cs);
         short = none-over most-points (spans cs) (or-right many (some-over most-points (spans cs)) u);
         filled = none-empty (spans ss) (or-right (many || some-over most-points (spans cs)) (some-empty (spans ss)) t);

@@ -5,11 +5,13 @@ use mathlib.Core.List.{List, [], _∷_}
 use Prim.Native.Nat.{ℕ}
 use lib.IntN.{negsuc}
 use Rattle.replies.specs.Ladder.{first-of}
+use Rattle.grid.specs.Limits.{narrow, on-grid, all-on-grid}
 use Rattle.grid.specs.Cases.{W4}
 use Rattle.buffer.specs.Sets.{joined}
 use Rattle.setfile.specs.Bits.{value, field, bits, bytes}
 use Rattle.setfile.specs.Format.{entry, file, parsed, complete, coordinates}
 use Rattle.setfile.specs.Format.Parsed.{carries, damaged}
+use Rattle.setfile.specs.Reading.{refusals}
 
 -- 1001 8005 in hex, then the points of W4
 abbrev file-of-w4 : List ℕ
@@ -58,3 +60,12 @@ no-points = refl
 left-over : parsed (16 ∷ 1 ∷ 128 ∷ 0 ∷ 7 ∷ []) ≡ damaged 10
 unfolding parsed complete coordinates bits field value first-of
 left-over = refl
+
+-- 536,870,912 is on the narrow grid, and 536,870,913 gets 3
+the-last : first-of (refusals (16 ∷ 1 ∷ 128 ∷ 1 ∷ 32 ∷ 0 ∷ 0 ∷ 0 ∷ 224 ∷ 0 ∷ 0 ∷ 0 ∷ [])) ≡ 0
+unfolding parsed complete coordinates bits field value first-of narrow on-grid all-on-grid joined
+the-last = refl
+
+past-the-last : first-of (refusals (16 ∷ 1 ∷ 128 ∷ 1 ∷ 32 ∷ 0 ∷ 0 ∷ 1 ∷ 0 ∷ 0 ∷ 0 ∷ 0 ∷ [])) ≡ 3
+unfolding parsed complete coordinates bits field value first-of narrow on-grid all-on-grid joined
+past-the-last = refl

@@ -1,6 +1,7 @@
 -- Fields in a row of bytes, from a position on.
 use mathlib.Core.Path.{_≡_, sym, _∙_, ap, ap₂}
 use mathlib.Core.Bool.{true}
+use borrow.Author.Tests.{le-ltb, not-false}
 use mathlib.Core.List.{List}
 use Prim.Native.Nat.{ℕ, _+_, _*_, _/_, _%_, _^_, _<_}
 use native.Mathlib.Omega.{arith}
@@ -11,9 +12,9 @@ use lib.Seq.{getD-drop}
 use mir.Syntax.{w32}
 use mir.Val.{Fits, toZ}
 use mir.Facts.{sfits-toZ, ofZ-toZ}
-use Rattle.grid.specs.Limits.{limit, on-grid}
+use Rattle.grid.specs.Limits.{narrow, on-grid}
 use Rattle.grid.specs.inside.Rows.{raised}
-use Rattle.grid.proofs.LimitLaws.{raised-on-grid}
+use Rattle.grid.proofs.LimitLaws.{narrow-within, raised-beyond}
 use Rattle.setfile.specs.inside.Bytes.{pair, word, swapped, quad}
 
 -- a number of 32 bits by its first byte
@@ -50,14 +51,17 @@ module _ {f : List ℕ} (b : FourBytes f) where
       rw (w, x, x-low, y, y-low, z)
 
   -- a first byte of which the first three bits are equal is that of a coordinate on the grid
-  pub first-byte-on-grid : (word f + 32) % 2 ^ 32 % 2 ^ 8 < 64 → on-grid (toZ w32 (quad f)) ≡ true
-  unfolding raised limit
+  pub first-byte-on-grid : (word f + 32) % 2 ^ 32 % 2 ^ 8 < 64 → on-grid narrow (toZ w32 (quad f)) ≡ true
+  unfolding raised narrow
   first-byte-on-grid h =
       let fits : Fits w32 (quad f) = record { fits = quad-below } in
       let low : (getD f 0 0 + 32) % 256 < 64 = omega (arith, b .first) in
       let rest : getD f 1 0 * 65536 + getD f 2 0 * 256 + getD f 3 0 < 16777216 = omega (arith, b .second, b .third, b .fourth) in
-      let e : quad f + limit ≡ (getD f 0 0 + 32) * 16777216 + (getD f 1 0 * 65536 + getD f 2 0 * 256 + getD f 3 0) = omega arith in
-      raised-on-grid (toZ w32 (quad f)) (sfits-toZ fits) (rw (ofZ-toZ fits, e) (first-byte-raised (getD f 0 0 + 32) _ low rest))
+      let e : quad f + narrow ≡ (getD f 0 0 + 32) * 16777216 + (getD f 1 0 * 65536 + getD f 2 0 * 256 + getD f 3 0) = omega arith in
+      let raised-low : raised narrow (toZ w32 (quad f)) < 1073741824 = rw (ofZ-toZ fits, e) (first-byte-raised (getD f 0 0 + 32) _ low rest) in
+      not-false _
+      (sym (raised-beyond narrow (toZ w32 (quad f)) narrow-within (sfits-toZ fits))
+      ∙ le-ltb (2 * narrow) (raised narrow (toZ w32 (quad f))) (omega arith))
 
 module _ (f : List ℕ) (at : ℕ) where
   -- the byte at i of what is left

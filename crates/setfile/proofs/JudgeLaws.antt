@@ -11,7 +11,7 @@ use lib.Seq.{drop-drop}
 use lib.IntN.{ℤ}
 use mir.Val.{boolByte}
 use borrow.Author.Tests.{ltb-true, ltb-false, lt-ltb, le-ltb, eq-eqb, ne-eqb}
-use Rattle.grid.specs.Limits.{all-on-grid}
+use Rattle.grid.specs.Limits.{narrow, all-on-grid}
 use Rattle.grid.proofs.LimitLaws.{on-joined}
 use Rattle.replies.specs.Ladder.{first-of}
 use Rattle.grid.specs.Domain.{off}
@@ -38,12 +38,12 @@ shapes-more false c l = omega arith
 
 -- one contour more
 summed-more : (m : Met) (n at k : ℕ) (b : Bool) (c : List ℤ) (w : Parsed) → length c ≡ k
-    → summed m n (and-then (entry b c) w) ≡ summed (record { at = at; numbers = m .numbers + k; shapes = m .shapes + digit b; on = m .on && all-on-grid c }) (n + 1) w
+    → summed m n (and-then (entry b c) w) ≡ summed (record { at = at; numbers = m .numbers + k; shapes = m .shapes + digit b; on = m .on && all-on-grid narrow c }) (n + 1) w
 unfolding joined
 summed-more m n at k b c (damaged r) e = refl
 summed-more m n at k b c (carries l) e =
     same-judged
-    (ap on-or-refused (ap (λ (t : Bool). m .on && t) (on-joined c (joined (contours-of l))) ∙ sym (and-assoc (m .on) (all-on-grid c) (all-on-grid (joined (contours-of l))))))
+    (ap on-or-refused (ap (λ (t : Bool). m .on && t) (on-joined narrow c (joined (contours-of l))) ∙ sym (and-assoc (m .on) (all-on-grid narrow c) (all-on-grid narrow (joined (contours-of l))))))
     (omega (arith, length-append c (joined (contours-of l))))
     (omega arith)
     (omega (arith, shapes-more b c l))
@@ -69,14 +69,14 @@ same-met : {a b c d : ℕ} {x y : Bool} {k l : ℕ} → a ≡ b → c ≡ d → 
 same-met e f g h = cc
 
 -- as the code counts
-pub met-is : (f : List ℕ) (m : Met) (h : ℕ) (b on : Bool) → h ≡ held (drop (m .at) f) → b ≡ starts (drop (m .at) f) → on ≡ all-on-grid (decoded (2 * h) (drop (m .at + 2) f))
+pub met-is : (f : List ℕ) (m : Met) (h : ℕ) (b on : Bool) → h ≡ held (drop (m .at) f) → b ≡ starts (drop (m .at) f) → on ≡ all-on-grid narrow (decoded (2 * h) (drop (m .at + 2) f))
     → record { at = m .at + (2 + 8 * h); numbers = m .numbers + 2 * h; shapes = m .shapes + boolByte b; on = m .on && on } ≡ met-more (drop (m .at) f) m
 met-is f m h b on e g k =
     same-met
     (ap (λ (t : ℕ). m .at + (2 + 8 * t)) e)
     (ap (λ (t : ℕ). m .numbers + 2 * t) e)
     (ap (λ (t : ℕ). m .shapes + t) (byte-digit b ∙ ap digit g))
-    (ap (λ (t : Bool). m .on && t) (k ∙ ap₂ (λ (t : ℕ) (l : List ℕ). all-on-grid (decoded (2 * t) l)) e (sym (drop-drop 2 (m .at) f))))
+    (ap (λ (t : Bool). m .on && t) (k ∙ ap₂ (λ (t : ℕ) (l : List ℕ). all-on-grid narrow (decoded (2 * t) l)) e (sym (drop-drop 2 (m .at) f))))
 
 -- behind the last contour
 module _ (f : List ℕ) (m : Met) (n : ℕ) where
@@ -148,7 +148,7 @@ module _ (f : List ℕ) where
           record {
             reply =
                 ap (λ (j : Judged). j .reply) j
-                ∙ first-is (refusals-of (length f) (carries l)) _ (past (le-ltb _ _ few) (past refl (found (off (joined (contours-of l))) _ refl)))
+                ∙ first-is (refusals-of (length f) (carries l)) _ (past (le-ltb _ _ few) (past refl (found (off narrow (joined (contours-of l))) _ refl)))
                 ∙ ap (λ (w : Parsed). first-of (refusals-of (length f) w)) (sym h);
             counts = λ z. record {
               readable = subst (Readable f) (sym k) (readable l h);

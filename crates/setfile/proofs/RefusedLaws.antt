@@ -11,15 +11,14 @@ use lib.Seq.{drop-cons}
 use lib.IntN.{ℤ}
 use borrow.Author.Tests.{eq-eqb, ne-eqb, lt-ltb, le-ltb, leb-true, leb-false}
 use Rattle.integers.proofs.Logic.{and-left}
-use Rattle.grid.specs.Limits.{most}
+use Rattle.grid.specs.Limits.{narrow, most}
 use Rattle.replies.specs.Ladder.{Rung, first-of}
 use Rattle.grid.specs.Domain.{count, off}
 use Rattle.replies.proofs.LadderLaws.{First, first-is, stopped, onward, found}
 use Rattle.replies.proofs.LadderLaws.First.{here, past, foot}
 use Rattle.buffer.specs.declared.ranges.Span.{Span}
 use Rattle.buffer.specs.Spans.{span, spans, sound, size}
-use Rattle.buffer.specs.Refusals.{unsound}
-use Rattle.buffer.specs.Shapes as S
+use Rattle.buffer.specs.Refusals.{unsound, set}
 use Rattle.buffer.proofs.RefusalLaws.{accepted}
 use Rattle.buffer.proofs.RowLaws.{spans-length}
 use Rattle.setfile.specs.Format.{file-length}
@@ -72,16 +71,20 @@ module _ (p : List ℤ) (cs ss : List (List ℕ)) where
       unfolding most
       few = le-ltb most (count p) (omega (arith, g))
 
-      -- what is asked of a set behind its size
+      -- what is asked of a set
+      abbrev set-rungs : List Rung
+      set-rungs = set narrow p (sound (spans cs) (count p) && sound (spans ss) (length cs))
+
+      -- and behind its size
       abbrev rest : List Rung
-      rest = unsound (sound (spans cs) (count p) && sound (spans ss) (length cs)) ++ off p
+      rest = unsound (sound (spans cs) (count p) && sound (spans ss) (length cs)) ++ off narrow p
 
       beyond : (r : ℕ) → First (rest ++ uncarried (spans cs) (spans ss)) r → r ≡ first-of (refusals p cs ss)
       beyond r f = first-is (refusals p cs ss) r (past not-odd (past few (past (le-ltb most-bytes (file-length (length cs) (count p)) (omega (arith, g))) f)))
 
-      module _ (r : ℕ) (e : r ≡ first-of (S.refusals p cs ss)) where
+      module _ (r : ℕ) (e : r ≡ first-of set-rungs) where
         as-rest : r ≡ first-of rest
-        as-rest = e ∙ sym (first-is (S.refusals p cs ss) (first-of rest) (past not-odd (past few (found rest (first-of rest) refl))))
+        as-rest = e ∙ sym (first-is set-rungs (first-of rest) (past not-odd (past few (found rest (first-of rest) refl))))
 
         pub refused-set : (r ≡ 0 → ⊥) → r ≡ first-of (refusals p cs ss)
         refused-set z = beyond r (stopped rest (uncarried (spans cs) (spans ss)) r as-rest z)
@@ -91,7 +94,7 @@ module _ (p : List ℤ) (cs ss : List (List ℕ)) where
           none-over = go (some-over most-points (spans cs)) refl
             where
               ok : sound (spans cs) (count p) ≡ true
-              ok = and-left (sound (spans cs) (count p)) _ (accepted p _ (sym e ∙ z) .sound)
+              ok = and-left (sound (spans cs) (count p)) _ (accepted narrow p _ (sym e ∙ z) .sound)
 
               go : (b : Bool) → some-over most-points (spans cs) ≡ b → b ≡ false
               go true f = absurd (omega (arith, g, over-in most-points 0 (count p) (spans cs) f ok))

@@ -7,7 +7,7 @@ use lib.ListN.{length, take}
 use lib.IntN.{ℤ}
 use mir.Syntax.{w32}
 use mir.Val.{SFits}
-use Rattle.grid.specs.Limits.{all-on-grid}
+use Rattle.grid.specs.Limits.{narrow, all-on-grid}
 use Rattle.grid.specs.Domain.{count}
 use Rattle.buffer.specs.declared.ranges.Span.{Span}
 use Rattle.buffer.specs.Spans.{spans, rows, sound, size}
@@ -52,7 +52,7 @@ pub record Carriable (p : List ℤ) (cs ss : List (List ℕ)) : Type 0 where
   pub fits : file-length (length cs) (count p) ≤ most-bytes
   pub contours : sound (spans cs) (count p) ≡ true
   pub shapes : sound (spans ss) (length cs) ≡ true
-  pub on : all-on-grid p ≡ true
+  pub on : all-on-grid narrow p ≡ true
   pub few : length cs ≤ most-contours
   pub short : Each (λ (s : Span). size s ≤ most-points) (spans cs)
   pub filled : Each (λ (s : Span). 0 < size s) (spans ss)

@@ -4,6 +4,7 @@ use Prim.Native.Nat.{ℕ}
 use lib.Dec.{ltb}
 use lib.ListN.{length}
 use Rattle.replies.specs.Ladder.{Rung, so-far}
+use Rattle.grid.specs.Limits.{narrow}
 use Rattle.grid.specs.Domain.{off}
 use Rattle.buffer.specs.Sets.{joined, contour-spans, shape-spans}
 use Rattle.buffer.specs.Answers.{Outcome, stored}
@@ -20,7 +21,7 @@ long n = (ltb most-bytes n, 2) ∷ []
 
 -- the refusals of a file, in their order: 2, its damage (10, 9, 11), 3
 abbrev pub refusals : List ℕ → List Rung
-refusals f = long (length f) ++ so-far (damage (parsed f)) ++ off (joined (contours-of (read-contours (parsed f))))
+refusals f = long (length f) ++ so-far (damage (parsed f)) ++ off narrow (joined (contours-of (read-contours (parsed f))))
 
 -- the set of these contours, in front of the rows
 abbrev pub put : List Rung → List Entry → List ℤ → List (List ℕ) → List (List ℕ) → Outcome

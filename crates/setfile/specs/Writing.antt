@@ -6,6 +6,7 @@ use lib.Dec.{eqb, ltb, leb}
 use lib.ListN.{length}
 use lib.IntN.{ℤ}
 use Rattle.replies.specs.Ladder.{Rung, first-of, room}
+use Rattle.grid.specs.Limits.{narrow}
 use Rattle.grid.specs.Domain.{count, size, off}
 use Rattle.rows.specs.Rows.{front}
 use Rattle.buffer.specs.declared.ranges.Span.{Span}
@@ -43,7 +44,7 @@ abbrev pub refusals : List ℤ → List (List ℕ) → List (List ℕ) → List 
 refusals p cs ss =
     size p ++ long (file-length (length cs) (count p))
     ++ unsound (sound (spans cs) (count p) && sound (spans ss) (length cs))
-    ++ off p ++ uncarried (spans cs) (spans ss)
+    ++ off narrow p ++ uncarried (spans cs) (spans ss)
 
 -- the answer, and the row of bytes as it is left
 pub record Outcome : Type 0 where

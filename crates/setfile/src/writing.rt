@@ -49,7 +49,7 @@ fn refused(points: &[i32], contours: &[[usize; 2]], shapes: &[[usize; 2]]) -> u3
     if MOST_BYTES < file_length(points, contours) {
         return replies::TOO_MANY;
     }
-    let set = buffer::shapes::refused(points, contours, shapes);
+    let set = buffer::inner::refusing::shapes(grid::NARROW, points, contours, shapes);
     if set != 0 {
         return set;
     }

@@ -8,6 +8,7 @@ use lib.IntN.{ℤ}
 use lib.ListN.{length, getD, take, drop, set, length-append, length-drop, drop-of-length-le, take-append-drop}
 use lib.Seq.{take-all, drop-drop, length-take-le}
 use borrow.Rule.Slice.PartMut.{midOf, putMid, put-same}
+use Rattle.grid.specs.Limits.{limit, narrow}
 use Rattle.grid.specs.Domain.{count, Contour}
 use Rattle.ring.specs.declared.Rule.{Rule}
 use Rattle.clean.specs.declared.cleaning.Cleaned.{Cleaned}
@@ -141,7 +142,7 @@ room-rest rule c l at out records x k pl out′ records′ e a b = go (fate rule
         rw f (record { room = omega (arith, x .room); space = omega (arith, x .space); narrow = omega (arith, x .narrow); fits = omega (arith, x .fits, s) })
 
 -- sound ranges of a set that no call refuses name parts of its points
-pub accepted-named : (p : List ℤ) (cs : List (List ℕ)) (ok : Bool) → Accepted p ok → sound (spans cs) (count p) ≡ true → Named p cs
+pub accepted-named : (p : List ℤ) (cs : List (List ℕ)) (ok : Bool) → Accepted limit p ok → sound (spans cs) (count p) ≡ true → Named p cs
 accepted-named p cs ok a s = record {
   domain = record { even = a .even; few = a .few; on = a .on };
   names = λ k h. names-of p cs k (a .even) s h;

@@ -54,7 +54,7 @@ unfolding limit most on-grid all-on-grid points cross dot last differing distinc
 of-two = (refl, refl, refl)
 
 -- points without ranges
-loose : (simple W3 [] ≡ refused 6) × (in-shape W3 [] (pos 536870913) (pos 0) ≡ refused 6) × (doubled W3 [] ≡ record { reply = 6; value = pos 0 })
+loose : (simple W3 [] ≡ refused 6) × (in-shape W3 [] (pos 1073741824) (pos 0) ≡ refused 6) × (doubled W3 [] ≡ record { reply = 6; value = pos 0 })
 unfolding limit most on-grid all-on-grid first-of sound-from verdict-by in-shape doubled-by
 loose = (refl, refl, refl)
 
@@ -94,7 +94,7 @@ of-shapes :
     × (shapes-doubled (W3 ++ W3) (0 to 3 ∷ 3 to 6 ∷ []) (0 to 1 ∷ 1 to 1 ∷ 1 to 2 ∷ []) ≡ record { reply = 0; value = pos 32 })
     × (shapes-half W11 (0 to 3 ∷ []) (0 to 1 ∷ []) ≡ record { reply = 0; value = pos 0 })
     × (shapes-doubled W3 (0 to 3 ∷ 3 to 3 ∷ []) (0 to 1 ∷ 1 to 2 ∷ []) ≡ record { reply = 8; value = pos 0 })
-    × (shapes-half (row (0 ∷ 536870913 ∷ [])) (0 to 1 ∷ 1 to 1 ∷ []) (0 to 2 ∷ []) ≡ record { reply = 3; value = pos 0 })
+    × (shapes-half (row (0 ∷ 1073741824 ∷ [])) (0 to 1 ∷ 1 to 1 ∷ []) (0 to 2 ∷ []) ≡ record { reply = 3; value = pos 0 })
 unfolding mod64 limit most on-grid all-on-grid points around exact wrapped cross dot last differing distinct-neighbours corners-from corners some first-of sound-from is-simple spike-free-distinct no-spikes every verdict-by sum doubled-by half-by
 of-shapes = (refl, refl, refl, refl, refl, refl, refl)
 
@@ -126,7 +126,7 @@ on-the-outline = (refl, refl)
 
 -- off the grid; an empty shape has nothing, nor has one whose first contour is empty
 nothing-had :
-    (asks square 536870913 4 ≡ refused 3)
+    (asks square 1073741824 4 ≡ refused 3)
     × (in-shape [] [] (pos 0) (pos 0) ≡ answered false)
     × (in-shape W3 (0 to 0 ∷ 0 to 3 ∷ []) (pos 0) (pos 0) ≡ answered false)
 unfolding xor limit most on-grid all-on-grid points cross last first-of sound-from crosses odd contained on-edge touched on-boundary location every has in-shape

@@ -11,6 +11,7 @@ use lib.Seq.{length-take-le}
 use borrow.Author.Tests.{ltb-false, leb-true, le-leb, not-true, not-false}
 use Rattle.integers.proofs.Logic.{and-left, and-right}
 use Rattle.replies.specs.Ladder.{Rung, first-of, room, so-far}
+use Rattle.grid.specs.Limits.{limit, narrow}
 use Rattle.grid.specs.Domain.{count}
 use Rattle.replies.proofs.LadderLaws.{clear, cleared, so-far-then}
 use Rattle.ring.specs.declared.Rule.{Rule}
@@ -67,12 +68,12 @@ answered-kept b at n = ap (λ (t : Bool). shape-answer t at) (sym (not-false b n
 -- a set and the rows that are lent; its ranges are sound, or not
 module _ (p : List ℤ) (cs ss : List (List ℕ)) (ok : Bool) (l : Lent) where
   abbrev pub rungs : List Rung
-  rungs = set p ok ++ lacking p cs ss l
+  rungs = set limit p ok ++ lacking p cs ss l
 
-  pub first-refusal : (asked : ℕ) (roomy : Bool) (r : ℕ) → asked ≡ first-of (set p ok) → roomy ≡ enough p cs ss l
+  pub first-refusal : (asked : ℕ) (roomy : Bool) (r : ℕ) → asked ≡ first-of (set limit p ok) → roomy ≡ enough p cs ss l
       → r ≡ first-of (so-far asked ++ (scratch (count p) (length (l .next)) (length (l .prev)) (length (l .mark)) ++ room roomy)) → r ≡ first-of rungs
   first-refusal asked roomy r e f g =
-      so-far-then (set p ok) _ tt asked r e
+      so-far-then (set limit p ok) _ tt asked r e
       (g ∙ ap (λ (b : Bool). first-of (so-far asked ++ (scratch (count p) (length (l .next)) (length (l .prev)) (length (l .mark)) ++ room b))) f)
 
   pub refused : (done : Outcome) (r : ℕ) → r ≡ first-of rungs → (r ≡ 0 → ⊥) → (a : CleanedSet) → a ≡ answer r 0 0 0 0 → leaving a l ≡ outcome (first-of rungs) l done
@@ -80,11 +81,11 @@ module _ (p : List ℤ) (cs ss : List (List ℕ)) (ok : Bool) (l : Lent) where
   refused done (suc k) e n a f = ap (λ (b : CleanedSet). leaving b l) f ∙ ap (λ (r : ℕ). outcome r l done) e
 
   module _ (z : first-of rungs ≡ 0) where
-    parts : (first-of (set p ok) ≡ 0) × (first-of (lacking p cs ss l) ≡ 0)
-    parts = cleared (set p ok) (lacking p cs ss l) tt z
+    parts : (first-of (set limit p ok) ≡ 0) × (first-of (lacking p cs ss l) ≡ 0)
+    parts = cleared (set limit p ok) (lacking p cs ss l) tt z
 
-    pub set-accepted : Accepted p ok
-    set-accepted = accepted p ok (parts .0)
+    pub set-accepted : Accepted limit p ok
+    set-accepted = accepted limit p ok (parts .0)
 
     pub scratch-fits : Scratch (count p) (l .next) (l .prev) (l .mark)
     scratch-fits =
@@ -147,7 +148,7 @@ module _ (p : List ℤ) (cs : List (List ℕ)) (l : Lent) where
   abbrev pub shape-rungs : List Rung
   shape-rungs = rungs p cs [] contours-sound l
 
-  pub shape-first : (asked : ℕ) (roomy : Bool) (r : ℕ) → asked ≡ first-of (set p contours-sound) → roomy ≡ (leb (length p) (length (l .points)) && leb (length cs) (length (l .contours)))
+  pub shape-first : (asked : ℕ) (roomy : Bool) (r : ℕ) → asked ≡ first-of (set limit p contours-sound) → roomy ≡ (leb (length p) (length (l .points)) && leb (length cs) (length (l .contours)))
       → r ≡ first-of (so-far asked ++ (scratch (count p) (length (l .next)) (length (l .prev)) (length (l .mark)) ++ room roomy)) → r ≡ first-of shape-rungs
   shape-first asked roomy r e f g =
       let n : leb 0 (length (l .shapes)) ≡ true = le-leb 0 (length (l .shapes)) (omega arith) in
@@ -207,7 +208,7 @@ module _ (p : List ℤ) (cs ss : List (List ℕ)) (l : Lent) where
   abbrev pub shapes-rungs : List Rung
   shapes-rungs = rungs p cs ss both-sound l
 
-  pub shapes-first : (asked : ℕ) (roomy : Bool) (r : ℕ) → asked ≡ first-of (set p both-sound) → roomy ≡ enough p cs ss l
+  pub shapes-first : (asked : ℕ) (roomy : Bool) (r : ℕ) → asked ≡ first-of (set limit p both-sound) → roomy ≡ enough p cs ss l
       → r ≡ first-of (so-far asked ++ (scratch (count p) (length (l .next)) (length (l .prev)) (length (l .mark)) ++ room roomy)) → r ≡ first-of shapes-rungs
   shapes-first = first-refusal p cs ss both-sound l
 

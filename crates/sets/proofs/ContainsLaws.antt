@@ -7,6 +7,7 @@ use Prim.Native.Nat.{ℕ, _<_, _≤_}
 use lib.ListN.{length, getD, drop}
 use native.Mathlib.Omega.{arith}
 use lib.IntN.{ℤ}
+use Rattle.grid.specs.Limits.{limit}
 use Rattle.grid.specs.declared.Point.{Point}
 use Rattle.grid.specs.Points.{on, points}
 use Rattle.replies.specs.Ladder.{first-of}
@@ -49,10 +50,10 @@ module _ (p : List ℤ) (cs : List (List ℕ)) (x y : ℤ) where
   shape-refused k e n = verdict-refused _ _ k (first-is (shape-refusals asked p cs) k (stopped (refusals p cs) _ k e n)) n
 
   module _ (z : first-of (refusals p cs) ≡ 0) where
-    pub asked-off : on asked ≡ false → record { reply = 3; yes = false } ≡ in-shape p cs x y
+    pub asked-off : on limit asked ≡ false → record { reply = 3; yes = false } ≡ in-shape p cs x y
     unfolding in-shape
     asked-off g = verdict-refused _ _ 3 (first-is (shape-refusals asked p cs) 3 (onward (refusals p cs) _ 3 tt z (here (ap not g)))) (λ e. absurd (omega arith))
 
-    pub shape-given : on asked ≡ true → (b : Bool) → b ≡ has asked (contours p (spans cs)) → record { reply = 0; yes = b } ≡ in-shape p cs x y
+    pub shape-given : on limit asked ≡ true → (b : Bool) → b ≡ has asked (contours p (spans cs)) → record { reply = 0; yes = b } ≡ in-shape p cs x y
     unfolding in-shape
     shape-given g b e = verdict-given _ _ b (sym (first-is (shape-refusals asked p cs) 0 (onward (refusals p cs) _ 0 tt z (past (ap not g) foot)))) e

@@ -8,6 +8,7 @@ use native.Mathlib.Omega.{arith}
 use lib.ListN.{length, take, drop, length-map, length-replicate}
 use lib.IntN.{ℤ, pos}
 use lib.Seq.{take-at}
+use Rattle.grid.specs.Limits.{limit}
 use Rattle.grid.specs.Points.{points}
 use Rattle.grid.specs.Area.{exact}
 use Rattle.grid.specs.Domain.{count, Contour}
@@ -159,12 +160,12 @@ module _ (rule : Rule) where
 
 -- the contours of a set that no call refuses are of the domain
 pub contours-of-a-set : (p : List ℤ) (cs : List (List ℕ)) → first-of (contour-refusals p cs) ≡ 0 → Contours (contours p (spans cs))
-contours-of-a-set p cs z = let a = accepted p (sound (spans cs) (count p)) z in all-named p cs (accepted-named p cs _ a (a .sound))
+contours-of-a-set p cs z = let a = accepted limit p (sound (spans cs) (count p)) z in all-named p cs (accepted-named p cs _ a (a .sound))
 
 -- and so are those of its shapes
 pub shapes-of-a-set : (p : List ℤ) (cs ss : List (List ℕ)) → first-of (shape-refusals p cs ss) ≡ 0 → AllContours (shapes p (spans cs) (spans ss))
 shapes-of-a-set p cs ss z =
-    let a = accepted p (sound (spans cs) (count p) && sound (spans ss) (length cs)) z in
+    let a = accepted limit p (sound (spans cs) (count p) && sound (spans ss) (length cs)) z in
     all-cut (contours p (spans cs)) (spans ss) (all-named p cs (accepted-named p cs _ a (and-left (sound (spans cs) (count p)) _ (a .sound))))
 
 -- what is laid in front of the rows, taken back

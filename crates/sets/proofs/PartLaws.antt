@@ -9,6 +9,7 @@ use lib.ListN.{length, getD, drop, length-map, drop-of-length-le}
 use lib.Seq.{drop-cons}
 use lib.IntN.{ℤ}
 use Rattle.replies.specs.Ladder.{first-of}
+use Rattle.grid.specs.Limits.{limit}
 use Rattle.grid.specs.Domain.{count, domain}
 use Rattle.buffer.specs.Spans.{span, spans, sound}
 use Rattle.buffer.specs.Sets.{contour, contours}
@@ -34,9 +35,9 @@ module _ (p : List ℤ) (cs : List (List ℕ)) (k : ℕ) where
     pub part-named : Names p cs k
     part-named = contour-named p cs k 0 (sym z) refl h
 
-    pub part-in-domain : first-of (domain (contour p (span (getD cs k [])))) ≡ 0
+    pub part-in-domain : first-of (domain limit (contour p (span (getD cs k [])))) ≡ 0
     part-in-domain =
-        let a = accepted p (sound (spans cs) (count p)) z in
+        let a = accepted limit p (sound (spans cs) (count p)) z in
         contour-clear _ (part-contour p cs k (record { even = a .even; few = a .few; on = a .on }) part-named)
 
 -- a loop that asks contour after contour from number n on: those from number i on decide

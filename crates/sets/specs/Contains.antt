@@ -4,6 +4,7 @@ use mathlib.Core.List.{List, [], _∷_, _++_}
 use Prim.Native.Nat.{ℕ}
 use lib.Dec.{eqb}
 use lib.IntN.{ℤ}
+use Rattle.grid.specs.Limits.{limit}
 use Rattle.grid.specs.declared.Point.{Point}
 use Rattle.replies.specs.declared.Verdict.{Verdict}
 use Rattle.grid.specs.Points.{on, points}
@@ -34,7 +35,7 @@ has p (c ∷ later) = not (outside p c) && inside-none p later
 
 -- the refusals: 3 also for an asked point off the grid
 abbrev pub shape-refusals : Point → List ℤ → List (List ℕ) → List Rung
-shape-refusals a p ranges = refusals p ranges ++ (not (on a), 3) ∷ []
+shape-refusals a p ranges = refusals p ranges ++ (not (on limit a), 3) ∷ []
 
 -- the answer
 unfoldable pub in-shape : List ℤ → List (List ℕ) → ℤ → ℤ → Verdict

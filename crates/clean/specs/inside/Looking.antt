@@ -5,6 +5,7 @@ use mathlib.Core.Bool.{true}
 use Prim.Native.Nat.{ℕ, _+_, _-_, _<_, _≤_}
 use lib.ListN.{length, drop}
 use lib.IntN.{ℤ}
+use Rattle.grid.specs.Limits.{limit}
 use Rattle.grid.specs.declared.Point.{Point}
 use Rattle.grid.specs.declared.Edge.{Edge}
 use Rattle.grid.specs.Points.{at, on, points}
@@ -24,7 +25,7 @@ pub record Onward (row : List ℤ) (n first : ℕ) (to : Edge) (kept i : ℕ) : 
   pub low : 1 ≤ i
   pub within : i ≤ n
   pub few : kept ≤ i
-  pub a-on : on a ≡ true
+  pub a-on : on limit a ≡ true
   pub here : b ≡ at row (i - 1)
   pub to-is : to ≡ between a b
   pub counted : length (distinct-neighbours (points row)) ≡ kept + length (differing b (drop i (points row)))

@@ -1,5 +1,6 @@
 // Whether a contour that no call refuses is simple, and whether it has no spikes.
 ghost use mathlib.Core.Path.{_≡_};
+ghost use Rattle.grid.specs.Limits.{limit};
 ghost use Rattle.grid.specs.Points.{points as points-of};
 ghost use Rattle.replies.specs.Ladder.{first-of};
 ghost use Rattle.grid.specs.Domain.{domain};
@@ -8,7 +9,7 @@ use crate::inner::look;
 
 // Whether it has three or more points, and no vertex whose two edges have cross 0.
 pub fn all_turn(points: &[i32]) -> bool
-    requires { ⌜ first-of (domain (now points)) ≡ 0 ⌝ }
+    requires { ⌜ first-of (domain limit (now points)) ≡ 0 ⌝ }
     ensures { λ r. ⌜ r ≡ is-simple (points-of (now (points .entry))) ⌝ }
 {
     let n = points.len() / 2;
@@ -20,7 +21,7 @@ pub fn all_turn(points: &[i32]) -> bool
 
 // Whether it has three or more points, and no spike, equal neighbours aside.
 pub fn no_spikes(points: &[i32]) -> bool
-    requires { ⌜ first-of (domain (now points)) ≡ 0 ⌝ }
+    requires { ⌜ first-of (domain limit (now points)) ≡ 0 ⌝ }
     ensures { λ r. ⌜ r ≡ no-spikes (points-of (now (points .entry))) ⌝ }
 {
     let n = points.len() / 2;

@@ -1,17 +1,16 @@
 -- What is asked of edges.
 use mathlib.Core.Path.{_≡_}
-use Prim.Native.Nat.{_*_}
+use Prim.Native.Nat.{ℕ, _*_}
 use lib.IntN.{pos, _+ℤ_}
 use Rattle.integers.specs.Bound.{In}
 use Rattle.grid.specs.declared.Edge.{Edge}
-use Rattle.grid.specs.Limits.{limit}
 
--- each is in x and in y no longer than from one side of the grid to the other
-pub record Short (u v : Edge) : Type 0 where
-  pub ux-in : In (2 * limit) (u .dx)
-  pub uy-in : In (2 * limit) (u .dy)
-  pub vx-in : In (2 * limit) (v .dx)
-  pub vy-in : In (2 * limit) (v .dy)
+-- each is in x and in y no longer than from one side of a grid to the other
+pub record Short (bound : ℕ) (u v : Edge) : Type 0 where
+  pub ux-in : In (2 * bound) (u .dx)
+  pub uy-in : In (2 * bound) (u .dy)
+  pub vx-in : In (2 * bound) (v .dx)
+  pub vy-in : In (2 * bound) (v .dy)
 
 -- four edges that lead back to where the first began
 pub record Closed (u v w z : Edge) : Type 0 where

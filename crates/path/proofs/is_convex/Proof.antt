@@ -2,6 +2,7 @@
 use borrow.Author.Needs.{needs}
 use mathlib.Core.Path.{_≡_, sym, _∙_}
 use native.Mathlib.Omega.{arith}
+use Rattle.grid.specs.Limits.{limit}
 use Rattle.grid.specs.Domain.{domain}
 use Rattle.replies.specs.Ladder.{first-of}
 use Rattle.grid.proofs.DomainLaws.{in-domain}
@@ -25,7 +26,7 @@ unfolding convex
 returns-2 c = verdict-given _ _ _ (sym (c .before .before .domain .ensures) ∙ c .before .if1 .left) (convex-few _ (c .if2 .taken))
 
 -- what is known of the row where it is not refused, and has more than two points
-in-grid : (c : tie.Else2) → let row = c .before .before .before .args .points .now in first-of (domain row) ≡ 0
+in-grid : (c : tie.Else2) → let row = c .before .before .before .args .points .now in first-of (domain limit row) ≡ 0
 in-grid c = let d = c .before in sym (d .before .domain .ensures) ∙ d .if1 .left
 
 first-other-requires : tie.Need-first-other-requires

@@ -6,6 +6,7 @@ use native.Mathlib.Omega.{arith}
 use mir.Syntax.{w32}
 use mir.Val.{toZ, ofZ}
 use mir.Facts.{toZ-ofZ}
+use Rattle.grid.specs.Limits.{limit}
 use Rattle.grid.specs.declared.Point.{Point}
 use Rattle.grid.specs.Points.{on, points}
 use Rattle.grid.specs.Domain.{count}
@@ -20,8 +21,8 @@ asked : (s : tie.Start) → _≡_ {A = Point} (record { x = toZ w32 (ofZ w32 (s 
 asked s = rw (toZ-ofZ (s .fits .x), toZ-ofZ (s .fits .y))
 
 -- whether it is on the grid
-told : (c : tie.After-point-on-grid) → let s = c .before .before .before in c .point-on-grid .result ≡ on (record { x = s .args .x; y = s .args .y })
-told c = c .point-on-grid .ensures ∙ ap on (asked (c .before .before .before))
+told : (c : tie.After-point-on-grid) → let s = c .before .before .before in c .point-on-grid .result ≡ on limit (record { x = s .args .x; y = s .args .y })
+told c = c .point-on-grid .ensures ∙ ap (on limit) (asked (c .before .before .before))
 
 domain-requires : tie.Need-domain-requires
 domain-requires c κs = search needs

@@ -4,7 +4,7 @@ use mathlib.Core.Bool.{Bool, true, false, not, _&&_}
 use mathlib.Core.List.{List, [], _∷_, _++_}
 use Prim.Native.Nat.{ℕ, _+_, _*_, _≤_}
 use lib.ListN.{length, drop, set}
-use Rattle.grid.specs.Limits.{all-on-grid}
+use Rattle.grid.specs.Limits.{narrow, all-on-grid}
 use Rattle.replies.specs.Ladder.{Rung, first-of, so-far}
 use Rattle.grid.specs.Domain.{off}
 use Rattle.buffer.specs.Sets.{joined}
@@ -27,7 +27,7 @@ met-more f m = record {
   at = m .at + (2 + 8 * held f);
   numbers = m .numbers + 2 * held f;
   shapes = m .shapes + digit (starts f);
-  on = m .on && all-on-grid (decoded (2 * held f) (drop 2 f));
+  on = m .on && all-on-grid narrow (decoded (2 * held f) (drop 2 f));
 }
 
 -- what is met so far ends within the file, and its counts are no more than its bytes
@@ -48,7 +48,7 @@ on-or-refused on = first-of ((not on, 3) ∷ [])
 abbrev pub summed : Met → ℕ → Parsed → Judged
 summed m n (damaged r) = judged r 0 0 0
 summed m n (carries l) =
-    judged (on-or-refused (m .on && all-on-grid (joined (contours-of l))))
+    judged (on-or-refused (m .on && all-on-grid narrow (joined (contours-of l))))
     (m .numbers + length (joined (contours-of l))) (n + length l) (m .shapes + length (shapes-of l))
 
 -- the refusals of a file's length and head
@@ -61,7 +61,7 @@ contained f = read-contours (walked f)
 
 -- the refusals of a file of n bytes that is read so
 abbrev pub refusals-of : ℕ → Parsed → List Rung
-refusals-of n w = long n ++ so-far (damage w) ++ off (joined (contours-of (read-contours w)))
+refusals-of n w = long n ++ so-far (damage w) ++ off narrow (joined (contours-of (read-contours w)))
 
 -- the refusals of a file, by bytes
 abbrev pub refusals : List ℕ → List Rung

@@ -5,8 +5,10 @@ ghost use Prim.Native.Nat.{_+_, _*_, _%_, _<_, _≤_};
 ghost use lib.ListN.{length, drop};
 ghost use mir.Syntax.{w32};
 ghost use mir.Val.{toZ};
-ghost use Rattle.grid.specs.Limits.{all-on-grid};
+ghost use Rattle.grid.specs.Limits.{narrow, all-on-grid};
 ghost use Rattle.setfile.specs.inside.Bytes.{pair as pair-of, word as word-of, swapped as swapped-of, quad, decoded, starts as starts-of, held as held-of};
+use grid::NARROW;
+use grid::inner::bounds;
 
 // The number in the two bytes from `at` on.
 pub fn pair(bytes: &[u8], at: usize) -> u32
@@ -58,11 +60,11 @@ pub fn held(bytes: &[u8], at: usize) -> usize
     (pair(bytes, at) % 32768) as usize
 }
 
-// All bits of k words, from `at` on, each plus 32. The first byte of a coordinate tells, but for the limit itself, whether
-// it is on the grid: its first three bits are equal, and then it is below 64 when 32 is added modulo 256.
+// All bits of k words, from `at` on, each plus 32. The first byte of a coordinate tells, but for the end itself, whether
+// it is on the narrow grid: its first three bits are equal, and then it is below 64 when 32 is added modulo 256.
 fn raised_bits(bytes: &[u8], at: usize, k: usize) -> u32
     requires { ⌜ at + 4 * k ≤ length (now bytes) ⌝ }
-    ensures { λ r. ⌜ (r % 256 < 64 → all-on-grid (decoded k (drop at (now (bytes .entry)))) ≡ true) ⌝ }
+    ensures { λ r. ⌜ (r % 256 < 64 → all-on-grid narrow (decoded k (drop at (now (bytes .entry)))) ≡ true) ⌝ }
 {
     let mut any: u32 = 0;
     let mut i: usize = 0;
@@ -76,21 +78,21 @@ fn raised_bits(bytes: &[u8], at: usize, k: usize) -> u32
 // The same, coordinate by coordinate.
 fn each_on(bytes: &[u8], at: usize, k: usize) -> bool
     requires { ⌜ at + 4 * k ≤ length (now bytes) ⌝ }
-    ensures { λ r. ⌜ r ≡ all-on-grid (decoded k (drop at (now (bytes .entry)))) ⌝ }
+    ensures { λ r. ⌜ r ≡ all-on-grid narrow (decoded k (drop at (now (bytes .entry)))) ⌝ }
 {
     let mut all = true;
     let mut i: usize = 0;
     while i < k {
-        all = all & grid::on_grid(coordinate(bytes, at + 4 * i));
+        all = all & bounds::on_grid(NARROW, coordinate(bytes, at + 4 * i));
         i += 1;
     }
     all
 }
 
-// Whether k coordinates, from `at` on, are on the grid. Only where one is at the limit or off the grid are they read again.
+// Whether k coordinates, from `at` on, are on the narrow grid. Only where one is at its end or off it are they read again.
 pub fn all_on(bytes: &[u8], at: usize, k: usize) -> bool
     requires { ⌜ at + 4 * k ≤ length (now bytes) ⌝ }
-    ensures { λ r. ⌜ r ≡ all-on-grid (decoded k (drop at (now (bytes .entry)))) ⌝ }
+    ensures { λ r. ⌜ r ≡ all-on-grid narrow (decoded k (drop at (now (bytes .entry)))) ⌝ }
 {
     if raised_bits(bytes, at, k) % 256 < 64 {
         return true;

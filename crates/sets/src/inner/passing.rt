@@ -1,5 +1,6 @@
 // Whether every contour of a set passes the verdict that goes with a rule.
 ghost use mathlib.Core.Path.{_≡_};
+ghost use Rattle.grid.specs.Limits.{limit};
 ghost use Rattle.grid.specs.Points.{points as points-of};
 ghost use Rattle.replies.specs.Ladder.{first-of};
 ghost use Rattle.grid.specs.Domain.{domain};
@@ -15,7 +16,7 @@ use ring::Rule;
 
 // Whether a contour passes. A box does, by either rule.
 pub fn passes(rule: Rule, contour: &[i32]) -> bool
-    requires { ⌜ first-of (domain (now contour)) ≡ 0 ⌝ }
+    requires { ⌜ first-of (domain limit (now contour)) ≡ 0 ⌝ }
     ensures { λ r. ⌜ r ≡ passes-by rule (points-of (now (contour .entry))) ⌝ }
 {
     if grid::inner::boxes::is_box(contour, contour.len() / 2) {

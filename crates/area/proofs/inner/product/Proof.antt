@@ -12,7 +12,7 @@ use Rattle.area.proofs.inner.product.Tie as tie
 
 -- the coordinate, widened
 x-in : (c : tie.After-wide) → In limit (c .wide .result)
-x-in c = let e = c .before .pre .0 in in-eq (c .wide .ensures ∙ on-grid-back _ e) (on-grid-in _ e)
+x-in c = let e = c .before .pre .0 in in-eq (c .wide .ensures ∙ on-grid-back _ e) (on-grid-in limit _ e)
 
 wide-requires : tie.Need-wide-requires
 wide-requires c κs = search needs

@@ -20,19 +20,19 @@ use Rattle.grid.proofs.PointLaws.{at-on, x-on, y-on, gap-in}
 use Rattle.area.proofs.inner.share.Statement.{statement}
 use Rattle.area.proofs.inner.share.Tie as tie
 
-module _ (row : List ℤ) (on : all-on-grid row ≡ true) where
+module _ (row : List ℤ) (on : all-on-grid limit row ≡ true) where
   -- a point's x, as it is passed
   module _ (i : ℕ) (p : Point) (e : p ≡ at row i) where
-    x-passed : on-grid (toZ w32 (ofZ w32 (p .x))) ≡ true
-    x-passed = let h = x-on (at row i) (at-on row i on) in rw e (rw (on-grid-back (at row i .x) h) h)
+    x-passed : on-grid limit (toZ w32 (ofZ w32 (p .x))) ≡ true
+    x-passed = let h = x-on limit (at row i) (at-on limit row i on) in rw e (rw (on-grid-back (at row i .x) h) h)
 
     x-is : toZ w32 (ofZ w32 (p .x)) ≡ at row i .x
-    x-is = rw e (on-grid-back (at row i .x) (x-on (at row i) (at-on row i on)))
+    x-is = rw e (on-grid-back (at row i .x) (x-on limit (at row i) (at-on limit row i on)))
 
   -- how far y goes along an edge, as it is passed
   module _ (a b : ℕ) (v : Edge) (e : v ≡ between (at row a) (at row b)) where
     rise : In (2 * limit) (at row b .y -ℤ at row a .y)
-    rise = gap-in (at row a .y) (at row b .y) (y-on (at row a) (at-on row a on)) (y-on (at row b) (at-on row b on))
+    rise = gap-in limit (at row a .y) (at row b .y) (y-on limit (at row a) (at-on limit row a on)) (y-on limit (at row b) (at-on limit row b on))
 
     rise-in : In (2 * limit) (toZ w64 (ofZ w64 (v .dy)))
     unfolding limit

@@ -9,12 +9,10 @@ use lib.IntN.{ℤ, pos, _+ℤ_}
 use mir.Facts.{toZ-ofZ}
 use Rattle.integers.specs.Bound.{In}
 use Rattle.integers.specs.Modulo.{mod64}
-use Rattle.integers.proofs.Bound.{in-eq, in-more, in-mul}
+use Rattle.integers.proofs.Bound.{in-eq, in-more}
 use Rattle.grid.specs.Limits.{limit, all-on-grid}
-use Rattle.grid.specs.Points.{at}
-use Rattle.grid.proofs.LimitLaws.{on-grid-in}
-use Rattle.grid.proofs.PointLaws.{at-on, x-on, y-on, gap-in}
 use Rattle.area.specs.Shares.{share}
+use Rattle.area.proofs.ShareLaws.{share-within}
 use Rattle.area.proofs.Sums.{Gathered, gathered-few, gathered-ends, gathered-more, gathered-all}
 use Rattle.area.proofs.inner.total.Statement.{statement}
 use Rattle.area.proofs.inner.total.Tie as tie
@@ -26,13 +24,9 @@ abbrev μ-loop : tie.MeasureT-loop
 μ-loop row n sum₀ i₀ sum i = i
 
 -- a share is small enough to be added
-share-in : (row : List ℤ) (a b c : ℕ) {r : ℤ} → all-on-grid row ≡ true → r ≡ share row a b c → In (2 ^ 62) r
+share-in : (row : List ℤ) (a b c : ℕ) {r : ℤ} → all-on-grid limit row ≡ true → r ≡ share row a b c → In (2 ^ 62) r
 unfolding limit
-share-in row a b c on e =
-    in-eq e
-    (in-more tt
-    (in-mul (on-grid-in (at row b .x) (x-on (at row b) (at-on row b on)))
-    (gap-in (at row a .y) (at row c .y) (y-on (at row a) (at-on row a on)) (y-on (at row c) (at-on row c on)))))
+share-in row a b c on e = in-eq e (in-more tt (share-within limit row a b c on))
 
 -- the start, from the loop's head
 abbrev head : tie.At-loop Inv-loop μ-loop → tie.Start Inv-loop μ-loop

@@ -1,16 +1,16 @@
--- `buffer::contours::refused` meets its contract.
+-- `buffer::contours::refused` meets its contract: the bound is the limit.
 use borrow.Author.Needs.{needs}
+use Rattle.grid.specs.Limits.{limit}
 use Rattle.buffer.proofs.contours.refused.Statement.{statement}
 use Rattle.buffer.proofs.contours.refused.Tie as tie
 
-sound-requires : tie.Need-sound-requires
-sound-requires c κs = search needs
-
-of-set-requires : tie.Need-of-set-requires
-of-set-requires c κs = search needs
+contours-requires : tie.Need-contours-requires
+unfolding limit
+contours-requires c κs = search needs
 
 returns : tie.Need-returns
-returns c = cc
+unfolding limit
+returns c = search needs
 
 pub refused-spec : {M : Type 1} → statement M
-refused-spec = tie.close (tie.spec sound-requires of-set-requires returns)
+refused-spec = tie.close (tie.spec contours-requires returns)

@@ -2,6 +2,7 @@
 use mathlib.Core.Path.{_∙_}
 use mathlib.Core.List.{[], _∷_}
 use native.Mathlib.Omega.{arith}
+use Rattle.grid.specs.Limits.{limit}
 use Rattle.grid.specs.Domain.{domain}
 use Rattle.buffer.specs.Sets.{whole}
 use Rattle.buffer.proofs.SpanLaws.{one-movable}
@@ -32,7 +33,7 @@ returns c =
     let s = judged .before .args in
     packed .contours .ensures
     ∙ stored-told (s .contour .now) (whole (s .contour .now) ∷ []) [] (s .out .now) (s .records .now) []
-    (domain (s .contour .now)) tt _ (judged .domain .ensures)
+    (domain limit (s .contour .now)) tt _ (judged .domain .ensures)
 
 pub set-with-contour-spec : {M : Type 1} → statement M
 set-with-contour-spec =

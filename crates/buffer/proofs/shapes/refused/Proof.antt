@@ -1,19 +1,16 @@
--- `buffer::shapes::refused` meets its contract.
+-- `buffer::shapes::refused` meets its contract: the bound is the limit.
 use borrow.Author.Needs.{needs}
+use Rattle.grid.specs.Limits.{limit}
 use Rattle.buffer.proofs.shapes.refused.Statement.{statement}
 use Rattle.buffer.proofs.shapes.refused.Tie as tie
 
-sound-requires : tie.Need-sound-requires
-sound-requires c κs = search needs
-
-sound-requires-2 : tie.Need-sound-requires-2
-sound-requires-2 c κs = search needs
-
-of-set-requires : tie.Need-of-set-requires
-of-set-requires c κs = search needs
+shapes-requires : tie.Need-shapes-requires
+unfolding limit
+shapes-requires c κs = search needs
 
 returns : tie.Need-returns
-returns c = cc
+unfolding limit
+returns c = search needs
 
 pub refused-spec : {M : Type 1} → statement M
-refused-spec = tie.close (tie.spec sound-requires sound-requires-2 of-set-requires returns)
+refused-spec = tie.close (tie.spec shapes-requires returns)

@@ -2,6 +2,7 @@
 use mathlib.Core.Path.{_∙_}
 use mathlib.Core.List.{[], _∷_}
 use native.Mathlib.Omega.{arith}
+use Rattle.grid.specs.Limits.{limit}
 use Rattle.grid.specs.Domain.{domain}
 use Rattle.buffer.specs.Sets.{whole, every}
 use Rattle.buffer.proofs.SpanLaws.{one-movable}
@@ -39,7 +40,7 @@ returns c =
     let one = whole (s .contour .now) ∷ [] in
     packed .shapes .ensures
     ∙ stored-told (s .contour .now) one (every one ∷ []) (s .out .now) (s .records .now) (s .groups .now)
-    (domain (s .contour .now)) tt _ (judged .domain .ensures)
+    (domain limit (s .contour .now)) tt _ (judged .domain .ensures)
 
 pub set-with-contour-spec : {M : Type 1} → statement M
 set-with-contour-spec =

@@ -5,6 +5,7 @@ use mathlib.Core.Path.{sym, _∙_}
 use mathlib.Core.List.{List, _++_}
 use Prim.Native.Nat.{ℕ}
 use Rattle.replies.specs.Ladder.{Rung}
+use Rattle.grid.specs.Limits.{limit}
 use Rattle.grid.specs.Domain.{domain}
 use Rattle.replies.proofs.LadderLaws.{First, first-is, stopped, onward}
 use Rattle.replies.proofs.LadderLaws.First.{here, past, foot}
@@ -12,7 +13,7 @@ use Rattle.clean.proofs.cleaning.refusal.Statement.{statement}
 use Rattle.clean.proofs.cleaning.refusal.Tie as tie
 
 -- past what every call asks
-begun : (c : tie.Else1) (l : List Rung) (r : ℕ) → First l r → First (domain (c .before .before .args .points .now) ++ l) r
+begun : (c : tie.Else1) (l : List Rung) (r : ℕ) → First l r → First (domain limit (c .before .before .args .points .now) ++ l) r
 begun c l r f = onward _ _ _ tt (sym (c .before .domain .ensures) ∙ c .if1 .left) f
 
 domain-requires : tie.Need-domain-requires

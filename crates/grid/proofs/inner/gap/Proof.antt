@@ -12,10 +12,10 @@ use Rattle.grid.proofs.inner.gap.Tie as tie
 
 -- both numbers are on the grid
 from-in : (c : tie.After-wide2) → In limit (c .wide2 .result)
-from-in c = let e = c .before .before .pre .0 in in-eq (c .wide2 .ensures ∙ on-grid-back _ e) (on-grid-in _ e)
+from-in c = let e = c .before .before .pre .0 in in-eq (c .wide2 .ensures ∙ on-grid-back _ e) (on-grid-in limit _ e)
 
 to-in : (c : tie.After-wide2) → In limit (c .before .wide .result)
-to-in c = let e = c .before .before .pre .1 in in-eq (c .before .wide .ensures ∙ on-grid-back _ e) (on-grid-in _ e)
+to-in c = let e = c .before .before .pre .1 in in-eq (c .before .wide .ensures ∙ on-grid-back _ e) (on-grid-in limit _ e)
 
 wide-requires : tie.Need-wide-requires
 wide-requires c κs = search needs

@@ -10,7 +10,8 @@ use lib.Ieee.{neg, ofBits}
 use mir.Syntax.{w32}
 use mir.Val.{SFits, toZ}
 use mir.Facts.{toZ-ofZ, toZ-pos}
-use Rattle.millimetres.specs.Scale.{bound, signed}
+use Rattle.grid.specs.Limits.{narrow}
+use Rattle.millimetres.specs.Scale.{signed}
 use Rattle.millimetres.proofs.UnitLaws.{Handed, below-zero, from-zero}
 use Rattle.millimetres.proofs.inner.units.Statement.{statement}
 use Rattle.millimetres.proofs.inner.units.Tie as tie
@@ -24,9 +25,9 @@ unfolding ofBits
 rest c = from-zero (c .before .args .v) (c .before .pre) (c .if1 .left)
 
 -- a number of steps is an i32, and so is the number below 0
-module _ (n : ℕ) (h : n ≤ bound) where
+module _ (n : ℕ) (h : n ≤ narrow) where
   few : n < 2147483648
-  unfolding bound
+  unfolding narrow
   few = omega arith
 
   steps-fit : SFits w32 (pos n)
@@ -45,10 +46,10 @@ module _ (n : ℕ) (h : n ≤ bound) where
       go zero l = omega arith
       go (suc m) l = omega arith
 
-few-below : (c : tie.After-steps) → c .steps .result ≤ bound
+few-below : (c : tie.After-steps) → c .steps .result ≤ narrow
 few-below c = omega (arith, c .steps .ensures, below (c .before) .few)
 
-few-rest : (c : tie.After-steps2) → c .steps2 .result ≤ bound
+few-rest : (c : tie.After-steps2) → c .steps2 .result ≤ narrow
 few-rest c = omega (arith, c .steps2 .ensures, rest (c .before) .few)
 
 steps-requires : tie.Need-steps-requires

@@ -10,6 +10,7 @@ use mir.Syntax.{w32}
 use mir.Val.{toZ, ofZ}
 use mir.Facts.{toZ-ofZ, sfits-lit}
 use Rattle.integers.proofs.Equal.{bits-eq}
+use Rattle.grid.specs.Limits.{limit}
 use Rattle.grid.specs.declared.Point.{Point}
 use Rattle.grid.specs.Points.{at, points}
 use Rattle.grid.specs.Edges.{between, turn}
@@ -114,7 +115,7 @@ turn-on-requires c κs =
     let l = e .before .before .before in
     let s = l .before in
     let row = s .args .points .now in
-    (s .pre .1, rw (e .before .point-at .ensures) (at-on row (l .loop .a) (s .pre .0 .on)), rw (e .point-at2 .ensures) (at-on row (l .loop .i) (s .pre .0 .on)))
+    (s .pre .1, rw (e .before .point-at .ensures) (at-on limit row (l .loop .a) (s .pre .0 .on)), rw (e .point-at2 .ensures) (at-on limit row (l .loop .i) (s .pre .0 .on)))
 
 returns : tie.Need-returns Inv-loop μ-loop
 returns c =
@@ -155,7 +156,7 @@ turn-on-requires-2 c κs =
     let l = e .before .before .before in
     let s = l .before in
     let row = s .args .points .now in
-    (s .pre .1, rw (e .point-at2 .ensures) (at-on row (l .loop .i) (s .pre .0 .on)), rw (e .before .point-at .ensures) (at-on row (l .loop .a) (s .pre .0 .on)))
+    (s .pre .1, rw (e .point-at2 .ensures) (at-on limit row (l .loop .i) (s .pre .0 .on)), rw (e .before .point-at .ensures) (at-on limit row (l .loop .a) (s .pre .0 .on)))
 
 returns-2 : tie.Need-returns-2 Inv-loop μ-loop
 returns-2 c =
@@ -193,7 +194,7 @@ touches-requires c κs =
     let l = e .before .before .before in
     let s = l .before in
     let row = s .args .points .now in
-    (s .pre .1, rw (e .before .point-at .ensures) (at-on row (l .loop .a) (s .pre .0 .on)), rw (e .point-at2 .ensures) (at-on row (l .loop .i) (s .pre .0 .on)))
+    (s .pre .1, rw (e .before .point-at .ensures) (at-on limit row (l .loop .a) (s .pre .0 .on)), rw (e .point-at2 .ensures) (at-on limit row (l .loop .i) (s .pre .0 .on)))
 
 returns-3 : tie.Need-returns-3 Inv-loop μ-loop
 returns-3 c =

@@ -1,5 +1,6 @@
 -- `path::inner::meets_right` meets its contract: the two products are those of the cross.
 use mathlib.Core.Path.{_∙_, ap₂}
+use Rattle.grid.specs.Limits.{limit}
 use Rattle.grid.specs.Edges.{turns-left}
 use Rattle.grid.proofs.EdgeLaws.{corner-short}
 use Rattle.path.proofs.ContainsLaws.{meets-is}
@@ -15,7 +16,7 @@ between-requires-2 c κs = (c .before .pre .2, c .before .pre .0)
 turns-left-requires : tie.Need-turns-left-requires
 turns-left-requires c κs =
     let s = c .before .before in
-    rw (c .before .between .ensures, c .between2 .ensures) (corner-short (s .args .l) (s .args .h) (s .args .p) (s .pre .1) (s .pre .2) (s .pre .0))
+    rw (c .before .between .ensures, c .between2 .ensures) (corner-short limit (s .args .l) (s .args .h) (s .args .p) (s .pre .1) (s .pre .2) (s .pre .0))
 
 returns : tie.Need-returns
 returns c =

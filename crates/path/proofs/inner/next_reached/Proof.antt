@@ -19,14 +19,14 @@ use Rattle.path.specs.inside.Locate.{under}
 use Rattle.path.proofs.inner.next_reached.Statement.{statement}
 use Rattle.path.proofs.inner.next_reached.Tie as tie
 
-module _ (p : Point) (h : on p ≡ true) where
+module _ (p : Point) (h : on limit p ≡ true) where
   one-below : In (limit + 1) (toZ w32 (ofZ w32 (p .y)) -ℤ pos 1)
-  one-below = in-sub (in-eq (on-grid-back (p .y) (y-on p h)) (on-grid-in (p .y) (y-on p h))) (in-pos {n = 1} {B = 1} (omega arith))
+  one-below = in-sub (in-eq (on-grid-back (p .y) (y-on limit p h)) (on-grid-in limit (p .y) (y-on limit p h))) (in-pos {n = 1} {B = 1} (omega arith))
 
   -- the point as it is passed on
   passed : _≡_ {A = Point} (record { x = toZ w32 (ofZ w32 (p .x)); y = toZ w32 (ofZ w32 (toZ w32 (ofZ w32 (p .y)) -ℤ pos 1)) }) (under p)
   unfolding limit
-  passed = ap₂ (λ (x y : ℤ). record { x = x; y = y }) (on-grid-back (p .x) (x-on p h)) (back w32 one-below tt ∙ ap (λ (y : ℤ). y -ℤ pos 1) (on-grid-back (p .y) (y-on p h)))
+  passed = ap₂ (λ (x y : ℤ). record { x = x; y = y }) (on-grid-back (p .x) (x-on limit p h)) (back w32 one-below tt ∙ ap (λ (y : ℤ). y -ℤ pos 1) (on-grid-back (p .y) (y-on limit p h)))
 
 sub-t5 : tie.Need-sub-t5
 unfolding limit

@@ -5,6 +5,7 @@ use mathlib.Core.Bool.{not, xor}
 use Prim.Native.Nat.{_-_}
 use native.Mathlib.Omega.{arith}
 use borrow.Author.Tests.{not-true, not-false}
+use Rattle.grid.specs.Limits.{limit}
 use Rattle.grid.specs.Points.{at}
 use Rattle.grid.proofs.PointLaws.{at-on}
 use Rattle.path.specs.Contains.{above, meets-right}
@@ -51,7 +52,7 @@ meets-right-requires c κs =
     let l = e .before .before .before in
     let s = l .before in
     let row = s .args .points .now in
-    (s .pre .1, rw (e .before .point-at .ensures) (at-on row (l .loop .a) (s .pre .0 .on)), rw (e .point-at2 .ensures) (at-on row (l .loop .i) (s .pre .0 .on)))
+    (s .pre .1, rw (e .before .point-at .ensures) (at-on limit row (l .loop .a) (s .pre .0 .on)), rw (e .point-at2 .ensures) (at-on limit row (l .loop .i) (s .pre .0 .on)))
 
 add-next-across : tie.Need-add-next-across Inv-loop μ-loop
 add-next-across c = let t = entered (c .before .before) in omega (arith, t .loop-test .taken, t .before .before .fits .n)
@@ -86,7 +87,7 @@ meets-right-requires-2 c κs =
     let l = e .before .before .before in
     let s = l .before in
     let row = s .args .points .now in
-    (s .pre .1, rw (e .point-at2 .ensures) (at-on row (l .loop .i) (s .pre .0 .on)), rw (e .before .point-at .ensures) (at-on row (l .loop .a) (s .pre .0 .on)))
+    (s .pre .1, rw (e .point-at2 .ensures) (at-on limit row (l .loop .i) (s .pre .0 .on)), rw (e .before .point-at .ensures) (at-on limit row (l .loop .a) (s .pre .0 .on)))
 
 add-next-across-2 : tie.Need-add-next-across-2 Inv-loop μ-loop
 add-next-across-2 c = let t = entered (c .before .before) in omega (arith, t .loop-test .taken, t .before .before .fits .n)

@@ -5,7 +5,7 @@ use mathlib.Core.Bool.{Bool, true, false, _&&_, true≢false}
 use lib.IntN.{ℤ}
 use mir.Syntax.{w32}
 use mir.Val.{toZ, ofZ}
-use Rattle.grid.specs.Limits.{on-grid}
+use Rattle.grid.specs.Limits.{limit, on-grid}
 use Rattle.grid.specs.Edges.{between, aligned}
 use Rattle.grid.proofs.LimitLaws.{on-grid-back}
 use Rattle.grid.proofs.PointLaws.{x-on, y-on}
@@ -16,7 +16,7 @@ use Rattle.path.proofs.inner.touches.Statement.{statement}
 use Rattle.path.proofs.inner.touches.Tie as tie
 
 -- coordinates, as they are passed on
-passed : (a b z : ℤ) → on-grid a ≡ true → on-grid b ≡ true → on-grid z ≡ true → amid (toZ w32 (ofZ w32 a)) (toZ w32 (ofZ w32 b)) (toZ w32 (ofZ w32 z)) ≡ amid a b z
+passed : (a b z : ℤ) → on-grid limit a ≡ true → on-grid limit b ≡ true → on-grid limit z ≡ true → amid (toZ w32 (ofZ w32 a)) (toZ w32 (ofZ w32 b)) (toZ w32 (ofZ w32 z)) ≡ amid a b z
 passed a b z e f g = rw (on-grid-back a e, on-grid-back b f, on-grid-back z g)
 
 both : (s t u : Bool) → (s && t) ≡ true → u ≡ (s && (t && u))
@@ -43,8 +43,8 @@ told : (c : tie.After-amid2) → let s = start c in
 told c =
     let s = start c in
     ap₂ _&&_
-    (heights c .amid .ensures ∙ passed _ _ _ (y-on _ (s .pre .1)) (y-on _ (s .pre .2)) (y-on _ (s .pre .0)))
-    (c .amid2 .ensures ∙ passed _ _ _ (x-on _ (s .pre .1)) (x-on _ (s .pre .2)) (x-on _ (s .pre .0)))
+    (heights c .amid .ensures ∙ passed _ _ _ (y-on limit _ (s .pre .1)) (y-on limit _ (s .pre .2)) (y-on limit _ (s .pre .0)))
+    (c .amid2 .ensures ∙ passed _ _ _ (x-on limit _ (s .pre .1)) (x-on limit _ (s .pre .2)) (x-on limit _ (s .pre .0)))
 
 amid-requires : tie.Need-amid-requires
 amid-requires c κs = search needs
@@ -61,7 +61,7 @@ between-requires-2 c κs = search needs
 aligned-requires : tie.Need-aligned-requires
 aligned-requires c κs =
     let s = start (c .before .before .before) in
-    rw (c .before .between .ensures, c .between2 .ensures) (edges-short (s .args .a) (s .args .b) (s .args .a) (s .args .p) (s .pre .1) (s .pre .2) (s .pre .1) (s .pre .0))
+    rw (c .before .between .ensures, c .between2 .ensures) (edges-short limit (s .args .a) (s .args .b) (s .args .a) (s .args .p) (s .pre .1) (s .pre .2) (s .pre .1) (s .pre .0))
 
 returns : tie.Need-returns
 returns c =

@@ -1,5 +1,6 @@
 -- `ring::inner::goes` meets its contract: the edges of a corner tell the same as its points.
 use mathlib.Core.Path.{sym, _∙_, ap₂}
+use Rattle.grid.specs.Limits.{limit}
 use Rattle.grid.specs.Points.{at}
 use Rattle.grid.proofs.PointLaws.{at-on}
 use Rattle.grid.proofs.EdgeLaws.{corner-short}
@@ -19,7 +20,7 @@ goes-along-requires c κs =
     let s = c .before .before in
     let row = s .args .points .now in
     rw (c .before .edge-at .ensures, c .edge-at2 .ensures)
-    (corner-short _ _ _ (at-on row (s .args .before) (s .pre .on)) (at-on row (s .args .at) (s .pre .on)) (at-on row (s .args .after) (s .pre .on)))
+    (corner-short limit _ _ _ (at-on limit row (s .args .before) (s .pre .on)) (at-on limit row (s .args .at) (s .pre .on)) (at-on limit row (s .args .after) (s .pre .on)))
 
 returns : tie.Need-returns
 returns c =

@@ -1,5 +1,6 @@
 -- `setfile::writing::refused` meets its contract, refusal by refusal.
 use borrow.Author.Needs.{needs}
+use Rattle.grid.specs.Limits.{limit, narrow}
 use Rattle.setfile.proofs.RefusedLaws.{refused-odd, refused-long, refused-set, refused-carry, refused-none}
 use Rattle.setfile.proofs.writing.refused.Statement.{statement}
 use Rattle.setfile.proofs.writing.refused.Tie as tie
@@ -19,10 +20,13 @@ returns-2 c =
     let s = even .before .args in
     refused-long (s .points .now) (s .contours .now) (s .shapes .now) (even .if1 .left) _ (measured .file-length .ensures) (c .if2 .taken)
 
-refused-requires : tie.Need-refused-requires
-refused-requires c κs = search needs
+-- the narrow grid lies within the limit
+shapes-requires : tie.Need-shapes-requires
+unfolding limit
+shapes-requires c κs = search needs
 
 returns-3 : tie.Need-returns-3
+unfolding narrow
 returns-3 c =
     let judged = c .before in
     let short = judged .before in
@@ -30,12 +34,13 @@ returns-3 c =
     let even = measured .before in
     let s = even .before .args in
     refused-set (s .points .now) (s .contours .now) (s .shapes .now)
-    (even .if1 .left) _ (measured .file-length .ensures) (short .if2 .left) _ (judged .refused .ensures) (c .if3 .taken)
+    (even .if1 .left) _ (measured .file-length .ensures) (short .if2 .left) _ (judged .shapes .ensures) (c .if3 .taken)
 
 some-empty-requires : tie.Need-some-empty-requires
 some-empty-requires c κs = search needs
 
 returns-4 : tie.Need-returns-4
+unfolding narrow
 returns-4 c =
     let asked = c .before in
     let accepted = asked .before in
@@ -45,10 +50,11 @@ returns-4 c =
     let even = measured .before in
     let s = even .before .args in
     refused-carry (s .points .now) (s .contours .now) (s .shapes .now)
-    (even .if1 .left) _ (measured .file-length .ensures) (short .if2 .left) _ (judged .refused .ensures) (accepted .if3 .left)
+    (even .if1 .left) _ (measured .file-length .ensures) (short .if2 .left) _ (judged .shapes .ensures) (accepted .if3 .left)
     _ (asked .some-empty .ensures) (c .if4 .taken)
 
 returns-5 : tie.Need-returns-5
+unfolding narrow
 returns-5 c =
     let asked = c .before in
     let accepted = asked .before in
@@ -58,7 +64,7 @@ returns-5 c =
     let even = measured .before in
     let s = even .before .args in
     refused-none (s .points .now) (s .contours .now) (s .shapes .now)
-    (even .if1 .left) _ (measured .file-length .ensures) (short .if2 .left) _ (judged .refused .ensures) (accepted .if3 .left)
+    (even .if1 .left) _ (measured .file-length .ensures) (short .if2 .left) _ (judged .shapes .ensures) (accepted .if3 .left)
     _ (asked .some-empty .ensures) (c .if4 .left)
 
 pub refused-spec : {M : Type 1} → statement M
@@ -68,7 +74,7 @@ refused-spec =
     returns
     file-length-requires
     returns-2
-    refused-requires
+    shapes-requires
     returns-3
     some-empty-requires
     returns-4

@@ -5,6 +5,7 @@ use mathlib.Core.Path.{_≡_, sym, _∙_, ap}
 use mir.Syntax.{w32}
 use mir.Val.{toZ, ofZ}
 use mir.Facts.{toZ-ofZ}
+use Rattle.grid.specs.Limits.{limit}
 use Rattle.grid.specs.declared.Point.{Point}
 use Rattle.grid.specs.Points.{on}
 use Rattle.buffer.specs.Spans.{spans}
@@ -19,8 +20,8 @@ asked : (s : tie.Start) → _≡_ {A = Point} (record { x = toZ w32 (ofZ w32 (s 
 asked s = rw (toZ-ofZ (s .fits .x), toZ-ofZ (s .fits .y))
 
 -- whether it is on the grid
-told : (c : tie.After-point-on-grid) → let s = c .before .before .before in c .point-on-grid .result ≡ on (record { x = s .args .x; y = s .args .y })
-told c = c .point-on-grid .ensures ∙ ap on (asked (c .before .before .before))
+told : (c : tie.After-point-on-grid) → let s = c .before .before .before in c .point-on-grid .result ≡ on limit (record { x = s .args .x; y = s .args .y })
+told c = c .point-on-grid .ensures ∙ ap (on limit) (asked (c .before .before .before))
 
 refused-requires : tie.Need-refused-requires
 refused-requires c κs = search needs

@@ -8,23 +8,23 @@ use native.Mathlib.Omega.{arith}
 use lib.ListN.{drop}
 use lib.IntN.{ℤ}
 use mir.Facts.{toZ-ofZ}
-use Rattle.grid.specs.Limits.{on-grid, all-on-grid}
+use Rattle.grid.specs.Limits.{limit, narrow, on-grid, all-on-grid}
 use Rattle.setfile.specs.inside.Bytes.{decoded}
 use Rattle.setfile.proofs.ReadLaws.{decoded-more, decoded-none}
 use Rattle.setfile.proofs.inner.fields.each_on.Statement.{statement}
 use Rattle.setfile.proofs.inner.fields.each_on.Tie as tie
 
-first-on : (all : Bool) (z : ℤ) (p : List ℤ) → (all && all-on-grid (z ∷ p)) ≡ ((all && on-grid z) && all-on-grid p)
+first-on : (all : Bool) (z : ℤ) (p : List ℤ) → (all && all-on-grid narrow (z ∷ p)) ≡ ((all && on-grid narrow z) && all-on-grid narrow p)
 unfolding all-on-grid
-first-on all z p = sym (and-assoc all (on-grid z) (all-on-grid p))
+first-on all z p = sym (and-assoc all (on-grid narrow z) (all-on-grid narrow p))
 
-none-on : (all : Bool) → (all && all-on-grid []) ≡ all
+none-on : (all : Bool) → (all && all-on-grid narrow []) ≡ all
 unfolding all-on-grid
 none-on all = and-true all
 
 abbrev Inv-loop : tie.InvT-loop
 Inv-loop bytes at k all₀ i₀ all i =
-    (i ≤ k) × (all-on-grid (decoded k (drop at bytes)) ≡ (all && all-on-grid (decoded (k - i) (drop (at + 4 * i) bytes))))
+    (i ≤ k) × (all-on-grid narrow (decoded k (drop at bytes)) ≡ (all && all-on-grid narrow (decoded (k - i) (drop (at + 4 * i) bytes))))
 
 abbrev μ-loop : tie.MeasureT-loop
 μ-loop bytes at k all₀ i₀ all i = k - i
@@ -37,7 +37,7 @@ loop-holds c =
     let a : k ≡ k - 0 = omega arith in
     let b : at ≡ at + 4 * 0 = omega arith in (
       omega arith,
-      ap (λ (n : ℕ). all-on-grid (decoded n (drop at f))) a ∙ ap (λ (n : ℕ). all-on-grid (decoded (k - 0) (drop n f))) b,
+      ap (λ (n : ℕ). all-on-grid narrow (decoded n (drop at f))) a ∙ ap (λ (n : ℕ). all-on-grid narrow (decoded (k - 0) (drop n f))) b,
     )
 
 mul-coordinate : tie.Need-mul-coordinate Inv-loop μ-loop
@@ -50,6 +50,7 @@ coordinate-requires : tie.Need-coordinate-requires Inv-loop μ-loop
 coordinate-requires c κs = omega arith
 
 on-grid-requires : tie.Need-on-grid-requires Inv-loop μ-loop
+unfolding limit
 on-grid-requires c κs = search needs
 
 add-i : tie.Need-add-i Inv-loop μ-loop
@@ -59,6 +60,7 @@ loop-less : tie.Need-loop-less Inv-loop μ-loop
 loop-less c = omega arith
 
 loop-again : tie.Need-loop-again Inv-loop μ-loop
+unfolding narrow
 loop-again c =
     let l = c .before .before .before in
     let s = c .before .before .before .before .before .args in
@@ -66,11 +68,11 @@ loop-again c =
     let i = l .loop .i in
     let all : Bool = l .loop .all in
     let rest : List ℤ = decoded (s .k - (i + 1)) (drop (s .at + 4 * (i + 1)) f) in
-    let read = c .on-grid .ensures ∙ ap on-grid (toZ-ofZ (sfits-of (c .before .coordinate .ok)) ∙ c .before .coordinate .ensures) in (
+    let read = c .on-grid .ensures ∙ ap (on-grid narrow) (toZ-ofZ (sfits-of (c .before .coordinate .ok)) ∙ c .before .coordinate .ensures) in (
       omega arith,
-      l .loop .inv .1 ∙ ap (λ (p : List ℤ). all && all-on-grid p) (decoded-more f (s .at) (s .k) i (c .before .before .loop-test .taken))
+      l .loop .inv .1 ∙ ap (λ (p : List ℤ). all && all-on-grid narrow p) (decoded-more f (s .at) (s .k) i (c .before .before .loop-test .taken))
           ∙ first-on all _ rest
-          ∙ ap (λ (b : Bool). (all && b) && all-on-grid rest) (sym read),
+          ∙ ap (λ (b : Bool). (all && b) && all-on-grid narrow rest) (sym read),
     )
 
 returns : tie.Need-returns Inv-loop μ-loop
@@ -80,7 +82,7 @@ returns c =
     let f = s .bytes .now in
     let i = l .loop .i in
     let all : Bool = l .loop .all in
-    sym (l .loop .inv .1 ∙ ap (λ (p : List ℤ). all && all-on-grid p) (decoded-none (s .k - i) (drop (s .at + 4 * i) f) (omega arith)) ∙ none-on all)
+    sym (l .loop .inv .1 ∙ ap (λ (p : List ℤ). all && all-on-grid narrow p) (decoded-none (s .k - i) (drop (s .at + 4 * i) f) (omega arith)) ∙ none-on all)
 
 pub each-on-spec : {M : Type 1} → statement M
 each-on-spec =

@@ -8,24 +8,24 @@ use native.Mathlib.Omega.{arith}
 use lib.Bits.{bitOr, or-mod, or-add-and, and-le-l, and-le-r}
 use lib.ListN.{drop}
 use lib.IntN.{ℤ}
-use Rattle.grid.specs.Limits.{on-grid, all-on-grid}
+use Rattle.grid.specs.Limits.{narrow, on-grid, all-on-grid}
 use Rattle.setfile.specs.inside.Bytes.{word, decoded}
 use Rattle.setfile.proofs.FieldLaws.{bytes-at, first-byte-on-grid}
 use Rattle.setfile.proofs.ReadLaws.{decoded-more, decoded-none}
 use Rattle.setfile.proofs.inner.fields.raised_bits.Statement.{statement}
 use Rattle.setfile.proofs.inner.fields.raised_bits.Tie as tie
 
-first-on : (z : ℤ) (p : List ℤ) → on-grid z ≡ true → all-on-grid (z ∷ p) ≡ all-on-grid p
+first-on : (z : ℤ) (p : List ℤ) → on-grid narrow z ≡ true → all-on-grid narrow (z ∷ p) ≡ all-on-grid narrow p
 unfolding all-on-grid
 first-on z p e = rw e
 
-none-on : all-on-grid [] ≡ true
+none-on : all-on-grid narrow [] ≡ true
 unfolding all-on-grid
 none-on = refl
 
 abbrev Inv-loop : tie.InvT-loop
 Inv-loop bytes at k any₀ i₀ any i =
-    (i ≤ k) × (any % 256 < 64 → all-on-grid (decoded k (drop at bytes)) ≡ all-on-grid (decoded (k - i) (drop (at + 4 * i) bytes)))
+    (i ≤ k) × (any % 256 < 64 → all-on-grid narrow (decoded k (drop at bytes)) ≡ all-on-grid narrow (decoded (k - i) (drop (at + 4 * i) bytes)))
 
 abbrev μ-loop : tie.MeasureT-loop
 μ-loop bytes at k any₀ i₀ any i = k - i
@@ -37,7 +37,7 @@ loop-holds c =
     let a : s .k ≡ s .k - 0 = omega arith in
     let b : s .at ≡ s .at + 4 * 0 = omega arith in (
       omega arith,
-      λ h. ap (λ (n : ℕ). all-on-grid (decoded n (drop (s .at) f))) a ∙ ap (λ (n : ℕ). all-on-grid (decoded (s .k - 0) (drop n f))) b,
+      λ h. ap (λ (n : ℕ). all-on-grid narrow (decoded n (drop (s .at) f))) a ∙ ap (λ (n : ℕ). all-on-grid narrow (decoded (s .k - 0) (drop n f))) b,
     )
 
 mul-word : tie.Need-mul-word Inv-loop μ-loop
@@ -76,7 +76,7 @@ loop-again c =
           let both : bitOr any more % 2 ^ 8 ≡ bitOr (any % 2 ^ 8) (more % 2 ^ 8) = or-mod any more 8 in
           let small : any % 256 < 64 = omega (arith, h, both, or-add-and (any % 2 ^ 8) (more % 2 ^ 8), and-le-r (any % 2 ^ 8) (more % 2 ^ 8)) in
           let low : more % 2 ^ 8 < 64 = omega (arith, h, both, or-add-and (any % 2 ^ 8) (more % 2 ^ 8), and-le-l (any % 2 ^ 8) (more % 2 ^ 8)) in
-          l .loop .inv .1 small ∙ ap all-on-grid (decoded-more f (s .at) (s .k) i (test .loop-test .taken))
+          l .loop .inv .1 small ∙ ap (all-on-grid narrow) (decoded-more f (s .at) (s .k) i (test .loop-test .taken))
           ∙ first-on _ (decoded (s .k - (i + 1)) (drop (s .at + 4 * (i + 1)) f)) (first-byte-on-grid bytes (rw is at low)),
     )
 
@@ -85,7 +85,7 @@ returns c =
     let l = c .before in
     let s = l .before .before .args in
     λ h.
-    l .loop .inv .1 h ∙ ap all-on-grid (decoded-none (s .k - l .loop .i) (drop (s .at + 4 * l .loop .i) (s .bytes .now)) (omega arith)) ∙ none-on
+    l .loop .inv .1 h ∙ ap (all-on-grid narrow) (decoded-none (s .k - l .loop .i) (drop (s .at + 4 * l .loop .i) (s .bytes .now)) (omega arith)) ∙ none-on
 
 pub raised-bits-spec : {M : Type 1} → statement M
 raised-bits-spec =

@@ -3,6 +3,7 @@ use mathlib.Core.Path.{_∙_, ap}
 use mathlib.Core.List.{List}
 use lib.IntN.{ℤ}
 use Rattle.replies.specs.Ladder.{first-of}
+use Rattle.grid.specs.Limits.{limit}
 use Rattle.grid.specs.Points.{points}
 use Rattle.grid.specs.Domain.{domain}
 use Rattle.path.specs.Locate.{location}
@@ -17,7 +18,7 @@ named-requires c κs = part-named (c .args .points .now) (c .args .ranges .now) 
 location-requires : tie.Need-location-requires
 location-requires c κs =
     let s = c .before in (
-      ap (λ (row : List ℤ). first-of (domain row)) (same-numbers (c .named .ensures))
+      ap (λ (row : List ℤ). first-of (domain limit row)) (same-numbers (c .named .ensures))
           ∙ part-in-domain (s .args .points .now) (s .args .ranges .now) (s .args .k) (s .pre .0 .taken) (s .pre .1),
       s .pre .0 .on-grid,
     )

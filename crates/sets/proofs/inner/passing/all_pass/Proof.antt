@@ -7,6 +7,7 @@ use mathlib.Core.List.{List, []}
 use Prim.Native.Nat.{_-_}
 use lib.ListN.{length, getD}
 use lib.IntN.{ℤ}
+use Rattle.grid.specs.Limits.{limit}
 use Rattle.grid.specs.Points.{points}
 use Rattle.replies.specs.Ladder.{first-of}
 use Rattle.grid.specs.Domain.{domain}
@@ -43,7 +44,7 @@ named-requires c κs = let s = c .before .before in part-named (s .args .points 
 passes-requires : tie.Need-passes-requires Inv-loop μ-loop
 passes-requires c κs =
     let s = c .before .before .before in
-    ap (λ (row : List ℤ). first-of (domain row)) (same-numbers (c .named .ensures)) ∙ part-in-domain (s .args .points .now) (s .args .ranges .now) (c .before .before .loop .i) (s .pre) (c .before .loop-test .taken)
+    ap (λ (row : List ℤ). first-of (domain limit row)) (same-numbers (c .named .ensures)) ∙ part-in-domain (s .args .points .now) (s .args .ranges .now) (c .before .before .loop .i) (s .pre) (c .before .loop-test .taken)
 
 returns : tie.Need-returns Inv-loop μ-loop
 returns c =

@@ -9,6 +9,7 @@ use lib.ListN.{length, getD}
 use lib.IntN.{ℤ}
 use mir.Facts.{toZ-ofZ}
 use Rattle.integers.specs.Modulo.{mod64}
+use Rattle.grid.specs.Limits.{limit}
 use Rattle.grid.specs.Points.{points}
 use Rattle.grid.specs.Area.{reported}
 use Rattle.replies.specs.Ladder.{first-of}
@@ -38,11 +39,11 @@ module _ (c : tie.After-named Inv-loop μ-loop) where
   unfolding part
   is-part = same-numbers (c .named .ensures)
 
-  in-domain : first-of (domain (c .named .result .now)) ≡ 0
+  in-domain : first-of (domain limit (c .named .result .now)) ≡ 0
   unfolding part
   in-domain =
       let l = c .before .before in
-      ap (λ (row : List ℤ). first-of (domain row)) is-part
+      ap (λ (row : List ℤ). first-of (domain limit row)) is-part
       ∙ part-in-domain (l .before .args .points .now) (l .before .args .ranges .now) (l .loop .i) (l .before .pre) (c .before .loop-test .taken)
 
 loop-holds : tie.Need-loop-holds Inv-loop μ-loop
