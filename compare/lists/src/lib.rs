@@ -7,6 +7,7 @@ pub mod cleaning;
 pub mod contours;
 pub mod counted;
 pub mod drawings;
+pub mod ends;
 pub mod files;
 pub mod line;
 pub mod point;
@@ -66,8 +67,9 @@ where
 
 #[cfg(test)]
 mod tests {
-    use super::{cleaning, contours, drawings, files, sets};
+    use super::{answer, cleaning, contours, drawings, files, sets};
     use crate::line::tests::read_as_written;
+    use crate::sets::chosen::wide;
 
     #[test]
     fn every_case_of_the_lists_is_read_as_it_was_written() {
@@ -76,5 +78,34 @@ mod tests {
         read_as_written(cleaning::list());
         read_as_written(files::list());
         read_as_written(drawings::list());
+    }
+    #[test]
+    fn what_is_off_the_narrow_grid_is_refused_by_files_and_drawings_alone() {
+        let reply = |line: String| {
+            answer(&line)
+                .unwrap()
+                .split(' ')
+                .next()
+                .unwrap()
+                .to_string()
+        };
+        for set in wide() {
+            let records = |ranges: &[[usize; 2]]| {
+                let places = ranges.concat();
+                let places = places.iter().map(|place| format!(" {place}"));
+                format!(" {}{}", ranges.len(), places.collect::<String>())
+            };
+            let (contours, points) = (records(&set.contours), &set.points);
+            assert_eq!(reply(format!("f 99{set}")), "3", "{set}");
+            assert_eq!(reply(format!("e 99 99{contours}{points}")), "3", "{set}");
+            for asked in ["s", "q 1073741823 -1073741823"] {
+                let answers = answer(&format!("{asked}{set}")).unwrap();
+                assert!(!answers.contains('!'), "{asked}{set}");
+            }
+            for packed in ["p 2 99 9 9 0 0", "p 6 99 9 9 0 0", "W 3 99 99 99 99 9 9"] {
+                assert_eq!(reply(format!("{packed}{set}")), "0", "{packed}{set}");
+            }
+            assert_eq!(reply(format!("l 0 0{points}")), "0", "{set}");
+        }
     }
 }

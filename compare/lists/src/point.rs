@@ -1,6 +1,35 @@
 //! Points as the list writes them, and what is reckoned with them.
 
-pub use requests::grid::{Point, LIMIT, MOST_POINTS};
+pub use requests::grid::{Point, LIMIT, MOST_POINTS, NARROW};
+
+/// Numbers off the grid.
+pub const OFF_GRID: [i32; 8] = [
+    LIMIT + 1,
+    LIMIT + 2,
+    3 << 29,
+    i32::MAX,
+    -LIMIT - 1,
+    -LIMIT - 2,
+    -3 << 29,
+    i32::MIN,
+];
+
+/// Numbers off the narrow grid, on the grid and off it.
+pub const OFF_NARROW: [i32; 8] = [
+    NARROW + 1,
+    LIMIT,
+    LIMIT + 1,
+    i32::MAX,
+    -NARROW - 1,
+    -LIMIT,
+    -LIMIT - 1,
+    i32::MIN,
+];
+
+/// The whole of a grid with this end as a square, counter-clockwise.
+pub const fn whole(end: i32) -> [Point; 4] {
+    [[-end, -end], [end, -end], [end, end], [-end, end]]
+}
 
 pub fn plus(a: Point, b: Point) -> Point {
     [a[0] + b[0], a[1] + b[1]]

@@ -25,7 +25,8 @@ impl Rng {
 
     /// A number from `low` to `high`, both included.
     pub fn between(&mut self, low: i32, high: i32) -> i32 {
-        low + self.below((high - low) as usize + 1) as i32
+        let count = i64::from(high) - i64::from(low) + 1;
+        (i64::from(low) + self.below(count as usize) as i64) as i32
     }
 
     /// A point with both coordinates within `reach` of 0.

@@ -9,10 +9,10 @@ pub fn scattered(n: usize, reach: i32, rng: &mut Rng) -> Vec<Point> {
     (0..n).map(|_| rng.point(reach)).collect()
 }
 
-/// Points at the ends and in the middle of the grid.
-pub fn at_ends(n: usize, rng: &mut Rng) -> Vec<Point> {
-    const ENDS: [i32; 7] = [-LIMIT, 1 - LIMIT, -1, 0, 1, LIMIT - 1, LIMIT];
-    (0..n).map(|_| [rng.pick(&ENDS), rng.pick(&ENDS)]).collect()
+/// Points at the ends and in the middle of a grid with this end.
+pub fn at_ends(n: usize, end: i32, rng: &mut Rng) -> Vec<Point> {
+    let ends = [-end, 1 - end, -1, 0, 1, end - 1, end];
+    (0..n).map(|_| [rng.pick(&ends), rng.pick(&ends)]).collect()
 }
 
 /// Points on one line through the origin.

@@ -1,9 +1,9 @@
 //! Drawings as document 02 has them: commands in rows, and the contours that they draw.
 
-use crate::exact::{millimetres, point, Bits, LIMIT};
+use crate::exact::{millimetres, point, Bits};
 use crate::grid::{Point, MOST_POINTS};
 use crate::ranges::{sound, Record};
-use crate::reply::{refused_if, Reply, ODD, OFF_GRID, RANGES, TOO_MANY};
+use crate::reply::{on_narrow_grid, refused_if, Reply, ODD, RANGES, TOO_MANY};
 
 /// The kinds of command.
 pub const MOVE: u8 = 0;
@@ -87,14 +87,14 @@ pub fn has_place(kind: u8) -> bool {
     kind == MOVE || kind == LINE
 }
 
-/// The contours of a set, or the first refusal that is due: 1, 2, 6, 3.
-pub fn contours(points: &[i32], ranges: &[Record]) -> Reply<Vec<Vec<Point>>> {
-    refused_if(points.len() % 2 == 1, ODD)?;
-    let points: Vec<Point> = points.chunks(2).map(|point| [point[0], point[1]]).collect();
+/// The contours of a set, or the first refusal that is due: 1, 2, 6, 3 beyond the narrow grid.
+pub fn contours(numbers: &[i32], ranges: &[Record]) -> Reply<Vec<Vec<Point>>> {
+    refused_if(numbers.len() % 2 == 1, ODD)?;
+    let pairs = numbers.chunks(2);
+    let points: Vec<Point> = pairs.map(|point| [point[0], point[1]]).collect();
     refused_if(points.len() > MOST_POINTS, TOO_MANY)?;
     refused_if(!sound(ranges, points.len()), RANGES)?;
-    let on_grid = |number: &i32| (-LIMIT..=LIMIT).contains(number);
-    refused_if(!points.iter().flatten().all(on_grid), OFF_GRID)?;
+    on_narrow_grid(numbers)?;
     let contour = |&[start, end]: &Record| points[start..end].to_vec();
     Ok(ranges.iter().map(contour).collect())
 }
@@ -114,6 +114,7 @@ pub fn rows(contours: &[Vec<Point>]) -> (Vec<i32>, Vec<Record>) {
 #[cfg(test)]
 mod tests {
     use super::{contours, Drawing, CLOSE, LINE, MOVE};
+    use crate::grid::{LIMIT, NARROW};
 
     fn drawn(kinds: &[u8], floats: &[f64]) -> Result<Vec<Vec<[i32; 2]>>, u8> {
         let drawing = Drawing {
@@ -175,11 +176,20 @@ mod tests {
 
     #[test]
     fn a_set_is_refused_by_the_first_that_is_due() {
-        let off = 536_870_913;
+        let off = NARROW + 1;
         assert_eq!(contours(&[off], &[]), Err(1));
         assert_eq!(contours(&[off; 131_074], &[]), Err(2));
         assert_eq!(contours(&[off, 0], &[]), Err(6));
-        assert_eq!(contours(&[off, 0], &[[0, 1]]), Err(3));
+        for number in [off, -off, LIMIT, -LIMIT, LIMIT + 1, i32::MIN] {
+            assert_eq!(contours(&[number, 0], &[[0, 1]]), Err(3));
+            assert_eq!(contours(&[0, number], &[[0, 1]]), Err(3));
+        }
+        for number in [NARROW, -NARROW] {
+            assert_eq!(
+                contours(&[number, 0], &[[0, 1]]),
+                Ok(vec![vec![[number, 0]]])
+            );
+        }
         assert_eq!(contours(&[], &[]), Ok(vec![]));
     }
 }

@@ -3,7 +3,7 @@
 use crate::bits::{BitReader, BitWriter};
 use crate::grid::{Point, MOST_POINTS};
 use crate::ranges::{sound, Record};
-use crate::reply::{on_grid, refused_if, Reply, ODD, RANGES, ROOM, TOO_MANY};
+use crate::reply::{on_narrow_grid, refused_if, Reply, ODD, RANGES, ROOM, TOO_MANY};
 
 pub const EDITION: u8 = 9;
 pub const LENGTH: u8 = 10;
@@ -36,7 +36,7 @@ pub fn read(file: &[u8]) -> Reply<Vec<Shape>> {
         shape.push((0..count).map(|_| [coordinate(), coordinate()]).collect());
     }
     refused_if(bits.left() > 0, LENGTH)?;
-    on_grid(&shapes.concat().concat().concat())?;
+    on_narrow_grid(&shapes.concat().concat().concat())?;
     Ok(shapes)
 }
 
@@ -76,7 +76,7 @@ pub fn written(
     refused_if(points > MOST_POINTS || need > MOST_BYTES, TOO_MANY)?;
     refused_if(!sound(contours, points), RANGES)?;
     refused_if(!sound(shapes, contours.len()), RANGES)?;
-    on_grid(numbers)?;
+    on_narrow_grid(numbers)?;
     let over = |&[start, end]: &Record| end - start > MOST_IN_ONE;
     let empty = |&[start, end]: &Record| start == end;
     refused_if(contours.len() > MOST_CONTOURS, NOT_CARRIED)?;
@@ -99,8 +99,8 @@ fn parts(numbers: &[i32], contours: &[Record], shapes: &[Record]) -> Vec<Shape> 
 
 #[cfg(test)]
 mod tests {
-    use super::{read, written};
-    use crate::grid::LIMIT;
+    use super::{read, write, written};
+    use crate::grid::{LIMIT, NARROW};
 
     #[test]
     fn a_file_is_read_field_by_field() {
@@ -120,7 +120,7 @@ mod tests {
 
     #[test]
     fn the_first_refusal_of_a_file_is_given() {
-        let off = (LIMIT + 1).to_be_bytes();
+        let off = (NARROW + 1).to_be_bytes();
         let point = [&[0x10, 1, 0x80, 1][..], &off, &off].concat();
         for (file, reply) in [
             (&[0x20; 65_537][..], 2),
@@ -141,8 +141,22 @@ mod tests {
     }
 
     #[test]
+    fn only_the_narrow_grid_is_carried() {
+        let of = |number| vec![vec![vec![[0, 0], [4, number]]]];
+        let written = |number| written(&[0, 0, 4, number], &[[0, 2]], &[[0, 1]], 20);
+        for on in [NARROW, -NARROW] {
+            assert_eq!(read(&write(&of(on))), Ok(of(on)));
+            assert_eq!(written(on), Ok(write(&of(on))));
+        }
+        for off in [NARROW + 1, -NARROW - 1, LIMIT, -LIMIT, LIMIT + 1, i32::MIN] {
+            assert_eq!(read(&write(&of(off))), Err(3));
+            assert_eq!(written(off), Err(3));
+        }
+    }
+
+    #[test]
     fn the_first_refusal_of_a_set_is_given() {
-        let off = LIMIT + 1;
+        let off = NARROW + 1;
         let row = |numbers: &[i32], times| numbers.repeat(times);
         for (numbers, contours, shapes, reply) in [
             (row(&[off], 16_385), &[[1, 0]][..], &[][..], 1),

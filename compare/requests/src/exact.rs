@@ -1,7 +1,7 @@
 //! Floats as the whole numbers and the powers of two that they are made of. Nothing is
 //! computed in floats.
 
-use crate::grid::Point;
+use crate::grid::{Point, NARROW};
 use crate::reply::{refused_if, Reply, OFF_GRID};
 
 /// A float by its bits: NaNs with different payloads are different, and so are the zeros.
@@ -12,9 +12,6 @@ pub const NOT_FINITE: u8 = 14;
 
 /// A millimetre is 2 to so many units.
 const UNITS: i32 = 10;
-
-/// The largest coordinate of a drawing, in units; the smallest is its negative.
-pub const LIMIT: i32 = 536_870_912;
 
 /// `size` times 2 to the `power`, below zero or not.
 struct Number {
@@ -60,17 +57,17 @@ pub fn finite(float: Bits) -> Reply<()> {
     refused_if(number(float).is_none(), NOT_FINITE)
 }
 
-/// A float that is finite, of millimetres, in units.
+/// A float that is finite, of millimetres, in units: 3 beyond the narrow grid.
 pub fn units(float: Bits) -> Reply<i32> {
     let number = number(float).ok_or(NOT_FINITE)?;
     let power = number.power + UNITS;
     let nearest = Number { power, ..number }.nearest().ok_or(OFF_GRID)?;
-    let limit = i128::from(LIMIT);
+    let limit = i128::from(NARROW);
     refused_if(!(-limit..=limit).contains(&nearest), OFF_GRID)?;
     Ok(nearest as i32)
 }
 
-/// First both coordinates must be finite, then both on the grid.
+/// First both coordinates must be finite, then both on the narrow grid.
 pub fn point([x, y]: [Bits; 2]) -> Reply<Point> {
     finite(x)?;
     finite(y)?;
@@ -98,7 +95,7 @@ pub fn scaled(number: i64, power: i32) -> Bits {
 
 #[cfg(test)]
 mod tests {
-    use super::{millimetres, number, point, scaled, units, Number, LIMIT};
+    use super::{millimetres, number, point, scaled, units, Number, NARROW};
 
     /// The numbers below 2^32 in an order of no order.
     fn scattered(count: u64) -> impl Iterator<Item = u64> {
@@ -120,11 +117,11 @@ mod tests {
         assert_eq!(of(-0.5 / 1024.0), Ok(-1));
         assert_eq!(of(1.5 / 1024.0), Ok(2));
         assert_eq!(of(0.49999999999999994 / 1024.0), Ok(0));
-        assert_eq!(of(524288.0), Ok(LIMIT));
-        assert_eq!(of(-524288.0), Ok(-LIMIT));
+        assert_eq!(of(524288.0), Ok(NARROW));
+        assert_eq!(of(-524288.0), Ok(-NARROW));
         let past: f64 = 524288.0 + 0.5 / 1024.0;
         assert_eq!(of(past), Err(3));
-        assert_eq!(of(past.next_down()), Ok(LIMIT));
+        assert_eq!(of(past.next_down()), Ok(NARROW));
         assert_eq!(of(-past), Err(3));
         assert_eq!(of(1e308), Err(3));
         assert_eq!(of(f64::MAX), Err(3));

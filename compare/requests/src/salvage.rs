@@ -4,7 +4,7 @@ use crate::bits::BitReader;
 use crate::edition::{write, Shape, BEGINNING, EDITION, LENGTH, MOST_BYTES};
 use crate::grid::Point;
 use crate::ranges::Record;
-use crate::reply::{on_grid, refused_if, Reply, OFF_GRID, ROOM, TOO_MANY};
+use crate::reply::{on_narrow_grid, refused_if, Reply, OFF_GRID, ROOM, TOO_MANY};
 
 /// A contour that came whole.
 struct Came {
@@ -14,7 +14,7 @@ struct Came {
 
 impl Came {
     fn on_grid(&self) -> bool {
-        on_grid(&self.points.concat()).is_ok()
+        on_narrow_grid(&self.points.concat()).is_ok()
     }
 }
 
@@ -92,7 +92,7 @@ fn sifted(came: &[Came]) -> (Vec<Shape>, Vec<Record>) {
 mod tests {
     use super::{mend, Mended};
     use crate::edition::write;
-    use crate::grid::{Point, LIMIT};
+    use crate::grid::{Point, LIMIT, NARROW};
     use crate::reply::Reply;
 
     /// With room for whatever a file can have.
@@ -120,9 +120,9 @@ mod tests {
         }
     }
 
-    const A: &[Point] = &[[1, -2], [3, 4], [LIMIT, -LIMIT]];
+    const A: &[Point] = &[[1, -2], [3, 4], [NARROW, -NARROW]];
     const B: &[Point] = &[[5, 6]];
-    const OFF: &[Point] = &[[7, 8], [9, -LIMIT - 1]];
+    const OFF: &[Point] = &[[7, 8], [9, -NARROW - 1]];
 
     #[test]
     fn a_sound_file_comes_back() {
@@ -141,6 +141,15 @@ mod tests {
         let damaged = file(&[(true, A), (false, OFF), (false, B)]);
         let rest = file(&[(true, A), (false, B)]);
         assert_eq!(roomy(&damaged), Ok(mended(rest, &[[1, 3]], 0, 0)));
+    }
+
+    #[test]
+    fn only_the_narrow_grid_is_kept() {
+        for off in [NARROW + 1, LIMIT, -LIMIT, LIMIT + 1, i32::MIN] {
+            let damaged = file(&[(true, A), (false, &[[off, 0]]), (true, B)]);
+            let rest = file(&[(true, A), (true, B)]);
+            assert_eq!(roomy(&damaged), Ok(mended(rest, &[[1, 3]], 0, 0)));
+        }
     }
 
     #[test]

@@ -4,7 +4,7 @@
 use super::case::{Case, MOST_SCRATCH};
 use super::lent;
 use crate::line::Row;
-use crate::point::{Point, LIMIT};
+use crate::point::{whole, Point, LIMIT, NARROW};
 use crate::sets::flat::{Record, Set};
 use crate::sets::small::rows_up_to;
 
@@ -135,16 +135,14 @@ pub fn scans() -> Vec<Case> {
     cases
 }
 
-/// The whole-grid square, both ways round and up to sixty-four times: as so many
+/// The squares of both whole grids, both ways round and up to sixty-four times: as so many
 /// contours the set's sum wraps, of one shape or of as many, and as one contour or two
 /// each contour's own does.
 pub fn wrapping() -> Vec<Case> {
-    let square = [
-        [-LIMIT, -LIMIT],
-        [LIMIT, -LIMIT],
-        [LIMIT, LIMIT],
-        [-LIMIT, LIMIT],
-    ];
+    [LIMIT, NARROW].map(whole).map(wrapping_laps).concat()
+}
+
+fn wrapping_laps(square: [Point; 4]) -> Vec<Case> {
     let mut cases = vec![];
     for times in [1, 2, 3, 4, 5, 7, 8, 9, 12, 63, 64] {
         for around in [square.to_vec(), square.into_iter().rev().collect()] {

@@ -2,10 +2,11 @@
 
 use super::case::{Case, Form};
 use super::lent;
+use crate::ends::{self, NEAR, PAST};
 use crate::line::{Row, MOST_NUMBERS};
-use crate::point::{Point, LIMIT, MOST_POINTS};
+use crate::point::{Point, LIMIT, MOST_POINTS, OFF_GRID};
 use crate::rng::Rng;
-use crate::sets::chosen::off_grid;
+use crate::sets::chosen::{off_grid, one_contour, wide};
 use crate::sets::flat::{Record, Set};
 use crate::sets::random::{set, spoil};
 use crate::sets::ranges;
@@ -81,10 +82,23 @@ pub fn off_in_one_place() -> Vec<Case> {
     lent::asked_and_cleaned(&off_grid(&sound()), 624)
 }
 
+/// Sets of one contour with a number past an end of the grid, in each place in turn, and sets that are on the grid and off
+/// the narrow one.
+pub fn at_the_ends() -> Vec<Case> {
+    let past = one_contour(&ends::rows(&PAST, &NEAR, &[1, 2, 3, 4, 5, 6, 7, 8, 9]));
+    [
+        lent::asked_and_cleaned_once(&past, &Form::ALL, 628),
+        lent::asked_and_cleaned(&wide(), 629),
+    ]
+    .concat()
+}
+
 /// Sets with one to three damages.
 pub fn spoilt() -> Vec<Case> {
     let rng = &mut Rng::new(625);
-    let sets: Vec<Set> = (0..160).map(|_| spoil(set(rng), rng)).collect();
+    let sets: Vec<Set> = (0..160)
+        .map(|_| spoil(set(LIMIT, rng), &OFF_GRID, rng))
+        .collect();
     lent::asked_and_cleaned(&sets, 626)
 }
 

@@ -2,12 +2,12 @@
 
 use super::case::{Case, Form, Kind, Lengths, MOST_SCRATCH};
 use crate::contours::asked;
-use crate::contours::damaged::OFF_GRID;
-use crate::point::Point;
+use crate::point::{Point, OFF_GRID};
 use crate::rng::Rng;
 use crate::scratch;
 use crate::sets::flat::Set;
 use crate::sets::rows;
+use requests::reply::on_grid;
 
 /// By how much the rows differ from the need: next, prev, mark, and the numbers, contour
 /// records and shape records of the output.
@@ -118,10 +118,9 @@ pub fn around_the_need(sets: &[Set]) -> Vec<Case> {
 
 /// A point with something to tell about the set.
 pub fn point_for(set: &Set, rng: &mut Rng) -> Point {
-    let off_grid = |number: &i32| OFF_GRID.contains(number);
     let points = set.points.numbers.chunks_exact(2).map(|p| [p[0], p[1]]);
-    let on_grid = points.filter(|point: &Point| !point.iter().any(off_grid));
-    let mut point = asked::about(&on_grid.collect::<Vec<Point>>(), rng);
+    let points = points.filter(|point: &Point| on_grid(point).is_ok());
+    let mut point = asked::about(&points.collect::<Vec<Point>>(), rng);
     if rng.below(16) == 0 {
         point[rng.below(2)] = rng.pick(&OFF_GRID);
     }

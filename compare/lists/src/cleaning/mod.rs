@@ -31,6 +31,7 @@ pub fn list() -> Vec<Case> {
         random::every_form(),
         damaged::ranges(),
         damaged::off_in_one_place(),
+        damaged::at_the_ends(),
         damaged::spoilt(),
         damaged::many_points(),
     ]

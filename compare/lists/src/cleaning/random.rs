@@ -2,7 +2,7 @@
 
 use super::case::Case;
 use super::lent;
-use crate::point::Point;
+use crate::point::{Point, LIMIT};
 use crate::rng::Rng;
 use crate::sets::flat::Set;
 use crate::sets::random;
@@ -36,6 +36,6 @@ fn contour(reach: i32, rng: &mut Rng) -> Vec<Point> {
 /// Sets of contours of every form: empty, short, flat, spoilt, or polygons.
 pub fn every_form() -> Vec<Case> {
     let rng = &mut Rng::new(614);
-    let sets: Vec<Set> = (0..160).map(|_| random::set(rng)).collect();
+    let sets: Vec<Set> = (0..160).map(|_| random::set(LIMIT, rng)).collect();
     lent::asked_and_cleaned(&sets, 615)
 }

@@ -5,7 +5,7 @@ use super::lent;
 use super::random::on_grid;
 use crate::contours::asked;
 use crate::contours::tiny::square;
-use crate::point::{Point, LIMIT};
+use crate::point::{whole, Point, LIMIT};
 use crate::rng::Rng;
 use crate::sets::flat::Set;
 use crate::shapes::at_ends;
@@ -68,18 +68,12 @@ pub fn at_the_ends() -> Vec<Case> {
 /// An outline that is often the whole grid, and up to three holes with their points at its ends, asked about a point
 /// with something to tell of one of them.
 pub fn at_an_end(rng: &mut Rng) -> Case {
-    const WHOLE: [Point; 4] = [
-        [-LIMIT, -LIMIT],
-        [LIMIT, -LIMIT],
-        [LIMIT, LIMIT],
-        [-LIMIT, LIMIT],
-    ];
     let mut shape = vec![match rng.below(3) {
-        0 => at_ends(rng.between(0, 6) as usize, rng),
-        _ => WHOLE.to_vec(),
+        0 => at_ends(rng.between(0, 6) as usize, LIMIT, rng),
+        _ => whole(LIMIT).to_vec(),
     }];
     for _ in 0..rng.below(4) {
-        shape.push(at_ends(rng.between(0, 6) as usize, rng));
+        shape.push(at_ends(rng.between(0, 6) as usize, LIMIT, rng));
     }
     let of = rng.below(shape.len());
     let point = asked::about(&shape[of], rng);

@@ -2,20 +2,9 @@
 
 use crate::contours::asked;
 use crate::contours::case::{Case, Kind};
-use crate::point::{Point, LIMIT};
+use crate::point::{Point, LIMIT, OFF_GRID};
 use crate::rng::Rng;
 use crate::shapes::scattered;
-
-pub const OFF_GRID: [i32; 8] = [
-    LIMIT + 1,
-    LIMIT + 2,
-    1 << 30,
-    i32::MAX,
-    -LIMIT - 1,
-    -LIMIT - 2,
-    -1 << 30,
-    i32::MIN,
-];
 
 pub fn cases() -> Vec<Case> {
     let rng = &mut Rng::new(101);

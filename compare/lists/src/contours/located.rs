@@ -2,10 +2,10 @@
 
 use crate::contours::asked;
 use crate::contours::case::{Case, Kind};
-use crate::contours::known::lines;
+use crate::contours::known::{lines, thin_edge};
 use crate::contours::tiny::{contours, everywhere, in_turn, ring, square};
 use crate::contours::{damaged as spoilt, random as any, unclean};
-use crate::point::{minus, plus, steps, times, Point, LIMIT};
+use crate::point::{minus, onto_grid, plus, steps, times, Point, LIMIT, NARROW};
 use crate::rng::Rng;
 use crate::shapes::{at_ends, there_and_back};
 
@@ -49,12 +49,24 @@ pub fn known() -> Vec<Case> {
         "l 2 0 0 0 4 0 4 4 0 4 0 0 4 0 4 4 0 4",
         "l 2 2 0 0 4 0 4 4 0 4 0 0 4 0 4 4 0 4",
         "l 0 0",
-        "l 0 -1 -536870912 -536870912 0 -1 536870911 536870909",
-        "l 0 -1 -536870912 -536870912 536870911 536870909 -536870912 536870909",
-        "l 0 -1 536870911 536870909 -536870912 -536870912 536870911 -536870912",
-        "l 5 5 -536870912 -536870912 536870912 536870912",
-        "l 5 6 -536870912 -536870912 536870912 536870912",
     ])
+}
+
+/// An edge across each whole grid that (0, -1) misses by the least cross product, its two sides, and the diagonal.
+pub fn across() -> Vec<Case> {
+    [LIMIT, NARROW].map(across_to).concat()
+}
+
+fn across_to(end: i32) -> Vec<Case> {
+    let (a, b) = thin_edge(end);
+    let diagonal = [[-end, -end], [end, end]];
+    vec![
+        Case::located([0, -1], &[a, [0, -1], b]),
+        Case::located([0, -1], &[a, b, [a[0], b[1]]]),
+        Case::located([0, -1], &[b, a, [b[0], a[1]]]),
+        Case::located([5, 5], &diagonal),
+        Case::located([5, 6], &diagonal),
+    ]
 }
 
 /// On the grid 0, 1, 2 all contours of up to two points, each asked about every point of the grid and one around it,
@@ -111,7 +123,7 @@ pub fn at_the_ends() -> Vec<Case> {
 /// A contour of up to seven points at the ends of the grid, a third of them there and back, asked about a point of an
 /// edge, one step beside it, or any other that has something to tell.
 pub fn at_an_end(rng: &mut Rng) -> Case {
-    let contour = at_ends(rng.between(1, 7) as usize, rng);
+    let contour = at_ends(rng.between(1, 7) as usize, LIMIT, rng);
     let contour = match rng.below(3) {
         0 => there_and_back(&contour),
         _ => contour,
@@ -137,7 +149,7 @@ fn on_an_edge(contour: &[Point], rng: &mut Rng) -> Point {
 }
 
 fn beside(point: Point, rng: &mut Rng) -> Point {
-    plus(point, rng.point(1)).map(|number| number.clamp(-LIMIT, LIMIT))
+    onto_grid(plus(point, rng.point(1)))
 }
 
 /// An odd count, a number off the grid, the asked point off it, or more than one of these.
@@ -145,11 +157,11 @@ pub fn damaged() -> Vec<Case> {
     let rng = &mut Rng::new(413);
     let damaged = (0..80).map(|_| located(spoilt::damaged(rng)));
     let chosen = lines(&[
-        "l 536870913 0 536870913",
-        "l 0 -536870913 1 2 3 *43691",
-        "l 536870913 0 536870913 0 *65537",
-        "l 0 0 536870913 0 *65536",
-        "l 536870913 -536870913",
+        "l 1073741824 0 1073741824",
+        "l 0 -1073741824 1 2 3 *43691",
+        "l 1073741824 0 1073741824 0 *65537",
+        "l 0 0 1073741824 0 *65536",
+        "l 1073741824 -1073741824",
         "l 2147483647 -2147483648 7 8",
     ]);
     damaged.chain(chosen).collect()
@@ -179,7 +191,7 @@ pub fn long() -> Vec<Case> {
 
 #[cfg(test)]
 mod tests {
-    use super::{at_the_ends, known, random, scans, tiny};
+    use super::{across, at_the_ends, known, random, scans, tiny};
     use crate::contours::answers::contains;
     use crate::contours::case::Kind;
     use requests::locate::{locate, Place};
@@ -187,7 +199,8 @@ mod tests {
     #[test]
     fn off_the_boundary_the_place_is_the_originals_answer() {
         let mut met = [0; 3];
-        for case in [known(), tiny(), scans(), random(), at_the_ends()].concat() {
+        let whole_grids = [across(), at_the_ends()].concat();
+        for case in [known(), tiny(), scans(), random(), whole_grids].concat() {
             let Kind::Located { asked } = case.kind else {
                 panic!("{case}")
             };

@@ -18,7 +18,7 @@ pub fn wound() -> Vec<Case> {
         for contour in [
             scattered(n, 3, rng),
             scattered(n, LIMIT, rng),
-            at_ends(n, rng),
+            at_ends(n, LIMIT, rng),
             turned(convex(n + 2, LIMIT / 32, rng), rng),
         ] {
             let most = MOST_POINTS / contour.len();

@@ -4,6 +4,7 @@ mod answers;
 pub mod asked;
 pub mod case;
 pub mod damaged;
+mod ends;
 pub mod kept;
 mod known;
 pub mod lent;
@@ -25,6 +26,7 @@ pub fn list() -> Vec<Case> {
         known::worked(),
         known::limits(),
         known::readings(),
+        ends::asked(),
         tiny::cases(),
         asked::scans(),
         random::cases(),
@@ -40,15 +42,18 @@ pub fn list() -> Vec<Case> {
         lent::chosen(),
         lent::random(),
         lent::large(),
+        ends::cleaned(),
         kept::small(),
         kept::wrapping(),
         kept::long(),
         located::known(),
+        located::across(),
         located::tiny(),
         located::scans(),
         located::random(),
         located::at_the_ends(),
         located::damaged(),
+        ends::located(),
         located::long(),
     ]
     .concat()

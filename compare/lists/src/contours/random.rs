@@ -131,10 +131,10 @@ fn on_a_line(rng: &mut Rng) -> Vec<Point> {
 
 /// Coordinates at both ends of the grid and around 0.
 fn on_the_ends(rng: &mut Rng) -> Vec<Point> {
-    at_ends(up_to_twelve(1, rng), rng)
+    at_ends(up_to_twelve(1, rng), LIMIT, rng)
 }
 
-/// Laps around the grid: from five on the area wraps.
+/// Laps around the grid: from two on the area wraps.
 fn wrapping(rng: &mut Rng) -> Vec<Point> {
     let count = rng.between(3, 20) as usize;
     turned(laps(count, rng), rng)

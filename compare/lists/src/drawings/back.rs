@@ -2,14 +2,14 @@
 
 use super::case::{Case, Lengths, LONGEST_OUT};
 use super::sound::{beside, OFFSETS};
-use crate::contours::damaged::OFF_GRID;
 use crate::line::Row;
+use crate::point::{LIMIT, NARROW, OFF_NARROW};
 use crate::rng::Rng;
+use crate::sets::chosen::wide;
 use crate::sets::flat::{Record, Set};
 use crate::sets::random;
 use crate::sets::ranges::contour_ranges;
 use crate::sets::small::{rows_up_to, set};
-use requests::exact::LIMIT;
 
 /// The set's shapes play no part.
 pub fn export(lent: Lengths, set: &Set) -> Case {
@@ -60,9 +60,9 @@ pub fn lengths() -> Vec<Case> {
     (0..=50).flat_map(one).collect()
 }
 
-/// Coordinates around zero, around each power of two and at the ends of the grid.
+/// Coordinates around zero, around each power of two and at the ends of the narrow grid.
 pub fn coordinates() -> Vec<Case> {
-    let mut chosen = vec![0, 1, -1, LIMIT, LIMIT - 1, -LIMIT, 1 - LIMIT];
+    let mut chosen = vec![0, 1, -1, NARROW, NARROW - 1, -NARROW, 1 - NARROW];
     for power in 1..29 {
         let power = 1 << power;
         chosen.extend([power - 1, power, power + 1, -power - 1, -power, 1 - power]);
@@ -90,7 +90,7 @@ pub fn off_in_one_place() -> Vec<Case> {
     let mut cases = vec![];
     let sound = set(&[vec![3, 0, 2]]);
     for place in 0..sound.points.numbers.len() {
-        for off in OFF_GRID {
+        for off in OFF_NARROW {
             let mut set = sound.clone();
             set.points.numbers[place] = off;
             cases.push(around(&set, [0, 0]));
@@ -101,6 +101,11 @@ pub fn off_in_one_place() -> Vec<Case> {
         }
     }
     cases
+}
+
+/// Sets that are on the grid and off the narrow one.
+pub fn off_the_narrow_grid() -> Vec<Case> {
+    in_turn(&wide())
 }
 
 /// Chosen sets with every choice of rows; points without ranges among them.
@@ -122,11 +127,12 @@ pub fn random() -> Vec<Case> {
     (0..300).map(|_| any_export(rng)).collect()
 }
 
-/// Any set, one in three with damages, into rows around its need.
+/// Any set, one in three with damages and one in eight from all over the grid, into rows around its need.
 pub fn any_export(rng: &mut Rng) -> Case {
-    let sound = random::set(rng);
+    let end = if rng.below(8) == 0 { LIMIT } else { NARROW };
+    let sound = random::set(end, rng);
     let set = match rng.below(3) {
-        0 => random::spoil(sound, rng),
+        0 => random::spoil(sound, &OFF_NARROW, rng),
         _ => sound,
     };
     let offsets = [(); 2].map(|()| rng.pick(&[-1, 0, 0, 0, 0, 1, 3]));

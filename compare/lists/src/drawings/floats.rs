@@ -4,7 +4,8 @@ use super::case::Case;
 use super::sound::{exact, longer};
 use crate::rng::Rng;
 use requests::drawing::{Drawing, LINE, MOVE};
-use requests::exact::{scaled, units, Bits, LIMIT};
+use requests::exact::{scaled, units, Bits};
+use requests::grid::{LIMIT, NARROW};
 
 const SIGN: Bits = 1 << 63;
 
@@ -28,11 +29,12 @@ pub const NANS: [Bits; 8] = [
     0xfff0_0000_0010_0000,
 ];
 
-/// Finite, and off the grid.
+/// Finite, and off the narrow grid: first past its end and at the end of the grid.
 pub fn beyond() -> Vec<Bits> {
-    let half_past = scaled(2 * i64::from(LIMIT) + 1, -11);
+    let half_past = scaled(2 * i64::from(NARROW) + 1, -11);
     let mut beyond: Vec<Bits> = (0..3).map(|more| half_past + more).collect();
-    beyond.extend((1..4).map(|more| scaled(i64::from(LIMIT) + more, -10)));
+    beyond.extend((1..4).map(|more| scaled(i64::from(NARROW) + more, -10)));
+    beyond.extend((-1..2).map(|half| scaled(2 * i64::from(LIMIT) + half, -11)));
     beyond.extend((20..44).map(|power| scaled(1, power)));
     beyond.extend((52..1023).step_by(61).map(|power| scaled(1, power)));
     beyond.extend([1e9, 1e15, 1e16, 1e18, 1e19, 1e300, 1e308, f64::MAX].map(f64::to_bits));
@@ -51,7 +53,7 @@ fn powers() -> Vec<Bits> {
 
 /// Whole counts of units around each power of two and at the ends of the grid.
 fn chosen() -> Vec<i64> {
-    let limit = i64::from(LIMIT);
+    let limit = i64::from(NARROW);
     let mut chosen: Vec<i64> = (0..29)
         .flat_map(|power| [(1 << power) - 1, 1 << power])
         .collect();
@@ -111,11 +113,11 @@ pub fn near_the_grid(rng: &mut Rng) -> Bits {
 
 /// At a whole count of units, or half or a quarter between two, or next to that.
 pub fn near_a_half(rng: &mut Rng) -> Bits {
-    let limit = i64::from(LIMIT);
+    let limit = i64::from(NARROW);
     let count = match rng.below(4) {
         0 => limit - rng.below(3) as i64,
         1 => rng.below(4) as i64,
-        _ => rng.below(LIMIT as usize) as i64 >> rng.below(29),
+        _ => rng.below(NARROW as usize) as i64 >> rng.below(29),
     };
     let float = match rng.below(4) {
         0 => scaled(count, -10),
@@ -208,7 +210,7 @@ fn single(turn: usize, float: Bits) -> Drawing {
 
 #[cfg(test)]
 mod tests {
-    use super::{beyond, halves, powers, quarters, units, INFINITE, LIMIT, NANS};
+    use super::{beyond, halves, powers, quarters, units, INFINITE, NANS, NARROW};
 
     #[test]
     fn each_class_is_what_it_says() {
@@ -218,6 +220,6 @@ mod tests {
         assert!(beyond().iter().all(|float| reply(float) == 3));
         assert!(NANS.iter().chain(&INFINITE).all(|float| reply(float) == 14));
         assert_eq!(halves().iter().filter(|float| reply(float) == 3).count(), 4);
-        assert!(halves().iter().any(|float| units(*float) == Ok(LIMIT)));
+        assert!(halves().iter().any(|float| units(*float) == Ok(NARROW)));
     }
 }

@@ -8,7 +8,8 @@ use crate::line::Row;
 use crate::point::MOST_POINTS;
 use crate::sets::flat::Set;
 use requests::drawing::{Drawing, CLOSE, LINE, MOVE};
-use requests::exact::{millimetres, Bits, LIMIT};
+use requests::exact::{millimetres, Bits};
+use requests::grid::NARROW;
 
 /// So many points in one contour.
 fn one(points: usize) -> Drawing {
@@ -27,7 +28,7 @@ fn sound(kinds: Vec<u8>) -> Drawing {
         kinds,
         floats: vec![],
     };
-    drawing.floats = vec![millimetres(-LIMIT); drawing.brought()];
+    drawing.floats = vec![millimetres(-NARROW); drawing.brought()];
     drawing
 }
 
@@ -56,8 +57,8 @@ pub fn imports() -> Vec<Case> {
         and_then(one(behind), &[CLOSE, CLOSE], 0),
         and_then(one(behind), &[CLOSE, LINE], 0),
         and_then(apart(behind), &[LINE], NANS[1]),
-        and_then(apart(behind), &[MOVE], millimetres(LIMIT) + 5_000_000),
-        and_then(apart(behind), &[MOVE], millimetres(LIMIT) + 5),
+        and_then(apart(behind), &[MOVE], millimetres(NARROW) + 5_000_000),
+        and_then(apart(behind), &[MOVE], millimetres(NARROW) + 5),
         and_then(one(3), &[CLOSE, 9], 0),
     ] {
         cases.extend([longer(&drawing), import([0, 0], &drawing)]);
@@ -75,7 +76,7 @@ fn set(points: usize, ends: &[usize]) -> Set {
     Set {
         contours: ranges.map(|(start, &end)| [start, end]).collect(),
         shapes: vec![],
-        points: Row::wound(&[LIMIT, 1 - LIMIT], points),
+        points: Row::wound(&[NARROW, 1 - NARROW], points),
     }
 }
 

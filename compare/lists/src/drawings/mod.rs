@@ -31,6 +31,7 @@ pub fn list() -> Vec<Case> {
         back::coordinates(),
         back::ranges(),
         back::off_in_one_place(),
+        back::off_the_narrow_grid(),
         back::rows(),
         back::random(),
         large::exports(),

@@ -2,7 +2,7 @@
 
 use super::case::Case;
 use super::sound::{file, random_file, reading};
-use crate::contours::damaged::OFF_GRID;
+use crate::point::OFF_NARROW;
 use crate::rng::Rng;
 use crate::sets::rows::Lengths;
 
@@ -153,7 +153,7 @@ fn with_first_off(file: &[u8]) -> Vec<u8> {
     let mut file = file.to_vec();
     let filled = |&&place: &&usize| pair(&file, place) & 0x7fff > 0;
     if let Some(&place) = headers(&file).iter().find(filled) {
-        file[place + 2..place + 6].copy_from_slice(&OFF_GRID[0].to_be_bytes());
+        file[place + 2..place + 6].copy_from_slice(&OFF_NARROW[0].to_be_bytes());
     }
     file
 }
@@ -166,13 +166,13 @@ pub fn off_in_one_place() -> Vec<Case> {
     for header in headers(&file) {
         let points = usize::from(pair(&file, header) & 0x7fff);
         for number in 0..2 * points {
-            for off in OFF_GRID {
+            for off in OFF_NARROW {
                 let mut file = file.clone();
                 let place = header + 2 + 4 * number;
                 file[place..place + 4].copy_from_slice(&off.to_be_bytes());
                 damaged.push(file);
             }
-            let last = damaged[damaged.len() - 1 - number % OFF_GRID.len()].clone();
+            let last = damaged[damaged.len() - 1 - number % OFF_NARROW.len()].clone();
             damaged.push(longer(&last, &[0]));
             damaged.push(last[..last.len() - 1].to_vec());
         }

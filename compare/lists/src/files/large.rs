@@ -4,14 +4,14 @@ use super::case::{Case, LONGEST, MOST_RECORDS};
 use super::sound::{around, exact, file, file_of, need, reading};
 use super::writings::beside;
 use crate::line::Row;
-use crate::point::{Point, LIMIT, MOST_POINTS};
+use crate::point::{Point, MOST_POINTS, NARROW};
 use crate::sets::flat::{Record, Set};
 use requests::edition::{MOST_BYTES, MOST_CONTOURS};
 
 /// The most points of a file.
 pub const MOST_IN_A_FILE: usize = 8191;
 
-const POINT: Point = [LIMIT, -LIMIT];
+const POINT: Point = [NARROW, -NARROW];
 
 /// So many points, in contours that end at these, in one shape.
 fn set(points: usize, ends: &[usize]) -> Set {
@@ -129,7 +129,7 @@ pub fn writings() -> Vec<Case> {
 fn spoilt_set(set: &Set) -> Vec<Set> {
     let contours = set.contours.len();
     let mut spoilt = vec![set.clone(); 4];
-    spoilt[0].points.numbers.fill(LIMIT + 1);
+    spoilt[0].points.numbers.fill(NARROW + 1);
     spoilt[1].shapes.push([contours, contours]);
     spoilt[2].contours[contours - 1][0] += 1;
     spoilt[3].points = Row::wound(&[5], 2 * set.points.times - 1);

@@ -2,7 +2,7 @@
 
 use super::large::MOST_IN_A_FILE;
 use crate::cleaner::{contour, Cleaner};
-use crate::point::{Point, LIMIT};
+use crate::point::{Point, NARROW};
 use i_shape::int::area::Area;
 use requests::edition::{read, write, Shape, MOST_BYTES, MOST_CONTOURS};
 use std::path::Path;
@@ -61,12 +61,12 @@ const WORKED: &[&[Point]] = &[
     &[[0, 0], [4, 0], [4, 0]],
 ];
 
-/// The whole grid, clockwise.
+/// The whole narrow grid, clockwise.
 const GRID: [Point; 4] = [
-    [-LIMIT, -LIMIT],
-    [-LIMIT, LIMIT],
-    [LIMIT, LIMIT],
-    [LIMIT, -LIMIT],
+    [-NARROW, -NARROW],
+    [-NARROW, NARROW],
+    [NARROW, NARROW],
+    [NARROW, -NARROW],
 ];
 
 /// The file of one contour.
@@ -87,7 +87,7 @@ fn stair(count: usize) -> Vec<Point> {
 
 fn files() -> Vec<(&'static str, Vec<u8>)> {
     let worked: Vec<Vec<Point>> = WORKED.iter().map(|contour| contour.to_vec()).collect();
-    let off = one(&[[0, 0], [LIMIT + 1, 0]]);
+    let off = one(&[[0, 0], [NARROW + 1, 0]]);
     let squares: Vec<Shape> = vec![vec![WORKED[7].to_vec()]; MOST_CONTOURS / 3];
     let wound = [1, 4, 8].map(|times| GRID.repeat(times));
     let straight: Vec<Point> = (0..MOST_IN_A_FILE as i32).map(|x| [x, x / 8190]).collect();
@@ -113,7 +113,7 @@ fn files() -> Vec<(&'static str, Vec<u8>)> {
         ("refused_2_full", longer(write(&full), MOST_BYTES + 1)),
         ("refused_2_edition", vec![0x20; MOST_BYTES + 1]),
         ("refused_3", off.clone()),
-        ("refused_3_low", one(&[[0, -LIMIT - 1]])),
+        ("refused_3_low", one(&[[0, -NARROW - 1]])),
         ("refused_9", vec![0x20, 0]),
         (
             "refused_9_whole",

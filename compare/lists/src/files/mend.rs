@@ -87,7 +87,7 @@ impl fmt::Display for Mending {
 mod tests {
     use super::{Lent, Mending};
     use requests::edition::write;
-    use requests::grid::LIMIT;
+    use requests::grid::NARROW;
 
     #[test]
     fn the_first_refusal_is_given_and_leaves_the_rows() {
@@ -118,7 +118,7 @@ mod tests {
     #[test]
     fn what_is_written_stands_in_front_of_the_rows() {
         let lent = Lent { out: 17, list: 4 };
-        let shape = vec![vec![], vec![[7, 8], [9, -LIMIT - 1]]];
+        let shape = vec![vec![], vec![[7, 8], [9, -NARROW - 1]]];
         let damaged = [write(&[shape]), vec![5; 15]].concat();
         assert_eq!(damaged.len(), 37);
         let mending = Mending::new(Lent { out: 38, list: 4 }, &damaged);

@@ -4,8 +4,7 @@ use super::case::{Case, LONGEST_MENDED};
 use super::damaged::{headers, pair, with_pair};
 use super::mend::Lent;
 use super::sound::random_file;
-use crate::contours::damaged::OFF_GRID;
-use crate::point::Point;
+use crate::point::{Point, OFF_NARROW};
 use crate::rng::Rng;
 use crate::sets::small::rows_up_to;
 use std::collections::HashSet;
@@ -98,7 +97,7 @@ fn rows_of_contours(most: usize) -> Vec<Vec<Contour>> {
     let kinds = [(true, true), (true, false), (false, true), (false, false)];
     let contour = |(place, &(begins, on)): (usize, &(bool, bool))| {
         let points = (0..(place + 1) % 3).map(|k| [place as i32, k as i32 - 1]);
-        let off = OFF_GRID[place % OFF_GRID.len()];
+        let off = OFF_NARROW[place % OFF_NARROW.len()];
         let last = if place % 2 == 0 { [off, 5] } else { [-6, off] };
         (begins, points.chain((!on).then_some(last)).collect())
     };
@@ -136,7 +135,7 @@ pub fn rows() -> Vec<Case> {
     let whole = file_of(&[
         (false, vec![[1, 2]]),
         (true, vec![[3, 4], [5, 6]]),
-        (false, vec![[7, OFF_GRID[0]]]),
+        (false, vec![[7, OFF_NARROW[0]]]),
         (true, vec![]),
     ]);
     let mut cases = vec![];
@@ -213,7 +212,7 @@ fn put_off(file: &mut [u8], header: usize, rng: &mut Rng) {
     let numbers = 2 * usize::from(pair(file, header) & 0x7fff);
     if numbers > 0 {
         let place = header + 2 + 4 * rng.below(numbers);
-        file[place..place + 4].copy_from_slice(&rng.pick(&OFF_GRID).to_be_bytes());
+        file[place..place + 4].copy_from_slice(&rng.pick(&OFF_NARROW).to_be_bytes());
     }
 }
 

@@ -52,6 +52,7 @@ fn writings() -> Vec<Case> {
         writings::small(),
         writings::ranges(),
         writings::off_in_one_place(),
+        writings::off_the_narrow_grid(),
         writings::random(),
         writings::rows(),
         large::writings(),

@@ -1,7 +1,7 @@
 //! Sound files, read into rows as long as needed, longer and shorter.
 
 use super::case::{Case, LONGEST};
-use crate::point::LIMIT;
+use crate::point::NARROW;
 use crate::rng::Rng;
 use crate::sets::flat::Set;
 use crate::sets::random;
@@ -48,9 +48,9 @@ pub fn small() -> Vec<Case> {
     files.iter().map(|sizes| exact(&file(sizes))).collect()
 }
 
-/// Coordinates at the ends of the grid, around zero, and with ones and zeros in every byte.
+/// Coordinates at the ends of the narrow grid, around zero, and with ones and zeros in every byte.
 pub fn coordinates() -> Vec<Case> {
-    let mut chosen = vec![0, 1, -1, LIMIT, LIMIT - 1, -LIMIT, -LIMIT + 1];
+    let mut chosen = vec![0, 1, -1, NARROW, NARROW - 1, -NARROW, 1 - NARROW];
     chosen.extend([0x0102_0304, 0x1020_3040, 0x00ff_00ff, -0x0102_0304]);
     for power in [7, 8, 15, 16, 23, 24, 28] {
         let power = 1 << power;
@@ -68,7 +68,7 @@ pub fn random() -> Vec<Case> {
 }
 
 pub fn random_file(rng: &mut Rng) -> Vec<u8> {
-    let mut set = random::set(rng);
+    let mut set = random::set(NARROW, rng);
     set.shapes.retain(|[start, end]| start < end);
     file_of(&set)
 }

@@ -1,9 +1,10 @@
 //! Sets to be written, into rows as long as needed, longer and shorter.
 
 use super::case::{Case, MOST_FILE};
-use crate::contours::damaged::OFF_GRID;
 use crate::line::Row;
+use crate::point::{LIMIT, NARROW, OFF_NARROW};
 use crate::rng::Rng;
+use crate::sets::chosen::wide;
 use crate::sets::flat::Set;
 use crate::sets::random;
 use crate::sets::ranges::{contour_ranges, shape_ranges};
@@ -56,12 +57,12 @@ pub fn off_in_one_place() -> Vec<Case> {
     let mut sets = vec![];
     let sound = set(&[vec![3, 0], vec![2], vec![1]]);
     for place in 0..sound.points.numbers.len() {
-        for off in OFF_GRID {
+        for off in OFF_NARROW {
             let mut set = sound.clone();
             set.points.numbers[place] = off;
             sets.push(set);
         }
-        let mut set = sets[sets.len() - 1 - place % OFF_GRID.len()].clone();
+        let mut set = sets[sets.len() - 1 - place % OFF_NARROW.len()].clone();
         let contours = set.contours.len();
         set.shapes.push([contours, contours]);
         sets.push(set.clone());
@@ -73,14 +74,20 @@ pub fn off_in_one_place() -> Vec<Case> {
     in_turn(&sets)
 }
 
-/// Random sets, sound and with damages.
+/// Sets that are on the grid and off the narrow one.
+pub fn off_the_narrow_grid() -> Vec<Case> {
+    in_turn(&wide())
+}
+
+/// Random sets, sound, with damages, and on the grid where it is wider than the narrow one.
 pub fn random() -> Vec<Case> {
     let rng = &mut Rng::new(603);
-    let sound: Vec<Set> = (0..100).map(|_| random::set(rng)).collect();
+    let sound: Vec<Set> = (0..100).map(|_| random::set(NARROW, rng)).collect();
     let damaged: Vec<Set> = (0..150)
-        .map(|_| random::spoil(random::set(rng), rng))
+        .map(|_| random::spoil(random::set(NARROW, rng), &OFF_NARROW, rng))
         .collect();
-    in_turn(&[sound, damaged].concat())
+    let wide: Vec<Set> = (0..50).map(|_| random::set(LIMIT, rng)).collect();
+    in_turn(&[sound, damaged, wide].concat())
 }
 
 /// Chosen sets with every choice of the row; points without ranges, and contours without shapes.

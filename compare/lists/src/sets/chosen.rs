@@ -5,9 +5,9 @@ use super::flat::{Record, Set, MOST_RECORDS};
 use super::packing::{Call, Form, Packed};
 use super::rows::{Lengths, Offsets, OFFSETS};
 use super::small::set;
-use crate::contours::damaged::OFF_GRID;
+use crate::ends::{self, BETWEEN, FAR, NEAR, PAST};
 use crate::line::Row;
-use crate::point::{LIMIT, MOST_POINTS};
+use crate::point::{LIMIT, MOST_POINTS, OFF_GRID};
 
 /// Every question about each set.
 pub fn asked(sets: &[Set]) -> Vec<Case> {
@@ -118,6 +118,58 @@ pub fn rows() -> Vec<Case> {
 pub fn off_in_one_place() -> Vec<Case> {
     let sets = off_grid(&set(&[vec![3, 2], vec![], vec![1]]));
     [asked(&sets), packed_in_turn(&sets, 3)].concat()
+}
+
+/// Sets of one contour with a number at an end of the grid or past it, in each place in turn; and additions of such a
+/// contour.
+pub fn at_the_ends() -> Vec<Case> {
+    let on = one_contour(&ends::rows(&[LIMIT, -LIMIT], &NEAR, &[2, 4, 6, 8]));
+    let past = one_contour(&ends::rows(&PAST, &NEAR, &[1, 2, 3, 4, 5, 6, 7, 8, 9]));
+    let sets = [on, past].concat();
+    [asked(&sets), packed_in_turn(&sets, 1), added_at_the_ends()].concat()
+}
+
+/// Each row as the points of one contour in one shape.
+pub fn one_contour(rows: &[Vec<i32>]) -> Vec<Set> {
+    let set = |row: &Vec<i32>| Set {
+        contours: vec![[0, row.len() / 2]],
+        shapes: vec![[0, 1]],
+        points: Row::wound(row, 1),
+    };
+    rows.iter().map(set).collect()
+}
+
+/// A row at the ends of the grid and past them is added to a set that is itself at the ends.
+fn added_at_the_ends() -> Vec<Case> {
+    let set = &one_contour(&[FAR.to_vec()])[0];
+    let mut cases = vec![];
+    for form in [3, 7].into_iter().filter_map(Form::numbered) {
+        for more in ends::rows(&[LIMIT, PAST[0], PAST[1]], &FAR, &[2, 4, 8]) {
+            let ranges = [[0, more.len() / 2]];
+            let lent = need(form, set, &more, &ranges);
+            cases.push(added(form, lent, set, &more, &ranges));
+        }
+    }
+    cases
+}
+
+/// What every form makes of a set that is on the grid and off the narrow one.
+pub fn off_the_narrow_grid() -> Vec<Case> {
+    let sets = wide();
+    [asked(&sets), packed_in_turn(&sets, 4)].concat()
+}
+
+/// Sets with a number of the grid that is off the narrow one, in each place in turn, and with no other.
+pub fn wide() -> Vec<Set> {
+    let mut sets = vec![];
+    let sound = set(&[vec![3, 2], vec![1]]);
+    for place in 0..sound.points.numbers.len() {
+        let mut set = sound.clone();
+        set.points.numbers[place] = BETWEEN[place % BETWEEN.len()];
+        sets.push(set);
+    }
+    sets.extend(one_contour(&[FAR.to_vec(), BETWEEN.to_vec()]));
+    sets
 }
 
 /// The set of three contours with one number off the grid, in each place in turn; that with

@@ -23,6 +23,8 @@ pub fn list() -> Vec<Case> {
         random::sound(),
         random::damaged(),
         chosen::off_in_one_place(),
+        chosen::at_the_ends(),
+        chosen::off_the_narrow_grid(),
         chosen::rows(),
         chosen::many_records(),
         chosen::many_points(),

@@ -3,30 +3,30 @@
 use super::case::Case;
 use super::chosen::{asked, packed_in_turn};
 use super::flat::{Record, Set};
-use crate::contours::damaged::OFF_GRID;
 use crate::contours::unclean::spoilt;
-use crate::point::{Point, LIMIT};
+use crate::point::{Point, LIMIT, OFF_GRID};
 use crate::rng::Rng;
 use crate::shapes::{at_ends, convex, flat, scattered, star, with_spike, with_straight_runs};
 
 /// Sets of up to five shapes of up to four contours.
 pub fn sound() -> Vec<Case> {
     let rng = &mut Rng::new(501);
-    let sets: Vec<Set> = (0..250).map(|_| set(rng)).collect();
+    let sets: Vec<Set> = (0..250).map(|_| set(LIMIT, rng)).collect();
     [asked(&sets), packed_in_turn(&sets, 3)].concat()
 }
 
-pub fn set(rng: &mut Rng) -> Set {
-    let shapes: Vec<_> = (0..rng.below(6)).map(|_| shape(rng)).collect();
+/// On the grid with this end.
+pub fn set(end: i32, rng: &mut Rng) -> Set {
+    let shapes: Vec<_> = (0..rng.below(6)).map(|_| shape(end, rng)).collect();
     Set::of(&shapes)
 }
 
-fn shape(rng: &mut Rng) -> Vec<Vec<Point>> {
-    (0..rng.below(5)).map(|_| contour(rng)).collect()
+fn shape(end: i32, rng: &mut Rng) -> Vec<Vec<Point>> {
+    (0..rng.below(5)).map(|_| contour(end, rng)).collect()
 }
 
 /// Outlines and holes: empty, short, flat, spoilt, or a polygon.
-fn contour(rng: &mut Rng) -> Vec<Point> {
+fn contour(end: i32, rng: &mut Rng) -> Vec<Point> {
     let n = rng.between(3, 6) as usize;
     match rng.below(9) {
         0 => vec![],
@@ -34,28 +34,31 @@ fn contour(rng: &mut Rng) -> Vec<Point> {
         2 => flat(n, rng),
         3 => spoilt(rng),
         4 => star(n, 9, rng),
-        5 => at_ends(n, rng),
+        5 => at_ends(n, end, rng),
         6 => with_spike(&scattered(n, 4, rng), rng),
         7 => with_straight_runs(&convex(n, 3, rng), rng),
-        _ => scattered(n, rng.pick(&[2, 100, LIMIT]), rng),
+        _ => scattered(n, rng.pick(&[2, 100, end]), rng),
     }
 }
 
 /// Sets with one to three damages: of the ranges, of the count, or of a number.
 pub fn damaged() -> Vec<Case> {
     let rng = &mut Rng::new(502);
-    let sets: Vec<Set> = (0..300).map(|_| spoil(set(rng), rng)).collect();
+    let sets: Vec<Set> = (0..300)
+        .map(|_| spoil(set(LIMIT, rng), &OFF_GRID, rng))
+        .collect();
     [asked(&sets), packed_in_turn(&sets, 3)].concat()
 }
 
-pub fn spoil(mut set: Set, rng: &mut Rng) -> Set {
+/// A number that is damaged is one of these.
+pub fn spoil(mut set: Set, off: &[i32], rng: &mut Rng) -> Set {
     for _ in 0..rng.pick(&[1, 1, 2, 3]) {
         match rng.below(8) {
             0 => set.points.numbers.push(0),
             1 | 2 => {
                 let place = rng.below(set.points.numbers.len());
                 if let Some(number) = set.points.numbers.get_mut(place) {
-                    *number = rng.pick(&OFF_GRID);
+                    *number = rng.pick(off);
                 }
             }
             3 => set

@@ -7,8 +7,9 @@
 //! - the wrapping sum and product, and the half that cuts toward zero, of i64;
 //! - `Triangle::is_clockwise` is strict: three points on one line are not clockwise.
 //!
-//! Differences of grid points lie within ±2^30, so neither a difference nor a
-//! cross or dot of two of them overflows.
+//! Differences of grid points lie within ±2,147,483,646, which an i32 holds, and
+//! the cross and the dot of two of them within ±(2^63 - 2^34 + 8), which an i64
+//! holds. The manifests have overflow checks on: a run stops where one would not.
 //!
 //! With the feature `count` every cross product is counted: the walks ask for one in each decision.
 

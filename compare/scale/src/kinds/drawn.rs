@@ -7,6 +7,7 @@ use lists::drawings::case::LONGEST_IN;
 use lists::drawings::faults::any_import;
 use lists::drawings::floats::{any, on_grid};
 use lists::drawings::sound::{beside, import, need};
+use lists::point::NARROW;
 use lists::rng::Rng;
 use requests::drawing::{Drawing, CLOSE, LINE, MOVE};
 use requests::exact::Bits;
@@ -26,7 +27,7 @@ pub fn long(tally: &mut Tally, rng: &mut Rng) {
     let lent = beside(need(&drawing), offsets, LONGEST_IN);
     tally.compare(&import(lent, &drawing));
     let count = length(rng);
-    tally.compare(&around(&set_of(count, rng), offsets));
+    tally.compare(&around(&set_of(count, NARROW, rng), offsets));
 }
 
 /// Contours of a length that is the drawing's own, by turns closed or not; one drawing in four has a fault somewhere.

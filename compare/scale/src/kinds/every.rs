@@ -3,7 +3,15 @@
 use crate::tally::Tally;
 use lists::contours::case::Case;
 use lists::contours::tiny::square;
-use lists::point::{Point, LIMIT};
+use lists::drawings::back;
+use lists::drawings::sound::exact;
+use lists::files::damaged::rows;
+use lists::files::mendings::{file_of, mending};
+use lists::files::sound::reading;
+use lists::files::writings;
+use lists::point::{Point, LIMIT, NARROW};
+use lists::sets::flat::Set;
+use requests::drawing::Drawing;
 
 /// Asked in turn about the points in the grid and around it.
 pub fn on_three_by_three(tally: &mut Tally) {
@@ -28,6 +36,22 @@ pub fn at_the_ends(tally: &mut Tally) {
 pub fn one_past(tally: &mut Tally) {
     let places = places(&[-LIMIT - 1, -LIMIT, 0, LIMIT, LIMIT + 1]);
     every(tally, 3, &places, &around_the_ends());
+}
+
+/// As a file, read and mended, as a set, written and given back, and as a drawing.
+pub fn carried_at_the_ends(tally: &mut Tally) {
+    let past = [NARROW, NARROW + 1, LIMIT, LIMIT + 1];
+    let ends = past.map(|end| [end, -end]).concat();
+    each_contour(2, &places(&[&ends[..], &[0]].concat()), |contour| {
+        let contour = contour.to_vec();
+        let file = file_of(&[(true, contour.clone())]);
+        let set = Set::of(&[vec![contour.clone()]]);
+        tally.compare(&reading(rows(0, file.len()), &file));
+        tally.compare(&mending(&file, [0, 0]));
+        tally.compare(&writings::beside(&set, 0));
+        tally.compare(&back::around(&set, [0, 0]));
+        tally.compare(&exact(&Drawing::of(&[contour])));
+    });
 }
 
 fn around_the_ends() -> Vec<Point> {

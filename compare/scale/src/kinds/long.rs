@@ -6,10 +6,9 @@ use lists::cleaning::case::{self, Form};
 use lists::cleaning::lent::{asked, point_for};
 use lists::contours::asked;
 use lists::contours::case::{Case, Kind};
-use lists::contours::damaged::OFF_GRID;
 use lists::contours::unclean::{returning, stroll};
 use lists::files::writings::beside;
-use lists::point::{Point, LIMIT, MOST_POINTS};
+use lists::point::{Point, LIMIT, MOST_POINTS, NARROW, OFF_GRID};
 use lists::rng::Rng;
 use lists::sets::flat::Set;
 use lists::sets::packing::Form as Packing;
@@ -29,18 +28,18 @@ pub fn length(rng: &mut Rng) -> usize {
     }
 }
 
-/// A contour of any form, of so many points.
-fn of_length(count: usize, rng: &mut Rng) -> Vec<Point> {
+/// A contour of any form, of so many points, most of them on the grid with this end.
+fn of_length(count: usize, end: i32, rng: &mut Rng) -> Vec<Point> {
     if count < 6 {
         return scattered(count, 1, rng);
     }
-    let stride = LIMIT / 2 / count as i32;
+    let stride = end / 2 / count as i32;
     let contour = match rng.below(11) {
         0 => scattered(count, 1, rng),
-        1 => scattered(count, LIMIT, rng),
-        2 => at_ends(count, rng),
+        1 => scattered(count, end, rng),
+        2 => at_ends(count, end, rng),
         3 => flat(count, rng),
-        4 => turned(star(count, LIMIT, rng), rng),
+        4 => turned(star(count, end, rng), rng),
         5 => turned(convex(count, stride, rng), rng),
         6 => with_spike(&convex(count - 1, stride, rng), rng),
         7 => with_repeats(&stroll(count, rng), rng),
@@ -54,7 +53,7 @@ fn of_length(count: usize, rng: &mut Rng) -> Vec<Point> {
 /// One in four is of an odd count or has a number off the grid.
 pub fn contour(tally: &mut Tally, rng: &mut Rng) {
     let count = length(rng);
-    let contour = of_length(count, rng);
+    let contour = of_length(count, LIMIT, rng);
     let asked = asked::about(&contour, rng);
     let mut numbers = contour.concat();
     match rng.below(16) {
@@ -69,26 +68,26 @@ pub fn contour(tally: &mut Tally, rng: &mut Rng) {
 }
 
 /// Up to four shapes of up to four contours, and so many points in all.
-pub fn set_of(count: usize, rng: &mut Rng) -> Set {
+pub fn set_of(count: usize, end: i32, rng: &mut Rng) -> Set {
     let mut shapes = vec![];
     let mut left = count;
     for _ in 0..rng.between(1, 4) {
         let mut shape = vec![];
         for _ in 0..rng.below(5) {
             let part = rng.below(left + 1);
-            shape.push(of_length(part, rng));
+            shape.push(of_length(part, end, rng));
             left -= part;
         }
         shapes.push(shape);
     }
-    shapes.push(vec![of_length(left, rng)]);
+    shapes.push(vec![of_length(left, end, rng)]);
     Set::of(&shapes)
 }
 
 /// Every question, cleaning and packing, and the writing, with rows long enough.
 pub fn set(tally: &mut Tally, rng: &mut Rng) {
     let count = length(rng);
-    let set = set_of(count, rng);
+    let set = set_of(count, LIMIT, rng);
     tally.compare(&asked(point_for(&set, rng), &set));
     let lent = case::Lengths {
         scratch: scratch::Lengths::all(count + 3),
@@ -107,4 +106,5 @@ pub fn set(tally: &mut Tally, rng: &mut Rng) {
         tally.compare(&chosen::added(form, lent.rows, &set, &[], &[]));
     }
     tally.compare(&beside(&set, 1));
+    tally.compare(&beside(&set_of(count, NARROW, rng), 1));
 }

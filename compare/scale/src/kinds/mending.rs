@@ -1,11 +1,10 @@
 //! Random files to be mended.
 
 use crate::tally::Tally;
-use lists::contours::damaged::OFF_GRID;
 use lists::files::damaged::damaged_file;
 use lists::files::mendings::{damaged, file_of, mending, offsets, Contour};
 use lists::files::sound::random_file;
-use lists::point::LIMIT;
+use lists::point::{NARROW, OFF_NARROW};
 use lists::rng::Rng;
 
 /// The most bytes and the most contours of a file.
@@ -36,13 +35,13 @@ pub fn long(tally: &mut Tally, rng: &mut Rng) {
     tally.compare(&mending(&file, offsets(rng)));
 }
 
-/// Up to so many points. One contour in four begins a shape, and one in eight has a coordinate off the grid.
+/// Up to so many points. One contour in four begins a shape, and one in eight has a coordinate off the narrow grid.
 fn contour(most: usize, rng: &mut Rng) -> Contour {
-    let reach = rng.pick(&[9, LIMIT]);
+    let reach = rng.pick(&[9, NARROW]);
     let count = rng.below(most + 1);
     let mut points: Vec<_> = (0..count).map(|_| rng.point(reach)).collect();
     if count > 0 && rng.below(8) == 0 {
-        points[rng.below(count)][rng.below(2)] = rng.pick(&OFF_GRID);
+        points[rng.below(count)][rng.below(2)] = rng.pick(&OFF_NARROW);
     }
     (rng.below(4) == 0, points)
 }

@@ -47,7 +47,7 @@ impl Kind {
     }
 }
 
-pub const KINDS: [Kind; 28] = [
+pub const KINDS: [Kind; 29] = [
     Kind::new("the list of contours", All(short::list_of_contours)),
     Kind::new("the list of sets", All(short::list_of_sets)),
     Kind::new(
@@ -69,6 +69,10 @@ pub const KINDS: [Kind; 28] = [
     Kind::new(
         "all contours of up to 3 points at the ends and one past",
         All(every::one_past),
+    ),
+    Kind::new(
+        "files and drawings at the ends of both grids and one past",
+        All(every::carried_at_the_ends),
     ),
     Kind::new("random contours", OneFor(1, short::contour)),
     Kind::new(

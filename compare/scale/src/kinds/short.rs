@@ -12,7 +12,7 @@ use lists::contours::{asked, damaged, located, random, unclean};
 use lists::files::damaged::{damaged_file, rows};
 use lists::files::sound::{around, need, random_file, reading};
 use lists::files::writings::beside;
-use lists::point::Point;
+use lists::point::{Point, LIMIT, NARROW, OFF_GRID, OFF_NARROW};
 use lists::rng::Rng;
 use lists::sets::case::Kind;
 use lists::sets::chosen;
@@ -81,29 +81,33 @@ pub fn cleaned(tally: &mut Tally, rng: &mut Rng) {
     each(tally, around_a_need(&any_contour(rng), rng));
 }
 
-/// One set in four is spoilt.
-fn any_set(rng: &mut Rng) -> Set {
+/// On the grid with this end. One set in four is spoilt, some of those by one of the numbers.
+fn any_set(end: i32, off: &[i32], rng: &mut Rng) -> Set {
     let sound = match rng.below(3) {
         0 => on_grid(1, rng),
         1 => on_grid(2, rng),
-        _ => set(rng),
+        _ => set(end, rng),
     };
     match rng.below(4) {
-        0 => spoil(sound, rng),
+        0 => spoil(sound, off, rng),
         _ => sound,
     }
 }
 
+fn wide_set(rng: &mut Rng) -> Set {
+    any_set(LIMIT, &OFF_GRID, rng)
+}
+
 /// The ranges, and every other question.
 pub fn set_asked(tally: &mut Tally, rng: &mut Rng) {
-    let set = any_set(rng);
+    let set = wide_set(rng);
     each(tally, chosen::asked(std::slice::from_ref(&set)));
     tally.compare(&asked(point_for(&set, rng), &set));
 }
 
 /// In every form.
 pub fn set_cleaned(tally: &mut Tally, rng: &mut Rng) {
-    let set = any_set(rng);
+    let set = wide_set(rng);
     for form in Form::ALL {
         tally.compare(&in_turn(form, &set, rng));
     }
@@ -111,7 +115,7 @@ pub fn set_cleaned(tally: &mut Tally, rng: &mut Rng) {
 
 /// In every form. What is added are the contours of another set.
 pub fn packed(tally: &mut Tally, rng: &mut Rng) {
-    let (set, other) = (any_set(rng), any_set(rng));
+    let (set, other) = (wide_set(rng), wide_set(rng));
     for form in PACKINGS.into_iter().filter_map(Packing::numbered) {
         let (more, ranges) = (other.points.all(), &other.contours);
         let offsets = [(); 3].map(|()| rng.pick(&[-1, 0, 0, 0, 0, 1, 2, 5]));
@@ -135,9 +139,12 @@ pub fn file_read(tally: &mut Tally, rng: &mut Rng) {
     tally.compare(&case);
 }
 
-/// Half the sets have no empty shapes.
+/// Half the sets have no empty shapes, and one in eight is from all over the grid.
 pub fn file_written(tally: &mut Tally, rng: &mut Rng) {
-    let mut set = any_set(rng);
+    let mut set = match rng.below(8) {
+        0 => wide_set(rng),
+        _ => any_set(NARROW, &OFF_NARROW, rng),
+    };
     if rng.below(2) == 0 {
         set.shapes.retain(|[start, end]| start != end);
     }
