@@ -6,6 +6,7 @@
 
 use i_float::int::point::IntPoint;
 use i_shape::flat::buffer::FlatShapesBuffer;
+use requests::grid::NARROW;
 
 type Point = IntPoint<i32>;
 
@@ -68,7 +69,7 @@ pub struct Lost {
 }
 
 fn on_grid(points: &[u8]) -> bool {
-    points.chunks_exact(4).all(|bytes| (-536_870_912..=536_870_912).contains(&number(bytes)))
+    points.chunks_exact(4).all(|bytes| (-NARROW..=NARROW).contains(&number(bytes)))
 }
 
 /// The front contour: its header, its bytes with the header, and what is behind it, or nothing if it is not all there.

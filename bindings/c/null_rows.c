@@ -44,6 +44,7 @@ int main(void)
     DUE(ukm_is_simple(NO), a.reply == 0 && !a.yes);
     DUE(ukm_has_no_spikes(NO), a.reply == 0 && !a.yes);
     DUE(ukm_contains(NO, 1, 1), a.reply == 0 && !a.yes);
+    DUE(ukm_contains(NO, UKM_LIMIT, -UKM_LIMIT), a.reply == 0 && !a.yes);
     DUE(ukm_contains(NO, UKM_LIMIT + 1, 1), a.reply == 3 && !a.yes);
     DUE(ukm_locate(NO, 1, 1), a.reply == 0 && a.place == UKM_OUTSIDE);
     DUE(ukm_locate(NO, 1, UKM_LIMIT + 1), a.reply == 3 && a.place == 0);

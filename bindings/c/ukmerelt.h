@@ -32,8 +32,12 @@
 extern "C" {
 #endif
 
-/* The largest coordinate, either side of 0. */
-#define UKM_LIMIT 536870912
+/* The largest coordinate of the grid, either side of 0: of contours, of sets, and of points asked about. */
+#define UKM_LIMIT 1073741823
+
+/* The largest coordinate of the narrow grid, either side of 0: of set files, read, written or salvaged, and of drawings
+ * in millimetres, in and out. */
+#define UKM_NARROW_LIMIT 536870912
 
 /* The most points of a contour or a set, and the most bytes of a file. */
 #define UKM_MOST 65536
@@ -43,7 +47,8 @@ enum {
     UKM_DONE = 0,        /* done */
     UKM_ODD = 1,         /* an odd count of coordinates */
     UKM_TOO_MANY = 2,    /* over 65,536 points, or a file, read or to be written, over 65,536 bytes */
-    UKM_OFF_GRID = 3,    /* a coordinate, or the asked point, beyond 536,870,912 either side of 0 */
+    UKM_OFF_GRID = 3,    /* a coordinate, or the asked point, beyond 1,073,741,823 either side of 0; of a file or a
+                          * drawing, beyond 536,870,912 */
     UKM_SCRATCH = 4,     /* a scratch row with fewer entries than the input has points */
     UKM_ROOM = 5,        /* an output row that is too short */
     UKM_RANGES = 6,      /* ranges that are not sound */
@@ -333,7 +338,7 @@ UkmPacked ukm_add_shape(const int32_t *points, size_t points_len,
                         UkmRange *records, size_t records_len,
                         UkmRange *groups, size_t groups_len);
 
-/* Set files. */
+/* Set files. Their coordinates lie on the narrow grid: 3 is for one beyond UKM_NARROW_LIMIT. */
 
 /* The shape set of a file. Refuses with 2; with 10 if there are under two bytes; with 9; then contour by contour with
  * 10 for a missing header, 11 for a first contour that begins no shape, 10 for missing points; with 10 for bytes left
@@ -351,18 +356,19 @@ UkmWritten ukm_write_set(const int32_t *points, size_t points_len,
                          uint8_t *bytes, size_t bytes_len);
 
 /* What is sound of a damaged file, as a file in front of out, and which contours are left out, in front of dropped.
- * Contours are taken from the front as long as they are there in full. One with a coordinate off the grid is dropped,
- * and if it began a shape, those behind it up to the next that begins one; a first contour that begins no shape is
- * dropped in the same way. A contour that is off the grid is listed as UKM_OFF_GRID, any other as UKM_NO_SHAPE. What is
- * written is a file that ukm_read_set takes; a sound file is written as it is. Refuses with 2; with 10 if there are
- * under two bytes; with 9; and with 5 if out is shorter than bytes, or dropped than the count of contours that the file
- * promises, which is at most 4,095. */
+ * Contours are taken from the front as long as they are there in full. One with a coordinate off the narrow grid is
+ * dropped, and if it began a shape, those behind it up to the next that begins one; a first contour that begins no
+ * shape is dropped in the same way. A contour that is off the narrow grid is listed as UKM_OFF_GRID, any other as
+ * UKM_NO_SHAPE. What is written is a file that ukm_read_set takes; a sound file is written as it is. Refuses with 2;
+ * with 10 if there are under two bytes; with 9; and with 5 if out is shorter than bytes, or dropped than the count of
+ * contours that the file promises, which is at most 4,095. */
 UkmSalvaged ukm_salvage(const uint8_t *bytes, size_t bytes_len,
                         uint8_t *out, size_t out_len,
                         UkmDropped *dropped, size_t dropped_len);
 
 /* Drawings in millimetres. A drawing is a row of kinds and a row of floats, two for each UKM_MOVE or UKM_LINE, x and y
- * of its place. A millimetre is 1,024 of the library's units, so the grid ends 524,288 mm either side of 0. */
+ * of its place. A millimetre is 1,024 of the library's units. Drawings lie on the narrow grid, which ends 524,288 mm
+ * either side of 0: 3 is for a coordinate beyond that, or beyond UKM_NARROW_LIMIT. */
 
 /* The contour set of a drawing, in front of points and records; shapes is 0. Each coordinate becomes the whole number
  * nearest to 1,024 times the float's exact value, halves away from zero. What is open at the end is ended, and a

@@ -1,7 +1,8 @@
 //! Drawings in millimetres: outlines as commands, brought onto the grid as contours, and given back.
 //!
-//! A millimetre is 1,024 units of the grid, which ends 524,288 mm either side of 0. A coordinate becomes the whole number
-//! nearest to 1,024 times its exact value, halves away from zero.
+//! A millimetre is 1,024 units of the grid. Drawings lie on the narrow grid, which ends at
+//! [`NARROW_LIMIT`](crate::NARROW_LIMIT), 524,288 mm either side of 0. A coordinate becomes the whole number nearest to
+//! 1,024 times its exact value, halves away from zero.
 //!
 //! ```
 //! use ukmerelt::drawing::{Command, Place};
@@ -100,7 +101,8 @@ impl FlatContoursBuffer {
     }
 
     /// The drawing of the set: each contour as a Move, Lines and a Close, an empty one as nothing. That loses nothing
-    /// else: [`import_mm`](Self::import_mm) gives the same contours back.
+    /// else: [`import_mm`](Self::import_mm) gives the same contours back. Refused as `OffGrid` where a coordinate is
+    /// beyond [`NARROW_LIMIT`](crate::NARROW_LIMIT).
     pub fn export_mm(&self) -> Result<Vec<Command>, Refused> {
         let points = self.points.len();
         library::at_most(points)?;

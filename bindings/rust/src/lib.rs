@@ -17,8 +17,9 @@
 //! # }
 //! ```
 //!
-//! Coordinates lie in -536,870,912 .. 536,870,912, and a contour or a set has at most 65,536 points. What is beyond is
-//! refused, as is all else that i_shape would panic at or answer without sense: [`Refused`] says why.
+//! Coordinates and points asked about lie within [`LIMIT`] of 0, those of set files and of drawings within
+//! [`NARROW_LIMIT`], and a contour or a set has at most 65,536 points. What is beyond is refused, as is all else that
+//! i_shape would panic at or answer without sense: [`Refused`] says why.
 
 pub mod drawing;
 pub mod flat;
@@ -29,6 +30,17 @@ mod refused;
 
 pub use int::point::IntPoint;
 pub use refused::Refused;
+
+/// The largest coordinate of the grid, either side of 0: of contours, of sets, and of points asked about.
+pub const LIMIT: i32 = 1_073_741_823;
+
+/// The largest coordinate of the narrow grid, either side of 0: of set files of edition 1, read, written or salvaged, and
+/// of drawings in millimetres, in and out.
+///
+/// A set that goes further is cleaned and asked about like any other, and refused as [`Refused::OffGrid`] by
+/// [`write_set`](flat::buffer::FlatShapesBuffer::write_set) and by
+/// [`export_mm`](flat::buffer::FlatContoursBuffer::export_mm).
+pub const NARROW_LIMIT: i32 = 536_870_912;
 
 /// What a cleaning kept, and after how many decisions.
 #[derive(Debug, Clone, PartialEq, Eq)]

@@ -11,7 +11,8 @@ pub enum Refused {
     Odd,
     /// 2
     TooMany,
-    /// 3
+    /// 3: a coordinate or the asked point is beyond [`LIMIT`](crate::LIMIT), or that of an edition 1 file or a drawing
+    /// beyond [`NARROW_LIMIT`](crate::NARROW_LIMIT).
     OffGrid,
     /// 4
     Scratch,
@@ -89,7 +90,9 @@ impl fmt::Display for Refused {
         f.write_str(match self {
             Refused::Odd => "an odd count of coordinates",
             Refused::TooMany => "over 65,536 points, or a file of over 65,536 bytes",
-            Refused::OffGrid => "a coordinate, or the asked point, beyond 536,870,912 either side of 0",
+            Refused::OffGrid => {
+                "a coordinate, or the asked point, beyond 1,073,741,823 either side of 0; of an edition 1 file or a drawing, beyond 536,870,912"
+            }
             Refused::Scratch => "a scratch row with fewer entries than there are points",
             Refused::Room => "an output row that is too short",
             Refused::Ranges => "ranges that are not sound",

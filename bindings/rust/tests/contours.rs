@@ -3,9 +3,7 @@ use ukmerelt::int::despike::DeSpikeContour;
 use ukmerelt::int::path::{ContourExtension, Location};
 use ukmerelt::int::shape::IntContour;
 use ukmerelt::int::simple::{ContourSimplifier, SimpleContour};
-use ukmerelt::{Cleaned, IntPoint, Refused};
-
-const LIMIT: i32 = 536_870_912;
+use ukmerelt::{Cleaned, IntPoint, Refused, LIMIT, NARROW_LIMIT};
 
 fn contour<const N: usize>(points: [[i32; 2]; N]) -> IntContour {
     points.map(IntPoint::from).to_vec()
@@ -126,6 +124,11 @@ fn a_line_collapses() {
 fn the_limits() {
     let on = contour([[-LIMIT, -LIMIT], [LIMIT, -LIMIT], [0, LIMIT]]);
     assert_eq!(on.is_simple(), Ok(true));
+    let off_the_narrow = contour([[0, 0], [NARROW_LIMIT + 1, 0], [0, 4]]);
+    assert_eq!(
+        off_the_narrow.area_two(),
+        Ok(4 * (i64::from(NARROW_LIMIT) + 1))
+    );
     let off = contour([[0, 0], [LIMIT + 1, 0], [0, 4]]);
     assert_eq!(off.is_simple(), Err(Refused::OffGrid));
     assert_eq!(off.simplified(), Err(Refused::OffGrid));
@@ -141,6 +144,15 @@ fn the_limits() {
         on.locate(IntPoint::new(LIMIT, -LIMIT)),
         Ok(Location::Boundary)
     );
+
+    let whole = contour([
+        [-LIMIT, -LIMIT],
+        [LIMIT, -LIMIT],
+        [LIMIT, LIMIT],
+        [-LIMIT, LIMIT],
+    ]);
+    assert_eq!(whole.area_two(), Ok(9_223_372_019_674_906_632));
+    assert_eq!(whole.is_convex(), Ok(true));
 
     let most: IntContour = (0..65_536).map(|i| IntPoint::new(i, i % 2)).collect();
     assert_eq!(most.is_simple().map(|_| ()), Ok(()));

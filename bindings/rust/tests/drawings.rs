@@ -1,7 +1,7 @@
 use ukmerelt::drawing::Command::{Close, Line, Move};
 use ukmerelt::drawing::{Command, Place};
 use ukmerelt::flat::buffer::FlatContoursBuffer;
-use ukmerelt::{IntPoint, Refused};
+use ukmerelt::{IntPoint, Refused, LIMIT, NARROW_LIMIT};
 
 const MOST: usize = 65_536;
 
@@ -29,9 +29,9 @@ fn a_drawing_comes_in() {
             &[
                 [0, -1024],
                 [26_010, 256],
-                [0, 536_870_912],
+                [0, NARROW_LIMIT],
                 [26_010, 256],
-                [0, 536_870_912],
+                [0, NARROW_LIMIT],
                 [0, -1024]
             ],
             &[[0, 3], [3, 4], [4, 6]],
@@ -60,6 +60,10 @@ fn faulty_commands() {
         (&[Move(at(1e9, f64::INFINITY))], Refused::NotFinite),
         (&[Move(at(0.0, 1e9))], Refused::OffGrid),
         (&[Move(at(524_288.0 + 0.5 / 1024.0, 0.0))], Refused::OffGrid),
+        (
+            &[Move(at(0.0, f64::from(LIMIT) / 1024.0))],
+            Refused::OffGrid,
+        ),
         (
             &[Move(at(1e308, 0.0)), Line(at(f64::NAN, 0.0))],
             Refused::OffGrid,
@@ -135,10 +139,12 @@ fn the_way_back() {
         set(&[[1, 2]], &[[0, 1]; 5]).export_mm(),
         Err(Refused::Ranges)
     );
-    assert_eq!(
-        set(&[[1, 536_870_913]], &[[0, 1]]).export_mm(),
-        Err(Refused::OffGrid)
-    );
+    for off in [NARROW_LIMIT + 1, -NARROW_LIMIT - 1, LIMIT, -LIMIT] {
+        assert_eq!(
+            set(&[[1, off]], &[[0, 1]]).export_mm(),
+            Err(Refused::OffGrid)
+        );
+    }
 }
 
 /// Contours of two points each.

@@ -1,5 +1,5 @@
 use ukmerelt::flat::buffer::FlatShapesBuffer;
-use ukmerelt::{IntPoint, Refused};
+use ukmerelt::{IntPoint, Refused, LIMIT, NARROW_LIMIT};
 
 fn square(from: i32, to: i32) -> Vec<IntPoint> {
     [[from, from], [to, from], [to, to], [from, to]]
@@ -52,6 +52,23 @@ fn damaged_files() {
         FlatShapesBuffer::read_set(&vec![0; 65_537]),
         Err(Refused::TooMany)
     );
+}
+
+#[test]
+fn files_lie_on_the_narrow_grid() {
+    let file = |number: i32| {
+        let point = [number.to_be_bytes(), [0; 4]].concat();
+        [vec![0x10, 1, 0x80, 1], point].concat()
+    };
+    for on in [NARROW_LIMIT, -NARROW_LIMIT] {
+        let set = FlatShapesBuffer::read_set(&file(on)).unwrap();
+        assert_eq!(set.points, [IntPoint::new(on, 0)]);
+        assert_eq!(set.write_set(), Ok(file(on)));
+    }
+    for off in [NARROW_LIMIT + 1, -NARROW_LIMIT - 1, LIMIT, -LIMIT, i32::MIN] {
+        let refused = Err(Refused::OffGrid);
+        assert_eq!(FlatShapesBuffer::read_set(&file(off)), refused, "{off}");
+    }
 }
 
 #[test]

@@ -1,9 +1,7 @@
 use ukmerelt::flat::buffer::FlatShapesBuffer;
 use ukmerelt::flat::file::{salvage, Dropped, Reason, Salvaged};
 use ukmerelt::int::shape::{IntContour, IntShape};
-use ukmerelt::{IntPoint, Refused};
-
-const LIMIT: i32 = 536_870_912;
+use ukmerelt::{IntPoint, Refused, LIMIT, NARROW_LIMIT};
 
 fn triangle(size: i32) -> IntContour {
     [[0, 0], [size, 0], [0, size]].map(IntPoint::from).to_vec()
@@ -17,13 +15,18 @@ fn file(shapes: &[IntShape]) -> Vec<u8> {
 
 /// A shape with a hole and one without. Each contour takes 26 bytes, from the third on.
 fn whole() -> Vec<u8> {
-    file(&[vec![triangle(9), triangle(2)], vec![triangle(LIMIT)]])
+    file(&[vec![triangle(9), triangle(2)], vec![triangle(NARROW_LIMIT)]])
 }
 
-/// The file with the first coordinate of a contour off the grid.
-fn off(mut file: Vec<u8>, contour: usize) -> Vec<u8> {
+/// The file with the first coordinate of a contour off the narrow grid.
+fn off(file: Vec<u8>, contour: usize) -> Vec<u8> {
+    with(-NARROW_LIMIT - 1, file, contour)
+}
+
+/// The file with another first coordinate of a contour.
+fn with(number: i32, mut file: Vec<u8>, contour: usize) -> Vec<u8> {
     let place = 2 + 26 * contour + 2;
-    file[place..place + 4].copy_from_slice(&(-LIMIT - 1).to_be_bytes());
+    file[place..place + 4].copy_from_slice(&number.to_be_bytes());
     file
 }
 
@@ -57,14 +60,17 @@ fn a_file_cut_off() {
 #[test]
 fn coordinates_off_the_grid() {
     let alone = salvaged(
-        file(&[vec![triangle(9)], vec![triangle(LIMIT)]]),
+        file(&[vec![triangle(9)], vec![triangle(NARROW_LIMIT)]]),
         &[(1, Reason::OffGrid)],
         0,
         0,
     );
-    assert_eq!(salvage(&off(whole(), 1)), Ok(alone));
+    assert_eq!(salvage(&off(whole(), 1)), Ok(alone.clone()));
+    for number in [NARROW_LIMIT + 1, LIMIT, -LIMIT, LIMIT + 1] {
+        assert_eq!(salvage(&with(number, whole(), 1)), Ok(alone.clone()));
+    }
     let with_its_hole = salvaged(
-        file(&[vec![triangle(LIMIT)]]),
+        file(&[vec![triangle(NARROW_LIMIT)]]),
         &[(0, Reason::OffGrid), (1, Reason::NoShape)],
         0,
         0,
@@ -89,7 +95,7 @@ fn a_first_contour_that_begins_no_shape() {
     let mut damaged = whole();
     damaged[2] = 0;
     let rest = salvaged(
-        file(&[vec![triangle(LIMIT)]]),
+        file(&[vec![triangle(NARROW_LIMIT)]]),
         &[(0, Reason::NoShape), (1, Reason::NoShape)],
         0,
         0,

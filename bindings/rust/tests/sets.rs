@@ -3,7 +3,7 @@ use ukmerelt::int::area::Area;
 use ukmerelt::int::despike::{DeSpikeShape, DeSpikeShapes};
 use ukmerelt::int::shape::{IntContour, IntShape};
 use ukmerelt::int::simple::{SimpleShape, SimpleShapes};
-use ukmerelt::{Cleaned, IntPoint, Refused};
+use ukmerelt::{Cleaned, IntPoint, Refused, LIMIT, NARROW_LIMIT};
 
 fn contour<const N: usize>(points: [[i32; 2]; N]) -> IntContour {
     points.map(IntPoint::from).to_vec()
@@ -58,7 +58,7 @@ fn a_pin_on_a_rim_has_material() {
     ] {
         assert_eq!(plate.in_shape(IntPoint::new(x, y)), Ok(held), "({x},{y})");
     }
-    let off = IntPoint::new(0, 536_870_913);
+    let off = IntPoint::new(0, LIMIT + 1);
     assert_eq!(plate.in_shape(off), Err(Refused::OffGrid));
 }
 
@@ -115,7 +115,7 @@ fn building_contours() {
     assert_eq!(set.to_contours(), Ok(vec![square(0, 8), line()]));
 
     let before = set.clone();
-    let off = contour([[0, 0], [536_870_913, 0], [0, 1]]);
+    let off = contour([[0, 0], [LIMIT + 1, 0], [0, 1]]);
     assert_eq!(set.add_contour(&off), Err(Refused::OffGrid));
     assert_eq!(set.set_with_contour(&off), Err(Refused::OffGrid));
     assert_eq!(set, before);
@@ -199,9 +199,25 @@ fn shape_ranges_that_are_not_sound() {
 }
 
 #[test]
+fn a_set_off_the_narrow_grid_is_answered_and_not_carried() {
+    for number in [NARROW_LIMIT + 1, -NARROW_LIMIT - 1, LIMIT, -LIMIT] {
+        let mut set = FlatContoursBuffer::default();
+        set.set_with_contour(&contour([[0, 0], [number, 0], [0, 1]]))
+            .unwrap();
+        assert_eq!(set.area_two(), Ok(i64::from(number)));
+        assert_eq!(set.in_shape(IntPoint::new(number, 0)), Ok(true));
+        assert_eq!(set.export_mm(), Err(Refused::OffGrid));
+        let mut shapes = FlatShapesBuffer::default();
+        shapes.add_shape(&[set.points]).unwrap();
+        assert_eq!(shapes.is_simple(), Ok(true));
+        assert_eq!(shapes.write_set(), Err(Refused::OffGrid));
+    }
+}
+
+#[test]
 fn ranges_come_before_the_grid_and_before_an_empty_contour() {
     let mut set = FlatShapesBuffer {
-        points: contour([[0, 0], [536_870_913, 0], [0, 1]]),
+        points: contour([[0, 0], [LIMIT + 1, 0], [0, 1]]),
         contour_ranges: vec![[0, 3], [3, 3]],
         shape_ranges: vec![],
     };

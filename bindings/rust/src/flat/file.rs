@@ -23,7 +23,7 @@ impl FlatShapesBuffer {
         packed.read_shapes(set)
     }
 
-    /// The file of the set.
+    /// The file of the set. Refused as `OffGrid` where a coordinate is beyond [`NARROW_LIMIT`](crate::NARROW_LIMIT).
     pub fn write_set(&self) -> Result<Vec<u8>, Refused> {
         let length = 2 + 2 * self.contour_ranges.len() + 8 * self.points.len();
         library::at_most(length)?;
@@ -70,9 +70,9 @@ pub enum Reason {
     Unknown { number: usize },
 }
 
-/// What is sound of a file whose end is gone, or that has coordinates off the grid, as a file of its own: the contours
-/// that are there in full, without those off the grid, those of a shape whose first contour is off the grid, and those
-/// in front of the first that begins a shape. A sound file comes back as it was.
+/// What is sound of a file whose end is gone, or that has coordinates off the narrow grid, as a file of its own: the
+/// contours that are there in full, without those off that grid, those of a shape whose first contour is off it, and
+/// those in front of the first that begins a shape. A sound file comes back as it was.
 pub fn salvage(bytes: &[u8]) -> Result<Salvaged, Refused> {
     library::at_most(bytes.len())?;
     let mut out = vec![0; bytes.len()];
