@@ -54,20 +54,22 @@ fn with_cleaning(answer: Answer, form: usize, points: &[i32]) -> Answer {
     with_summary(answer, lent(head, points))
 }
 
-// With how many points were kept, the decisions and the checksum of what is handed out; of a collapsed contour with its
-// reply and the decisions.
+// With how many points were kept, the decisions, the turns and the checksum of what is handed out; of a collapsed contour
+// with its reply, the decisions and the turns.
 fn with_summary(answer: Answer, cleaning: Answer) -> Answer {
     let values = cleaning.values;
     if values[0] == replies::COLLAPSED as u64 {
         let collapsed = answer.with(b' ', values[0]);
-        return collapsed.with(b':', values[2]);
+        let decisions = collapsed.with(b':', values[2]);
+        return decisions.with(b':', values[3]);
     }
     if values[0] != replies::DONE as u64 {
         return answer.with(b'!', values[0]);
     }
     let kept = answer.with(b' ', values[1]);
     let decisions = kept.with(b':', values[2]);
-    decisions.with(b':', values[8])
+    let turns = decisions.with(b':', values[3]);
+    turns.with(b':', values[9])
 }
 
 fn in_short_rows(form: usize, points: &[i32]) -> Answer {
@@ -112,8 +114,8 @@ pub fn lent(head: [usize; HEAD], points: &[i32]) -> Answer {
     )
 }
 
-// What is answered of a cleaning in these rows: the reply, the points kept, the decisions, the checksums of the rows, and
-// the part that is handed out of them.
+// What is answered of a cleaning in these rows: the reply, the points kept, the decisions, the turns, the checksums of the
+// rows, and the part that is handed out of them.
 fn after_cleaning(
     form: usize,
     points: &[i32],
@@ -132,6 +134,7 @@ fn of_cleaned(cleaned: Cleaned) -> Answer {
         cleaned.reply as u64,
         cleaned.points as u64,
         cleaned.decisions as u64,
+        cleaned.turns as u64,
     ];
     answer::begin().numbers(&numbers)
 }

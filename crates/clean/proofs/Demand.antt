@@ -2,7 +2,7 @@
 use mathlib.Core.Path.{_≡_}
 use mathlib.Core.Bool.{false}
 use mathlib.Core.List.{List}
-use Prim.Native.Nat.{ℕ, _-_, _*_, _<_, _≤_}
+use Prim.Native.Nat.{ℕ, _+_, _-_, _*_, _<_, _≤_}
 use lib.IntN.{ℤ, pos}
 use Rattle.grid.specs.Points.{points}
 use Rattle.grid.specs.Corners.{corner-in}
@@ -45,9 +45,25 @@ module _ (rule : Rule) (row : List ℤ) (l : Lent) (o : Outcome) (is : o ≡ out
       pub nothing-left-to-remove : (j : ℕ) → j < o .answer .points → goes-at rule (corner-in (kept-points o) j) ≡ false
       nothing-left-to-remove = by-any-rule.nothing-left-to-remove (goes-at rule) row l o is many fits zero-reply
 
+      -- it takes at most 3n turns, less one for each point that is kept
+      pub kept-turns-at-most-3n-less-the-kept : o .answer .turns + o .answer .points ≤ 3 * count row
+      kept-turns-at-most-3n-less-the-kept = by-any-rule.kept-turns-at-most-3n-less-the-kept (goes-at rule) row l o is many fits zero-reply
+
     -- it takes at most 4n - 9 decisions
     pub decisions-at-most-4n-9 : o .answer .decisions ≤ 4 * count row - 9
     decisions-at-most-4n-9 = by-any-rule.decisions-at-most-4n-9 (goes-at rule) row l o is many fits
+
+    -- in at most 5n turns
+    pub turns-at-most-5n : o .answer .turns ≤ 5 * count row
+    turns-at-most-5n = by-any-rule.turns-at-most-5n (goes-at rule) row l o is many fits
+
+    -- of which each decision is one
+    pub decisions-at-most-turns : o .answer .decisions ≤ o .answer .turns
+    decisions-at-most-turns = by-any-rule.decisions-at-most-turns (goes-at rule) row l o is many fits
+
+    -- and of a collapse no other
+    pub a-collapse-has-no-idle-turn : o .answer .reply ≡ 7 → o .answer .turns ≡ o .answer .decisions
+    a-collapse-has-no-idle-turn = by-any-rule.a-collapse-has-no-idle-turn (goes-at rule) row l o is many fits
 
     -- with nothing to remove it comes back unchanged after n
     pub nothing-to-remove : Stands (goes-at rule) (points row) → Unchanged row o

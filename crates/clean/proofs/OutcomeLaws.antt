@@ -1,5 +1,5 @@
 -- What a cleaning comes to.
-use mathlib.Core.Path.{_≡_, refl, sym, _∙_, ap}
+use mathlib.Core.Path.{_≡_, refl, sym, _∙_, ap, ap₂}
 use mathlib.Core.Bool.{Bool, true, false}
 use mathlib.Core.List.{List, [], _++_}
 use Prim.Native.Nat.{ℕ, zero, suc, _<_}
@@ -21,7 +21,7 @@ use Rattle.ring.specs.declared.Ending.{Ending}
 use Rattle.ring.specs.Walk.{Tally, End, survivors, tally, ending, walk}
 use Rattle.ring.specs.Walk.End.{kept, collapsed}
 use Rattle.ring.specs.Rule.{goes-at, goes}
-use Rattle.ring.specs.inside.Rows.{ended-as}
+use Rattle.ring.specs.inside.Rows.{turns-of, ended-as, Ended}
 use Rattle.ring.proofs.Ends.{walk-few}
 use Rattle.clean.specs.declared.cleaning.Cleaned.{Cleaned}
 use Rattle.clean.specs.Outcome.{scratch, room, walked-by, walked, chosen, answer, Lent, lent, leaving, swept, finished, refusal, outcome-by, outcome}
@@ -65,21 +65,21 @@ pub contour-count : {row : List ℤ} {n : ℕ} → Contour row n → count row �
 contour-count c = omega (arith, c .even)
 
 module _ (rule : Rule) (row out : List ℤ) {n : ℕ} (c : Contour row n) where
-  pub settled-few : n < 3 → Settled rule row out (answer 7 0 0) out
+  pub settled-few : n < 3 → Settled rule row out (answer 7 0 0 0) out
   settled-few h =
-      let w : walked rule row ≡ ending collapsed (tally 0) = walk-few (goes rule row) (count row) (omega (arith, contour-count c)) in
+      let w : walked rule row ≡ ending collapsed (tally 0 0) = walk-few (goes rule row) (count row) (omega (arith, contour-count c)) in
       record { answer = rw w; output = rw w }
 
-  module _ (w : Ending) (mark : List ℕ) (e : walk (goes rule row) n ≡ ended-as w mark) where
+  module _ (w : Ending) (mark prev : List ℕ) (e : Ended (goes rule row) n mark prev w) where
     ended-is : walked rule row ≡ ended-as w mark
-    ended-is = ap (walk (goes rule row)) (contour-count c) ∙ e
+    ended-is = ap (walk (goes rule row)) (contour-count c) ∙ e .is
 
-    pub settled-fallen : w .kept ≡ false → Settled rule row out (answer 7 0 (w .decisions)) out
+    pub settled-fallen : w .kept ≡ false → Settled rule row out (answer 7 0 (w .decisions) (w .decisions)) out
     settled-fallen t = record { answer = rw (ended-is, t); output = rw (ended-is, t) }
 
-    pub settled-kept : w .kept ≡ true → (k : ℕ) (exit : List ℤ) → k ≡ length (survivors mark) → exit ≡ front (chosen row (survivors mark)) out
-        → Settled rule row out (answer 0 k (w .decisions)) exit
-    settled-kept t k exit f g = record { answer = rw (ended-is, t) (ap (λ (i : ℕ). answer 0 i (w .decisions)) f); output = rw (ended-is, t) g }
+    pub settled-kept : w .kept ≡ true → (k v : ℕ) (exit : List ℤ) → k ≡ length (survivors mark) → v ≡ turns-of w mark → exit ≡ front (chosen row (survivors mark)) out
+        → Settled rule row out (answer 0 k (w .decisions) v) exit
+    settled-kept t k v exit f h g = record { answer = rw (ended-is, t) (ap₂ (λ (i j : ℕ). answer 0 i (w .decisions) j) f h); output = rw (ended-is, t) g }
 
 -- the parts that are lent on
 pub ready-parts : (row : List ℤ) (l : Lent) → InDomainWithRoom row l
@@ -94,7 +94,7 @@ ready-parts row l a =
     }
 
 module _ (goes : Corner → Bool) (row : List ℤ) (l : Lent) where
-  pub outcome-refused : (k : ℕ) → k ≡ refusal row l → (k ≡ 0 → ⊥) → leaving (answer k 0 0) l ≡ outcome-by goes row l
+  pub outcome-refused : (k : ℕ) → k ≡ refusal row l → (k ≡ 0 → ⊥) → leaving (answer k 0 0 0) l ≡ outcome-by goes row l
   unfolding outcome-by
   outcome-refused zero e n = absurd (n refl)
   outcome-refused (suc k) e n = rw (← e, outcome-by)

@@ -1,7 +1,7 @@
 -- The loops that write the rows.
 use mathlib.Core.Path.{_≡_, refl, sym, _∙_, ap}
 use mathlib.Core.List.{List, [], _∷_, _++_, append-assoc, append-nil}
-use Prim.Native.Nat.{ℕ, suc, _+_, _*_, _<_, _≤_}
+use Prim.Native.Nat.{ℕ, suc, _+_, _-_, _*_, _<_, _≤_}
 use native.Mathlib.Omega.{arith}
 use native.Mathlib.Numerals.{add-one}
 use lib.IntN.{ℤ, pos}
@@ -9,10 +9,12 @@ use lib.ListN.{length, getD, set, drop, replicate, length-set, length-append, le
 use lib.Seq.{drop-cons, drop-length, take-at, drop-at}
 use borrow.Author.Fill.{fill-none, fill-more}
 use Rattle.rows.specs.Rows.{front, zeroed}
-use Rattle.ring.specs.Walk.{survivors-from, survivors}
-use Rattle.ring.proofs.Survivors.{survivors-yes, survivors-no}
+use Rattle.ring.specs.Walk.{unmarked, survivors-from, survivors, occurrences}
+use Rattle.ring.proofs.Survivors.{survivors-yes, survivors-no, survivor-count}
 use Rattle.clean.specs.Outcome.{chosen}
+use Rattle.clean.specs.declared.inner.settling.Survived.{Survived}
 use Rattle.clean.specs.Promises.{Zeroed}
+use Rattle.clean.specs.inside.Settling.{WrittenOut}
 
 pub length-chosen : (row : List ℤ) (s : List ℕ) → length (chosen row s) ≡ 2 * length s
 unfolding chosen
@@ -84,6 +86,13 @@ unfolding survivors-from
 writing-all {row} {mark} {out₀} {out} {kept} {i} x h =
     let e : x .done ≡ survivors mark = sym (append-nil (x .done)) ∙ ap (λ (l : List ℕ). x .done ++ survivors-from i l) (sym (drop-of-length-le mark h)) ∙ x .is in
     (x .kept-is ∙ ap length e, x .output ∙ ap (λ (s : List ℕ). front (chosen row s) out₀) e)
+
+-- those that survive and are not marked are unmarked
+pub pending-unmarked : {row : List ℤ} {mark : List ℕ} {out : List ℤ} {r : Survived} {exit : List ℤ} → WrittenOut row mark out r exit
+    → (r .marked ≤ r .points) × (r .points - r .marked ≡ occurrences unmarked mark)
+pending-unmarked {mark = mark} w =
+    let n = survivor-count 0 mark in
+    (omega (arith, w .points-are, w .marked-are), omega (arith, w .points-are, w .marked-are))
 
 -- so much of a zeroed row is 0, and the rest as it was
 pub zeroed-is : (n : ℕ) (row : List ℕ) → Zeroed n row (zeroed n row)

@@ -3,7 +3,7 @@ use mathlib.Core.Path.{_≡_, refl, sym, _∙_, ap}
 use mathlib.Core.Logic.{_⊎_, inl, inr, ⊎-elim}
 use mathlib.Core.Bool.{Bool, false}
 use mathlib.Core.List.{List, [], _∷_}
-use Prim.Native.Nat.{ℕ, zero, suc, _-_, _*_, _<_, _≤_}
+use Prim.Native.Nat.{ℕ, zero, suc, _+_, _-_, _*_, _<_, _≤_}
 use native.Mathlib.Omega.{arith}
 use lib.IntN.{ℤ, pos, _+ℤ_, +ℤ-idr}
 use lib.ListN.{length, drop, length-map}
@@ -20,7 +20,7 @@ use Rattle.ring.specs.Walk.{Tally, End, Walked, ending, walk}
 use Rattle.ring.specs.Walk.End.{kept, collapsed}
 use Rattle.ring.specs.Rule.{goes-in, CrossZero}
 use Rattle.ring.specs.Promises.{Preserved}
-use Rattle.ring.proofs.Theorems.{ends-in-4n-9, kept-rising, kept-clean, kept-preserves, collapsed-at-three}
+use Rattle.ring.proofs.Theorems.{ends-in-4n-9, decisions-at-most-turns as walk-decides, turns-at-most-3n-3 as walk-in-3n-3, kept-in-3n-turns, collapsed-without-idle, kept-rising, kept-clean, kept-preserves, collapsed-at-three}
 use Rattle.clean.specs.Outcome.{refusals, walked-by, chosen, answer, Lent, Outcome, leaving, swept, with-chosen, finished, refusal, outcome-by}
 use Rattle.clean.specs.Promises.{InDomainWithRoom, Untouched, OnlyZeroed, kept-points, Keeps}
 use Rattle.clean.proofs.OutcomeLaws.{contour, not-refused, outcome-refused, outcome-done}
@@ -60,7 +60,7 @@ module _ (goes : Corner → Bool) (cross-zero : CrossZero goes) (row : List ℤ)
 
 -- Any call by any rule; o is whatever the contract allows.
 module _ (goes : Corner → Bool) (row : List ℤ) (l : Lent) (o : Outcome) (is : o ≡ outcome-by goes row l) where
-  refused : (k : ℕ) → refusal row l ≡ suc k → o ≡ leaving (answer (suc k) 0 0) l
+  refused : (k : ℕ) → refusal row l ≡ suc k → o ≡ leaving (answer (suc k) 0 0 0) l
   refused k e = is ∙ sym (outcome-refused goes row l (suc k) (sym e) (λ z. omega arith))
 
   done : refusal row l ≡ 0 → o ≡ finished row (walked-by goes row .end) (walked-by goes row .tally) l
@@ -124,13 +124,41 @@ module _ (goes : Corner → Bool) (row : List ℤ) (l : Lent) (o : Outcome) (is 
         go (kept s) = ends-in-4n-9 (goes-in goes row) (count row)
         go collapsed = ends-in-4n-9 (goes-in goes row) (count row)
 
+    -- at most 3n - 3 turns, kept or collapsed
+    turns-at-most-3n-3 : o .answer .turns + 3 ≤ 3 * count row
+    turns-at-most-3n-3 = rw cleaned (go (walked-by goes row .end))
+      where
+        go : (e : End) → finished row e (walked-by goes row .tally) l .answer .turns + 3 ≤ 3 * count row
+        go (kept s) = walk-in-3n-3 (goes-in goes row) (count row) many
+        go collapsed = walk-in-3n-3 (goes-in goes row) (count row) many
+
+    -- so at most 5n
+    pub turns-at-most-5n : o .answer .turns ≤ 5 * count row
+    turns-at-most-5n = omega (arith, turns-at-most-3n-3)
+
+    -- no more decisions than turns
+    pub decisions-at-most-turns : o .answer .decisions ≤ o .answer .turns
+    decisions-at-most-turns = rw cleaned (go (walked-by goes row .end))
+      where
+        go : (e : End) → let r = finished row e (walked-by goes row .tally) l .answer in r .decisions ≤ r .turns
+        go (kept s) = walk-decides (goes-in goes row) (count row)
+        go collapsed = walk-decides (goes-in goes row) (count row)
+
+    -- and as many where it collapses: each turn of it decided
+    pub a-collapse-has-no-idle-turn : o .answer .reply ≡ 7 → o .answer .turns ≡ o .answer .decisions
+    a-collapse-has-no-idle-turn seven = rw cleaned (go (walked-by goes row .end) refl)
+      where
+        go : (e : End) → walked-by goes row .end ≡ e → let r = finished row e (walked-by goes row .tally) l .answer in r .turns ≡ r .decisions
+        go (kept s) e = let z : _≡_ {A = ℕ} 0 7 = sym (ap (λ (w : Outcome). w .answer .reply) cleaned ∙ rw e) ∙ seven in absurd (omega arith)
+        go collapsed e = collapsed-without-idle (goes-in goes row) (count row) many e
+
     -- a contour whose exact doubled area isn't zero is kept
     pub kept-if-area : CrossZero goes → (exact (points row) ≡ pos 0 → ⊥) → o .answer .reply ≡ 0
     kept-if-area cross-zero n = ⊎-elim (λ x. rw (cleaned, x .1)) (λ x. absurd (n (collapsed-area goes cross-zero row (contour fits) many x))) ended
 
     keeps : (s : List ℕ) → walked-by goes row .end ≡ kept s → Keeps goes row (l .out) o
     keeps s e =
-        let d : o ≡ leaving (answer 0 (length s) (walked-by goes row .tally .decisions)) (swept (count row) (with-chosen row s l)) = cleaned ∙ rw e in
+        let d : o ≡ leaving (answer 0 (length s) (walked-by goes row .tally .decisions) (walked-by goes row .tally .turns)) (swept (count row) (with-chosen row s l)) = cleaned ∙ rw e in
         let n = length-chosen row s in
         record {
           positions = s;
@@ -151,6 +179,12 @@ module _ (goes : Corner → Bool) (row : List ℤ) (l : Lent) (o : Outcome) (is 
 
       kept-end : walked-by goes row .end ≡ kept (kept-in-order .positions)
       kept-end = ap (λ (w : Walked). w .end) (kept-in-order .walk-is)
+
+      -- in at most 3n turns, less one for each point that is kept
+      pub kept-turns-at-most-3n-less-the-kept : o .answer .turns + o .answer .points ≤ 3 * count row
+      kept-turns-at-most-3n-less-the-kept =
+          let x = kept-in-order in
+          omega (arith, x .count-is, ap (λ (w : Walked). w .tally .turns) (x .walk-is), kept-in-3n-turns (goes-in goes row) (count row) kept-end)
 
       -- the same exact doubled area
       pub kept-same-area : CrossZero goes → exact (kept-points o) ≡ exact (points row)

@@ -59,11 +59,11 @@ module _ (goes : Corner → Bool) (row : List ℤ) {n : ℕ} (c : Contour row n)
           eq-eqb k n e ∙ sym (ap not (corner-none goes (points row) (front-stands (rw e at (x .stand)))))
 
 module _ (goes : Corner → Bool) (row : List ℤ) {n : ℕ} (c : Contour row n) (many : 3 ≤ n) where
-  -- where nothing is to go, all is kept, after exactly n decisions
-  front-unchanged : FirstStand (goes-in goes row) n n → walk (goes-in goes row) n ≡ ending (kept (survivors (fresh n))) (tally n)
+  -- where nothing is to go, all is kept, after exactly n decisions in n turns
+  front-unchanged : FirstStand (goes-in goes row) n n → walk (goes-in goes row) n ≡ ending (kept (survivors (fresh n))) (tally n n)
   front-unchanged f = unchanged-after-n (goes-in goes row) n many (λ q x. f q (rw length-replicate at (inside (fresh n) q x)))
 
-  pub stands-unchanged : Stands goes (points row) → walk (goes-in goes row) n ≡ ending (kept (survivors (fresh n))) (tally n)
+  pub stands-unchanged : Stands goes (points row) → walk (goes-in goes row) n ≡ ending (kept (survivors (fresh n))) (tally n n)
   stands-unchanged f = front-unchanged (λ j h. ring-corner row c goes j h ∙ f j (omega (arith, points-length c)))
 
   -- and where all is kept, nothing was to go
@@ -89,9 +89,9 @@ module _ (row : List ℤ) {n : ℕ} (c : Contour row n) where
 
 -- what a cleaning comes to where no vertex is to go
 module _ (rule : Rule) (row out : List ℤ) {n : ℕ} (c : Contour row n) (many : 3 ≤ n) where
-  pub settled-untouched : {k : ℕ} → Standing (goes-in (goes-at rule) row) n k → k ≡ n → (exit : List ℤ) → exit ≡ front row out → Whole rule row out (answer 0 n n) exit
+  pub settled-untouched : {k : ℕ} → Standing (goes-in (goes-at rule) row) n k → k ≡ n → (exit : List ℤ) → exit ≡ front row out → Whole rule row out (answer 0 n n n) exit
   settled-untouched x all exit e =
-      let w : walked rule row ≡ ending (kept (survivors (fresh n))) (tally n) = ap (walk (goes-in (goes-at rule) row)) (contour-count c) ∙ front-unchanged (goes-at rule) row c many (rw all at (x .stand)) in
+      let w : walked rule row ≡ ending (kept (survivors (fresh n))) (tally n n) = ap (walk (goes-in (goes-at rule) row)) (contour-count c) ∙ front-unchanged (goes-at rule) row c many (rw all at (x .stand)) in
       record { answer = rw (w, fresh-count n); output = rw (w, chosen-all row c) e }
 
 -- as many rising positions as there are places are all of them
@@ -110,7 +110,7 @@ module _ (goes : Corner → Bool) (row : List ℤ) (l : Lent) (o : Outcome) (is 
   pub nothing-to-remove : Stands goes (points row) → Unchanged row o
   nothing-to-remove f =
       let e = stands-unchanged goes row (contour fits) many f in
-      let d : o ≡ leaving (answer 0 (count row) (count row)) (swept (count row) (lent (l .next) (l .prev) (l .mark) (front row (l .out)))) =
+      let d : o ≡ leaving (answer 0 (count row) (count row) (count row)) (swept (count row) (lent (l .next) (l .prev) (l .mark) (front row (l .out)))) =
       is ∙ outcome-done goes row l (not-refused fits) ∙ rw (e, fresh-count (count row), chosen-all row (contour fits)) in
       record { answer-is = ap (λ (w : Outcome). w .answer) d; points-are = rw (d, ← fits .even-count) (take-append-seam row (drop (length row) (l .out))) }
 

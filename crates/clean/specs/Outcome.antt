@@ -41,8 +41,8 @@ unfoldable pub chosen : List ℤ → List ℕ → List ℤ
 chosen row [] = []
 chosen row (i ∷ s) = getD row (2 * i) (pos 0) ∷ getD row (2 * i + 1) (pos 0) ∷ chosen row s
 
-abbrev pub answer : ℕ → ℕ → ℕ → Cleaned
-answer reply points decisions = record { reply = reply; points = points; decisions = decisions }
+abbrev pub answer : ℕ → ℕ → ℕ → ℕ → Cleaned
+answer reply points decisions turns = record { reply = reply; points = points; decisions = decisions; turns = turns }
 
 -- the rows that are lent to a cleaning: the scratch, and the output
 pub record Lent : Type 0 where
@@ -74,8 +74,8 @@ with-chosen row s l = lent (l .next) (l .prev) (l .mark) (front (chosen row s) (
 
 -- a walk that has ended: the kept points are in front of the output, or it has collapsed and the output is as it was; either way the scratch is zeroed
 abbrev pub finished : List ℤ → End → Tally → Lent → Outcome
-finished row (kept s) t l = leaving (answer 0 (length s) (t .decisions)) (swept (count row) (with-chosen row s l))
-finished row collapsed t l = leaving (answer 7 0 (t .decisions)) (swept (count row) l)
+finished row (kept s) t l = leaving (answer 0 (length s) (t .decisions) (t .turns)) (swept (count row) (with-chosen row s l))
+finished row collapsed t l = leaving (answer 7 0 (t .decisions) (t .turns)) (swept (count row) l)
 
 -- the number of the first refusal of a call, or 0
 abbrev pub refusal : List ℤ → Lent → ℕ
@@ -85,7 +85,7 @@ refusal row l = first-of (refusals row (length (l .next)) (length (l .prev)) (le
 unfoldable pub outcome-by : (Corner → Bool) → List ℤ → Lent → Outcome
 outcome-by goes row l =
     elim (refusal row l) [
-      | suc k ↦ leaving (answer (suc k) 0 0) l
+      | suc k ↦ leaving (answer (suc k) 0 0 0) l
       | zero ↦ finished row (walked-by goes row .end) (walked-by goes row .tally) l
     ]
 

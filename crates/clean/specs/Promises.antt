@@ -53,7 +53,7 @@ kept-points o = points (take (2 * o .answer .points) (o .rows .out))
 pub record Keeps (goes : Corner → Bool) (row out : List ℤ) (o : Outcome) : Type 0 where
   pub positions : List ℕ
   pub rising : Rising 0 (count row) positions
-  pub walk-is : walked-by goes row ≡ ending (kept positions) (tally (o .answer .decisions))
+  pub walk-is : walked-by goes row ≡ ending (kept positions) (tally (o .answer .decisions) (o .answer .turns))
   pub count-is : o .answer .points ≡ length positions
   pub points-are : kept-points o ≡ map (at row) positions
   pub rest-is : drop (2 * o .answer .points) (o .rows .out) ≡ drop (2 * o .answer .points) out
@@ -62,7 +62,7 @@ pub record Keeps (goes : Corner → Bool) (row out : List ℤ) (o : Outcome) : T
 abbrev pub Stands : (Corner → Bool) → List Point → Type 0
 Stands goes l = (j : ℕ) → j < length l → goes (corner-in l j) ≡ false
 
--- the contour came back as it was: all its points, after as many decisions
+-- the contour came back as it was: all its points, after as many decisions in as many turns
 pub record Unchanged (row : List ℤ) (o : Outcome) : Type 0 where
-  pub answer-is : o .answer ≡ answer 0 (count row) (count row)
+  pub answer-is : o .answer ≡ answer 0 (count row) (count row) (count row)
   pub points-are : take (2 * count row) (o .rows .out) ≡ row

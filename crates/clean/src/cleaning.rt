@@ -5,12 +5,14 @@ ghost use Rattle.clean.specs.Outcome.{refusals, lent, leaving, outcome};
 use crate::inner::settling;
 use ring::Rule;
 
-// The answer of a cleaning: its reply number, how many points are kept, and after how many decisions.
+// The answer of a cleaning: its reply number, how many points are kept, after how many decisions, and in how many turns:
+// those that decided, and those that stepped over a marked point.
 #[repr(C)]
 pub struct Cleaned {
     pub reply: u32,
     pub points: usize,
     pub decisions: usize,
+    pub turns: usize,
 }
 
 // The number of the first refusal, or 0.
@@ -58,6 +60,7 @@ pub fn clean(
             reply: refused,
             points: 0,
             decisions: 0,
+            turns: 0,
         };
     }
     let n = points.len() / 2;

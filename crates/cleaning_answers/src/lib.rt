@@ -121,6 +121,7 @@ fn of_cleaned(cleaned: CleanedSet) -> Answer {
         cleaned.contours as u64,
         cleaned.shapes as u64,
         cleaned.decisions as u64,
+        cleaned.turns as u64,
     ];
     answer::begin().numbers(&numbers)
 }

@@ -10,7 +10,7 @@ use Rattle.grid.specs.Domain.{count}
 use Rattle.ring.specs.declared.Rule.{Rule}
 use Rattle.ring.specs.declared.Rule.the-variants.{Collinear, Spike}
 use Rattle.ring.specs.Rule.{goes-at}
-use Rattle.ring.specs.Walk.{Tally, End}
+use Rattle.ring.specs.Walk.{Tally, End, tally}
 use Rattle.ring.specs.Walk.End.{kept, collapsed}
 use Rattle.clean.specs.Outcome.{walked, Lent, Outcome, finished, outcome}
 use Rattle.clean.specs.Promises.{InDomainWithRoom, kept-points, Stands}
@@ -18,10 +18,10 @@ use Rattle.clean.proofs.OutcomeLaws.{not-refused, outcome-done}
 use Rattle.clean.proofs.Demand as clean
 use Rattle.promises.specs.Demand3.{Demanded, Demand3}
 
--- a walk that has ended is answered with its decisions
-its-decisions : (row : List ℤ) (e : End) (t : Tally) (l : Lent) → finished row e t l .answer .decisions ≡ t .decisions
-its-decisions row (kept positions) t l = refl
-its-decisions row collapsed t l = refl
+-- a walk that has ended is answered with what it counted
+its-tally : (row : List ℤ) (e : End) (t : Tally) (l : Lent) → tally (finished row e t l .answer .decisions) (finished row e t l .answer .turns) ≡ t
+its-tally row (kept positions) t l = refl
+its-tally row collapsed t l = refl
 
 module _ (rule : Rule) (row : List ℤ) (l : Lent) (o : Outcome) (is : o ≡ outcome rule row l) (many : 3 ≤ count row) (fits : InDomainWithRoom row l) where
   none-to-go : o .answer .reply ≡ 0 → Stands (goes-at rule) (kept-points o)
@@ -30,10 +30,10 @@ module _ (rule : Rule) (row : List ℤ) (l : Lent) (o : Outcome) (is : o ≡ out
       let answered : j < o .answer .points = omega (arith, ap length (keeps .points-are), length-map (keeps .positions) (at row), keeps .count-is) in
       clean.nothing-left-to-remove rule row l o is many fits done j answered
 
-  the-walk's : o .answer .decisions ≡ walked rule row .tally .decisions
+  the-walk's : tally (o .answer .decisions) (o .answer .turns) ≡ walked rule row .tally
   the-walk's =
-      ap (λ (w : Outcome). w .answer .decisions) (is ∙ outcome-done (goes-at rule) row l (not-refused fits))
-      ∙ its-decisions row (walked rule row .end) (walked rule row .tally) l
+      ap (λ (w : Outcome). tally (w .answer .decisions) (w .answer .turns)) (is ∙ outcome-done (goes-at rule) row l (not-refused fits))
+      ∙ its-tally row (walked rule row .end) (walked rule row .tally) l
 
   demanded : Demanded rule row (l .out) (count row) o
   demanded = record {
@@ -42,7 +42,12 @@ module _ (rule : Rule) (row : List ℤ) (l : Lent) (o : Outcome) (is : o ≡ out
     the-same-exact-doubled-area = clean.kept-same-area rule row l o is many fits;
     and-no-vertex-the-rule-would-remove = none-to-go;
     at-most-4n-9-decisions = clean.decisions-at-most-4n-9 rule row l o is many fits;
-    the-reported-number-is-the-one-the-walk-makes = the-walk's;
+    the-reported-number-is-the-one-the-walk-makes = ap (λ (t : Tally). t .decisions) the-walk's;
+    the-reported-turns-are-those-the-walk-makes = ap (λ (t : Tally). t .turns) the-walk's;
+    at-most-5n-turns = clean.turns-at-most-5n rule row l o is many fits;
+    at-most-3n-turns-less-the-kept-points = clean.kept-turns-at-most-3n-less-the-kept rule row l o is many fits;
+    no-more-decisions-than-turns = clean.decisions-at-most-turns rule row l o is many fits;
+    a-collapse-has-no-idle-turn = clean.a-collapse-has-no-idle-turn rule row l o is many fits;
     with-nothing-to-remove-it-comes-back-unchanged-after-n = clean.nothing-to-remove rule row l o is many fits;
   }
 

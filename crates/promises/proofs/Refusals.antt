@@ -73,8 +73,8 @@ module _ (rule : Rule) (row : List ℤ) (l : Cleaning.Lent) (o : Cleaning.Outcom
 
 -- A shape that is cleaned.
 fate-done : (n : ℕ) (f : ShapeFate) (l : SetCleaning.Lent) → (SetCleaning.cleaned-shape n f l .answer .reply ≡ 0) ⊎ (SetCleaning.cleaned-shape n f l .answer .reply ≡ 7)
-fate-done n (stands contours decisions) l = inl refl
-fate-done n (fallen decisions) l = inr refl
+fate-done n (stands contours tally) l = inl refl
+fate-done n (fallen tally) l = inr refl
 
 module _ (rule : Rule) (p : List ℤ) (cs : List (List ℕ)) (l : SetCleaning.Lent) (o : SetCleaning.Outcome) (is : o ≡ SetCleaning.shape-outcome rule p cs l) where
   pub shape-numbered : Numbered set-cleanings (shape-refusals p cs l) (o .answer)

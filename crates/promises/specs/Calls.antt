@@ -90,11 +90,11 @@ packings = record { Answer = Packed; reply = λ x. x .reply; only = λ k. record
 
 -- how much of a contour was kept
 abbrev pub cleanings : Kind
-cleanings = record { Answer = Cleaned; reply = λ x. x .reply; only = λ k. record { reply = k; points = 0; decisions = 0 } }
+cleanings = record { Answer = Cleaned; reply = λ x. x .reply; only = λ k. record { reply = k; points = 0; decisions = 0; turns = 0 } }
 
 -- how much of a shape, or of shapes, was kept
 abbrev pub set-cleanings : Kind
-set-cleanings = record { Answer = CleanedSet; reply = λ x. x .reply; only = λ k. record { reply = k; points = 0; contours = 0; shapes = 0; decisions = 0 } }
+set-cleanings = record { Answer = CleanedSet; reply = λ x. x .reply; only = λ k. record { reply = k; points = 0; contours = 0; shapes = 0; decisions = 0; turns = 0 } }
 
 -- how long a file is
 abbrev pub writings : Kind

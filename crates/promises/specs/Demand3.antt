@@ -1,7 +1,7 @@
 -- Demand 3, what both cleaners keep: "For any contour of n >= 3 points in the domain, with room".
 use mathlib.Core.Path.{_≡_}
 use mathlib.Core.List.{List}
-use Prim.Native.Nat.{ℕ, _-_, _*_, _≤_}
+use Prim.Native.Nat.{ℕ, _+_, _-_, _*_, _≤_}
 use lib.IntN.{ℤ, pos}
 use denote.Ref.{now}
 use Rattle.grid.specs.Points.{points}
@@ -29,6 +29,16 @@ pub record Demanded (rule : Rule) (row out : List ℤ) (n : ℕ) (o : Outcome) :
   pub at-most-4n-9-decisions : o .answer .decisions ≤ 4 * n - 9
   -- "and the reported number is the one 01's walk makes"
   pub the-reported-number-is-the-one-the-walk-makes : o .answer .decisions ≡ walked rule row .tally .decisions
+  -- "Report turns too: every visit, deciding or stepping over, as the written walk makes them" (02, P7)
+  pub the-reported-turns-are-those-the-walk-makes : o .answer .turns ≡ walked rule row .tally .turns
+  -- "at most 5n turns, kept or collapsed"
+  pub at-most-5n-turns : o .answer .turns ≤ 5 * n
+  -- sharper, of a kept contour: at most 3n, less one for each point that is kept
+  pub at-most-3n-turns-less-the-kept-points : o .answer .reply ≡ 0 → o .answer .turns + o .answer .points ≤ 3 * n
+  -- a decision is a turn
+  pub no-more-decisions-than-turns : o .answer .decisions ≤ o .answer .turns
+  -- and a contour that collapses has no other
+  pub a-collapse-has-no-idle-turn : o .answer .reply ≡ 7 → o .answer .turns ≡ o .answer .decisions
   -- "with nothing to remove it comes back unchanged after n"
   pub with-nothing-to-remove-it-comes-back-unchanged-after-n : Stands (goes-at rule) (points row) → Unchanged row o
 

@@ -104,21 +104,21 @@ answers r = let c = r .contour in record {
   asked = map (λ (q : Asked). ask (q .x) (q .y) (contains c (q .x) (q .y)) (located-at c (q .x) (q .y))) (r .asked);
 }
 
--- a contour that is kept at some positions, after so many decisions
-abbrev pub keeps : List ℤ → List ℕ → ℕ → Alone
-keeps c s k = record { answer = answer 0 (length s) k; out = front (chosen c s) (room c); positions = s }
+-- a contour that is kept at some positions, after so many decisions in so many turns
+abbrev pub keeps : List ℤ → List ℕ → ℕ → ℕ → Alone
+keeps c s k v = record { answer = answer 0 (length s) k v; out = front (chosen c s) (room c); positions = s }
 
 -- a contour that collapses: 7, and its output as it was
-abbrev pub collapses : List ℤ → ℕ → Alone
-collapses c k = record { answer = answer 7 0 k; out = room c; positions = [] }
+abbrev pub collapses : List ℤ → ℕ → ℕ → Alone
+collapses c k v = record { answer = answer 7 0 k v; out = room c; positions = [] }
 
 -- a contour that stays in its set as these numbers
-abbrev pub stays : List ℤ → List ℤ → ℕ → InASet
-stays c d k = record { answer = set-answer 0 (count d) 1 1 k; out = front d (room c); records = (0 ∷ count d ∷ []) ∷ [] }
+abbrev pub stays : List ℤ → List ℤ → ℕ → ℕ → InASet
+stays c d k v = record { answer = set-answer 0 (count d) 1 1 k v; out = front d (room c); records = (0 ∷ count d ∷ []) ∷ [] }
 
 -- a set whose only contour collapses: 7, and its rows as they were
-abbrev pub falls : List ℤ → ℕ → InASet
-falls c k = record { answer = set-answer 7 0 0 0 k; out = room c; records = (9 ∷ 9 ∷ []) ∷ [] }
+abbrev pub falls : List ℤ → ℕ → ℕ → InASet
+falls c k v = record { answer = set-answer 7 0 0 0 k v; out = room c; records = (9 ∷ 9 ∷ []) ∷ [] }
 
 -- a question that is answered
 abbrev pub answered : Bool → Verdict
@@ -149,10 +149,10 @@ refused-area k = record { reply = k; value = pos 0 }
 abbrev pub w1 : Row
 w1 = record {
   contour = W1;
-  simplified = collapses W1 0;
-  despiked = collapses W1 0;
-  simplified-in-a-set = falls W1 0;
-  despiked-in-a-set = falls W1 0;
+  simplified = collapses W1 0 0;
+  despiked = collapses W1 0 0;
+  simplified-in-a-set = falls W1 0 0;
+  despiked-in-a-set = falls W1 0 0;
   simple = answered false;
   no-spikes = answered false;
   convex = answered true;
@@ -165,10 +165,10 @@ w1 = record {
 abbrev pub w2 : Row
 w2 = record {
   contour = W2;
-  simplified = collapses W2 1;
-  despiked = collapses W2 1;
-  simplified-in-a-set = falls W2 1;
-  despiked-in-a-set = falls W2 1;
+  simplified = collapses W2 1 1;
+  despiked = collapses W2 1 1;
+  simplified-in-a-set = falls W2 1 1;
+  despiked-in-a-set = falls W2 1 1;
   simple = answered false;
   no-spikes = answered false;
   convex = answered false;
@@ -181,10 +181,10 @@ w2 = record {
 abbrev pub w3 : Row
 w3 = record {
   contour = W3;
-  simplified = keeps W3 (0 ∷ 1 ∷ 2 ∷ []) 3;
-  despiked = keeps W3 (0 ∷ 1 ∷ 2 ∷ []) 3;
-  simplified-in-a-set = stays W3 W3 0;
-  despiked-in-a-set = stays W3 W3 0;
+  simplified = keeps W3 (0 ∷ 1 ∷ 2 ∷ []) 3 3;
+  despiked = keeps W3 (0 ∷ 1 ∷ 2 ∷ []) 3 3;
+  simplified-in-a-set = stays W3 W3 0 0;
+  despiked-in-a-set = stays W3 W3 0 0;
   simple = answered true;
   no-spikes = answered true;
   convex = answered true;
@@ -197,10 +197,10 @@ w3 = record {
 abbrev pub w4 : Row
 w4 = record {
   contour = W4;
-  simplified = keeps W4 (0 ∷ 2 ∷ 3 ∷ 4 ∷ []) 6;
-  despiked = keeps W4 (0 ∷ 1 ∷ 2 ∷ 3 ∷ 4 ∷ []) 5;
-  simplified-in-a-set = stays W4 (pos 0 ∷ pos 0 ∷ pos 4 ∷ pos 0 ∷ pos 4 ∷ pos 4 ∷ pos 0 ∷ pos 4 ∷ []) 6;
-  despiked-in-a-set = stays W4 W4 0;
+  simplified = keeps W4 (0 ∷ 2 ∷ 3 ∷ 4 ∷ []) 6 6;
+  despiked = keeps W4 (0 ∷ 1 ∷ 2 ∷ 3 ∷ 4 ∷ []) 5 5;
+  simplified-in-a-set = stays W4 (pos 0 ∷ pos 0 ∷ pos 4 ∷ pos 0 ∷ pos 4 ∷ pos 4 ∷ pos 0 ∷ pos 4 ∷ []) 6 6;
+  despiked-in-a-set = stays W4 W4 0 0;
   simple = answered false;
   no-spikes = answered true;
   convex = answered true;
@@ -213,10 +213,10 @@ w4 = record {
 abbrev pub w6 : Row
 w6 = record {
   contour = W6;
-  simplified = keeps W6 (0 ∷ 1 ∷ 4 ∷ 5 ∷ []) 9;
-  despiked = keeps W6 (0 ∷ 1 ∷ 4 ∷ 5 ∷ []) 9;
-  simplified-in-a-set = stays W6 (pos 0 ∷ pos 0 ∷ pos 4 ∷ pos 0 ∷ pos 4 ∷ pos 4 ∷ pos 0 ∷ pos 4 ∷ []) 9;
-  despiked-in-a-set = stays W6 (pos 0 ∷ pos 0 ∷ pos 4 ∷ pos 0 ∷ pos 4 ∷ pos 4 ∷ pos 0 ∷ pos 4 ∷ []) 9;
+  simplified = keeps W6 (0 ∷ 1 ∷ 4 ∷ 5 ∷ []) 9 9;
+  despiked = keeps W6 (0 ∷ 1 ∷ 4 ∷ 5 ∷ []) 9 9;
+  simplified-in-a-set = stays W6 (pos 0 ∷ pos 0 ∷ pos 4 ∷ pos 0 ∷ pos 4 ∷ pos 4 ∷ pos 0 ∷ pos 4 ∷ []) 9 9;
+  despiked-in-a-set = stays W6 (pos 0 ∷ pos 0 ∷ pos 4 ∷ pos 0 ∷ pos 4 ∷ pos 4 ∷ pos 0 ∷ pos 4 ∷ []) 9 9;
   simple = answered false;
   no-spikes = answered false;
   convex = answered false;
@@ -229,10 +229,10 @@ w6 = record {
 abbrev pub w7 : Row
 w7 = record {
   contour = W7;
-  simplified = keeps W7 (1 ∷ 2 ∷ 3 ∷ []) 4;
-  despiked = keeps W7 (1 ∷ 2 ∷ 3 ∷ []) 4;
-  simplified-in-a-set = stays W7 (pos 0 ∷ pos 0 ∷ pos 4 ∷ pos 0 ∷ pos 0 ∷ pos 4 ∷ []) 4;
-  despiked-in-a-set = stays W7 W7 0;
+  simplified = keeps W7 (1 ∷ 2 ∷ 3 ∷ []) 4 4;
+  despiked = keeps W7 (1 ∷ 2 ∷ 3 ∷ []) 4 4;
+  simplified-in-a-set = stays W7 (pos 0 ∷ pos 0 ∷ pos 4 ∷ pos 0 ∷ pos 0 ∷ pos 4 ∷ []) 4 4;
+  despiked-in-a-set = stays W7 W7 0 0;
   simple = answered false;
   no-spikes = answered true;
   convex = answered true;
@@ -245,10 +245,10 @@ w7 = record {
 abbrev pub w8 : Row
 w8 = record {
   contour = W8;
-  simplified = keeps W8 (0 ∷ 1 ∷ 2 ∷ 3 ∷ 4 ∷ []) 5;
-  despiked = keeps W8 (0 ∷ 1 ∷ 2 ∷ 3 ∷ 4 ∷ []) 5;
-  simplified-in-a-set = stays W8 W8 0;
-  despiked-in-a-set = stays W8 W8 0;
+  simplified = keeps W8 (0 ∷ 1 ∷ 2 ∷ 3 ∷ 4 ∷ []) 5 5;
+  despiked = keeps W8 (0 ∷ 1 ∷ 2 ∷ 3 ∷ 4 ∷ []) 5 5;
+  simplified-in-a-set = stays W8 W8 0 0;
+  despiked-in-a-set = stays W8 W8 0 0;
   simple = answered true;
   no-spikes = answered true;
   convex = answered true;
@@ -261,10 +261,10 @@ w8 = record {
 abbrev pub w9 : Row
 w9 = record {
   contour = W9;
-  simplified = keeps W9 (0 ∷ 1 ∷ 2 ∷ 3 ∷ []) 4;
-  despiked = keeps W9 (0 ∷ 1 ∷ 2 ∷ 3 ∷ []) 4;
-  simplified-in-a-set = stays W9 W9 0;
-  despiked-in-a-set = stays W9 W9 0;
+  simplified = keeps W9 (0 ∷ 1 ∷ 2 ∷ 3 ∷ []) 4 4;
+  despiked = keeps W9 (0 ∷ 1 ∷ 2 ∷ 3 ∷ []) 4 4;
+  simplified-in-a-set = stays W9 W9 0 0;
+  despiked-in-a-set = stays W9 W9 0 0;
   simple = answered true;
   no-spikes = answered true;
   convex = answered true;
@@ -278,10 +278,10 @@ w9 = record {
 abbrev pub w10 : Row
 w10 = record {
   contour = W10;
-  simplified = keeps W10 (0 ∷ 1 ∷ 2 ∷ 3 ∷ []) 4;
-  despiked = keeps W10 (0 ∷ 1 ∷ 2 ∷ 3 ∷ []) 4;
-  simplified-in-a-set = stays W10 W10 0;
-  despiked-in-a-set = stays W10 W10 0;
+  simplified = keeps W10 (0 ∷ 1 ∷ 2 ∷ 3 ∷ []) 4 4;
+  despiked = keeps W10 (0 ∷ 1 ∷ 2 ∷ 3 ∷ []) 4 4;
+  simplified-in-a-set = stays W10 W10 0 0;
+  despiked-in-a-set = stays W10 W10 0 0;
   simple = answered true;
   no-spikes = answered true;
   convex = answered false;
@@ -294,10 +294,10 @@ w10 = record {
 abbrev pub w11 : Row
 w11 = record {
   contour = W11;
-  simplified = keeps W11 (0 ∷ 1 ∷ 2 ∷ []) 3;
-  despiked = keeps W11 (0 ∷ 1 ∷ 2 ∷ []) 3;
-  simplified-in-a-set = stays W11 W11 0;
-  despiked-in-a-set = stays W11 W11 0;
+  simplified = keeps W11 (0 ∷ 1 ∷ 2 ∷ []) 3 3;
+  despiked = keeps W11 (0 ∷ 1 ∷ 2 ∷ []) 3 3;
+  simplified-in-a-set = stays W11 W11 0 0;
+  despiked-in-a-set = stays W11 W11 0 0;
   simple = answered true;
   no-spikes = answered true;
   convex = answered true;
@@ -310,10 +310,10 @@ w11 = record {
 abbrev pub w12 : Row
 w12 = record {
   contour = W12;
-  simplified = collapses W12 1;
-  despiked = collapses W12 1;
-  simplified-in-a-set = falls W12 1;
-  despiked-in-a-set = falls W12 1;
+  simplified = collapses W12 1 1;
+  despiked = collapses W12 1 1;
+  simplified-in-a-set = falls W12 1 1;
+  despiked-in-a-set = falls W12 1 1;
   simple = answered false;
   no-spikes = answered false;
   convex = answered true;

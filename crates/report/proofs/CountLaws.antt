@@ -1,13 +1,14 @@
 -- Survivors that are counted.
 use mathlib.Core.Path.{_≡_, refl, _∙_, ap}
 use mathlib.Core.List.{List, _∷_}
-use Prim.Native.Nat.{ℕ, suc, _+_, _≤_, _<_}
+use Prim.Native.Nat.{ℕ, suc, _+_, _^_, _≤_, _<_}
 use native.Mathlib.Omega.{arith}
 use native.Mathlib.Numerals.{add-one}
 use lib.ListN.{length, getD, drop, drop-of-length-le}
 use lib.Seq.{drop-cons}
-use Rattle.ring.specs.Walk.{survivors-from, survivors}
-use Rattle.ring.proofs.Survivors.{survivors-yes, survivors-no}
+use Rattle.ring.specs.Walk.{unmarked, survivors-from, survivors, occurrences}
+use Rattle.ring.proofs.Survivors.{survivors-yes, survivors-no, survivor-count}
+use Rattle.ring.proofs.Listed.{rising-few, survivors-rise}
 
 -- so many survivors stand before position i
 pub record Counted (mark : List ℕ) (kept i : ℕ) : Type 0 where
@@ -36,3 +37,7 @@ unfolding survivors-from
 counted-all {mark} {kept} {i} x h =
     let none : length (survivors-from i (drop i mark)) ≡ 0 = ap (λ (l : List ℕ). length (survivors-from i l)) (drop-of-length-le mark h) in
     omega (arith, x .is, none)
+
+-- no more are unmarked than there are
+pub few-unmarked : (mark : List ℕ) → length mark ≤ 8191 → occurrences unmarked mark < 2 ^ 16
+few-unmarked mark h = omega (arith, survivor-count 0 mark, rising-few 0 (length mark) (survivors mark) (survivors-rise 0 (length mark) mark (omega arith)))

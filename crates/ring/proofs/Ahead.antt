@@ -10,18 +10,15 @@ use lib.Seq.{getD-set-same, getD-set-other}
 use Rattle.ring.specs.Walk.{unmarked, marked, removed, mark-at, Survivor, survivors, others, successor, predecessor, remove, fresh, to-go}
 use Rattle.ring.specs.Promises.{NoneToGo}
 use Rattle.ring.proofs.Branches.{same?, true-false}
-use Rattle.ring.proofs.Lists.{cut-cases}
+use Rattle.ring.proofs.Lists.{Each, cut-cases}
 use Rattle.ring.proofs.Marks.{inside, count-some, fresh-survives, fresh-at}
 use Rattle.ring.proofs.Survivors.{Same, same-refl, same-sym, same-survivor, same-survivors, fresh-count}
 use Rattle.ring.proofs.Neighbours.{turned, others-has, others-only, ring-length, first-other, not-alone, forward, gap-others, far-successor, far-predecessor, same-others, same-successor, same-predecessor}
 use Rattle.ring.proofs.Changes.{same-set, same-remove, gap-survives, remove-keeps, remove-predecessor, remove-successor, remove-counts}
 use Rattle.ring.proofs.Moments.{Reached, begun, stepped, stayed, went, moment}
 
-abbrev Each : (ℕ → Type 0) → List ℕ → Type 0
-Each P l = (x : ℕ) → List·Memᴰ x l → P x
-
 -- The ring from p on has every survivor.
-ring-has : (m : List ℕ) (p q : ℕ) → Survivor m q → List·Memᴰ q (p ∷ others m p)
+pub ring-has : (m : List ℕ) (p q : ℕ) → Survivor m q → List·Memᴰ q (p ∷ others m p)
 ring-has m p q s = ⊎-elim (λ e. List·Memᴰ·head e) (λ n. List·Memᴰ·tail (others-has m p q s n)) (same? q p)
 
 -- An other behind the successor isn't the successor.
@@ -257,3 +254,17 @@ module _ (goes : ℕ → ℕ → ℕ → Bool) where
         (head-cases a))
         (λ x. true-false t (x .none-to-go p s))
         (swept r)
+
+    -- Up to the first idle visit each has decided.
+    since : {v : ℕ} {m : List ℕ} {p k : ℕ} → Reached goes n v m p k → (v ≡ k) ⊎ NoneToGo goes m
+    since begun = inl refl
+    since (stepped r z e) = inr (idle r e)
+    since (stayed {m = m} {p = p} r e t) = ⊎-elim
+        (λ i. inl (ap suc i))
+        (λ x. let y = same-set m p marked (moment goes n big r .on) (omega arith) in inr (λ q s. same-to-go y q ∙ x q (same-survivor (same-sym y) q s)))
+        (since r)
+    since (went {m = m} {p = p} r e t h) = ⊎-elim (λ i. inl (ap suc i)) (λ x. true-false t (x p (moment goes n big r .on))) (since r)
+
+    -- So where a vertex goes, every visit so far has.
+    pub busy : {v : ℕ} {m : List ℕ} {p k : ℕ} → Reached goes n v m p k → to-go goes m p ≡ true → v ≡ k
+    busy {m = m} {p = p} r t = ⊎-elim (λ i. i) (λ x. true-false t (x p (moment goes n big r .on))) (since r)

@@ -7,6 +7,7 @@ pub mod Changes
 pub mod Looks
 pub mod Moments
 pub mod Ahead
+pub mod Rounds
 pub mod Ends
 pub mod Listed
 pub mod Theorems

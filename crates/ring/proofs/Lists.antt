@@ -5,6 +5,10 @@ use mathlib.Core.Logic.{_⊎_, inl, inr, ⊎-elim}
 use mathlib.Core.List.{List, [], _∷_, _++_, List·Memᴰ, List·Memᴰ·head, List·Memᴰ·tail, head-eq-of-cons-eq, tail-eq-of-cons-eq}
 use Rattle.ring.specs.Walk.{last}
 
+-- Each element of a list has a property.
+abbrev pub Each : (ℕ → Type 0) → List ℕ → Type 0
+Each P l = (x : ℕ) → List·Memᴰ x l → P x
+
 pub last-append : (l : List ℕ) (x : ℕ) (r : List ℕ) (d : ℕ) → last (l ++ x ∷ r) d ≡ last r x
 last-append [] x r d = refl
 last-append (y ∷ l) x r d = last-append l x r y

@@ -74,9 +74,10 @@ unmark-about m p = unmark (unmark (unmark m p) (successor m p)) (predecessor m p
 unfoldable pub remove : List ℕ → ℕ → List ℕ
 remove m c = unmark-about (set m c removed) (predecessor m c)
 
--- What a walk counts.
+-- What a walk counts: its decisions, and its turns, which are all its visits, those that decide and those that step over a marked position.
 pub record Tally : Type 0 where
   pub decisions : ℕ
+  pub turns : ℕ
 
 -- A walk ends with the survivors that it keeps, or collapsed.
 pub data End : Type 0 where
@@ -93,13 +94,17 @@ pub data Stage : Type 0 where
   under-way : List ℕ → ℕ → Tally → Stage
   ended : Walked → Stage
 
--- So many decisions.
-abbrev pub tally : ℕ → Tally
-tally k = record { decisions = k }
+-- So many decisions, in so many turns.
+abbrev pub tally : ℕ → ℕ → Tally
+tally k v = record { decisions = k; turns = v }
 
--- One decision more.
+-- One turn more, with a decision.
 abbrev pub counted : Tally → Tally
-counted t = record { decisions = suc (t .decisions) }
+counted t = tally (suc (t .decisions)) (suc (t .turns))
+
+-- One turn more, with none.
+abbrev pub stepped-over : Tally → Tally
+stepped-over t = tally (t .decisions) (suc (t .turns))
 
 -- A walk that ended so, with this tally.
 abbrev pub ending : End → Tally → Walked
@@ -111,7 +116,7 @@ fresh n = replicate n unmarked
 
 -- The walk starts at position 0, with nothing marked.
 abbrev pub start : ℕ → Stage
-start n = under-way (fresh n) 0 (tally 0)
+start n = under-way (fresh n) 0 (tally 0 0)
 
 -- What a walk has come to: one that is under way has kept its survivors so far.
 abbrev pub come-to : Stage → Walked
@@ -134,12 +139,12 @@ module _ (goes : ℕ → ℕ → ℕ → Bool) where
         | false ↦ under-way (set m p marked) (successor m p) (counted t)
       ]
 
-  -- One look at the ring: it ends the walk if all survivors are marked, and otherwise visits the position, to step forward if it is marked and to decide if it isn't.
+  -- One look at the ring: it ends the walk if all survivors are marked, and otherwise visits the position, which is a turn, to step forward if it is marked and to decide if it isn't.
   unfoldable pub look : Stage → Stage
   look (under-way m p t) =
       elim (all-marked m) [
         | true ↦ ended (ending (kept (survivors m)) t)
-        | false ↦ elim (eqb (mark-at m p) marked) [ true ↦ under-way m (successor m p) t | false ↦ decide m p t ]
+        | false ↦ elim (eqb (mark-at m p) marked) [ true ↦ under-way m (successor m p) (stepped-over t) | false ↦ decide m p t ]
       ]
   look (ended w) = ended w
 
@@ -148,6 +153,6 @@ module _ (goes : ℕ → ℕ → ℕ → Bool) where
   looks zero w = w
   looks (suc v) w = look (looks v w)
 
-  -- The walk of a ring of n positions. Under three it has collapsed, with no decision; otherwise 3 n visits and one more look are enough for it to end.
+  -- The walk of a ring of n positions. Under three it has collapsed, with no turn; otherwise 3 n visits and one more look are enough for it to end.
   unfoldable pub walk : ℕ → Walked
-  walk n = elim (ltb n 3) [ true ↦ ending collapsed (tally 0) | false ↦ come-to (looks (suc (3 * n)) (start n)) ]
+  walk n = elim (ltb n 3) [ true ↦ ending collapsed (tally 0 0) | false ↦ come-to (looks (suc (3 * n)) (start n)) ]

@@ -8,10 +8,11 @@ ghost use Rattle.grid.specs.Edges.{aligned};
 ghost use Rattle.grid.specs.Domain.{Contour};
 ghost use Rattle.grid.specs.inside.Edges.{Short};
 ghost use Rattle.grid.specs.inside.Rows.{Vertices};
-ghost use Rattle.ring.specs.Walk.{unmarked as due-mark, Survivor, occurrences, fresh, walk as walk-of};
+ghost use Rattle.ring.specs.Walk.{unmarked as due-mark, Survivor, survivors, occurrences, fresh};
 ghost use Rattle.ring.specs.declared.Rule as R;
 ghost use Rattle.ring.specs.Rule.{by, goes-along as goes-along-by, goes as goes-by};
-ghost use Rattle.ring.specs.inside.Rows.{AllLinked, Begun, FirstStand, Level, Linked, Removable, Removed, Standing, Unlinked, Unmarked, UnmarkedAbout, ended-as, first-marked};
+ghost use Rattle.ring.specs.Promises.{idle-round as round-of};
+ghost use Rattle.ring.specs.inside.Rows.{AllLinked, Begun, Ended, FirstStand, Halted, Idling, Level, Linked, Removable, Removed, Standing, Unlinked, Unmarked, UnmarkedAbout, first-marked, turns-of};
 use crate::Ending;
 use crate::Rule;
 use grid::Edge;
@@ -193,11 +194,12 @@ pub fn standing(rule: Rule, points: &[i32], n: usize) -> usize
     }
 }
 
-// How many positions are not marked.
-fn unmarked(mark: &[u8]) -> usize
+// How many positions are not marked. They are so few that 16 bits count them, eight at a time.
+pub fn unmarked(mark: &[u8]) -> usize
+    requires { ⌜ occurrences due-mark (now mark) < 2 ^ 16 ⌝ }
     ensures { λ r. ⌜ r ≡ occurrences due-mark (now (mark .entry)) ⌝ }
 {
-    let mut found: usize = 0;
+    let mut found: u16 = 0;
     let mut i: usize = 0;
     while i < mark.len() {
         if mark[i] == 0 {
@@ -207,12 +209,44 @@ fn unmarked(mark: &[u8]) -> usize
             i += 1;
         }
     }
-    found
+    found as usize
+}
+
+// How many positions a round from a marked one has up to its last unmarked one: all that remain, but for the marked ones
+// right before it.
+fn idle_round(prev: &[u32], mark: &[u8], remaining: usize, at: usize) -> usize
+    requires { ⌜ Idling (now mark) (now prev) at remaining ⌝ }
+    ensures { λ r. ⌜ r ≡ round-of (now (mark .entry)) at ⌝ }
+{
+    let mut turns = remaining;
+    let mut last = wide(prev[at]);
+    while mark[last] != 0 {
+        turns -= 1;
+        last = wide(prev[last]);
+    }
+    turns
+}
+
+// The turns of a walk that kept a ring, by how many positions remain and how many of them are unmarked still. Where none
+// is each turn decided; otherwise one round more is made, up to the last unmarked one, in which no vertex is tested.
+pub fn turns(ending: Ending, remaining: usize, pending: usize, prev: &[u32], mark: &[u8]) -> usize
+    requires { ⌜
+        Halted (now mark) (now prev) ending
+        × (remaining ≡ length (survivors (now mark)))
+        × (pending ≡ occurrences due-mark (now mark))
+        ⌝ }
+    ensures { λ r. ⌜ r ≡ turns-of ending (now (mark .entry)) ⌝ }
+{
+    if pending == 0 {
+        return ending.decisions;
+    }
+    ending.decisions - pending + idle_round(prev, mark, remaining, ending.at)
 }
 
 // The walk of a ring that is linked, from position k on: the first k stand, and are marked. It stops where it meets a
 // marked position: from there on nothing goes any more, and each position that is not marked yet takes one decision.
-// These are counted beforehand, so that only a removal changes the count. Each rule has a loop of its own.
+// These are counted beforehand, so that only a removal changes the count. Each rule has a loop of its own. What the walk has
+// yet to step over is told by `turns`.
 fn round(
     collinear: bool,
     points: &[i32],
@@ -227,8 +261,8 @@ fn round(
         (now mark) (now next) (now prev)
         ⌝ }
     ensures { λ r. ⌜
-        walk-of (goes-by (by collinear) (now (points .entry))) (length (now (mark .entry)))
-        ≡ ended-as r (now (mark .exit))
+        Ended (goes-by (by collinear) (now (points .entry))) (length (now (mark .entry)))
+        (now (mark .exit)) (now (prev .exit)) r
         ⌝ }
 {
     let mut remaining = mark.len();
@@ -242,6 +276,7 @@ fn round(
                 return Ending {
                     kept: false,
                     decisions: decisions + 1 - unmarked(mark),
+                    at,
                 };
             }
             let taken = remove(next, prev, mark, at);
@@ -256,6 +291,7 @@ fn round(
     Ending {
         kept: true,
         decisions,
+        at,
     }
 }
 
@@ -272,8 +308,8 @@ pub fn walk(
     requires { ⌜ (length (now next) ≡ length (now mark)) × (length (now prev) ≡ length (now mark)) ⌝ }
     requires { ⌜ (k < length (now mark)) × FirstStand (goes-by rule (now points)) (length (now mark)) k ⌝ }
     ensures { λ r. ⌜
-        walk-of (goes-by rule (now (points .entry))) (length (now (mark .entry)))
-        ≡ ended-as r (now (mark .exit))
+        Ended (goes-by rule (now (points .entry))) (length (now (mark .entry)))
+        (now (mark .exit)) (now (prev .exit)) r
         ⌝ }
 {
     link(next, prev, mark);

@@ -9,8 +9,9 @@ pub enum Rule {
     Spike,
 }
 
-// How a walk ended, and after how many decisions.
+// How a walk ended, and after how many decisions; kept, at which marked position it was met that nothing goes any more.
 pub struct Ending {
     pub kept: bool,
     pub decisions: usize,
+    pub at: usize,
 }

@@ -15,7 +15,7 @@ use Rattle.rows.proofs.PlacedLaws.{placed-none, placed-long, placed-behind, set
 use Rattle.buffer.proofs.PackLaws.{count-append}
 use Rattle.buffer.proofs.Theorems.{the-counts-add-up}
 use Rattle.sets.specs.declared.inner.contour.Progress.{Progress}
-use Rattle.sets.specs.Fates.{Fate, fate, Stay, and-later, later, ShapeFate, behind, shape-fate}
+use Rattle.sets.specs.Fates.{none-counted, together, Fate, fate, Stay, and-later, later, ShapeFate, behind, shape-fate}
 use Rattle.sets.specs.Fates.Fate.{stays, gone}
 use Rattle.sets.specs.Fates.ShapeFate.{stands, fallen}
 use Rattle.sets.specs.inside.Contour.{Reached, reached, placing}
@@ -30,25 +30,26 @@ use Rattle.sets.proofs.LaidLaws.{points-even, rows-long, rows-laid}
 abbrev pub after : Stay → Reached → Reached
 after t s =
     reached
-    (record { points = s .progress .points + count (joined (t .contours)); contours = s .progress .contours + length (t .contours); decisions = s .progress .decisions + t .decisions })
+    (record { points = s .progress .points + count (joined (t .contours)); contours = s .progress .contours + length (t .contours); decisions = s .progress .decisions + t .tally .decisions; turns = s .progress .turns + t .tally .turns })
     (placed (2 * s .progress .points) (joined (t .contours)) (s .points))
     (placed (s .progress .contours) (rows (laid (s .progress .points) (map count (t .contours)))) (s .contours))
 
-pub same-progress : {a b k l m n : ℕ} → a ≡ b → k ≡ l → m ≡ n → _≡_ {A = Progress} (record { points = a; contours = k; decisions = m }) (record { points = b; contours = l; decisions = n })
-same-progress e f g = cc
+pub same-progress : {a b k l m n u v : ℕ} → a ≡ b → k ≡ l → m ≡ n → u ≡ v
+    → _≡_ {A = Progress} (record { points = a; contours = k; decisions = m; turns = u }) (record { points = b; contours = l; decisions = n; turns = v })
+same-progress e f g h = cc
 
-pub after-none : (s : Reached) → s ≡ after (record { contours = []; decisions = 0 }) s
+pub after-none : (s : Reached) → s ≡ after (record { contours = []; tally = none-counted }) s
 unfolding joined laid
-after-none s = same-reached (same-progress (omega arith) (omega arith) (omega arith)) (sym (placed-none (s .points) (2 * s .progress .points))) (sym (placed-none (s .contours) (s .progress .contours)))
+after-none s = same-reached (same-progress (omega arith) (omega arith) (omega arith) (omega arith)) (sym (placed-none (s .points) (2 * s .progress .points))) (sym (placed-none (s .contours) (s .progress .contours)))
 
 pub after-first : (c : List ℤ) (w : Fate) → Smaller c w → (s : Reached) → 2 * s .progress .points + length c ≤ length (s .points) → s .progress .contours < length (s .contours)
     → (t : Stay) → after t (placing w s) ≡ after (and-later w t) s
 unfolding joined laid
-after-first c (gone k) x s room space t = same-reached (same-progress refl refl (omega arith)) refl refl
+after-first c (gone k) x s room space t = same-reached (same-progress refl refl (omega arith) (omega arith)) refl refl
 after-first c (stays d k) x s room space t =
     let j = length-append d (joined (t .contours)) in
     same-reached
-    (same-progress (omega (arith, x .1)) (omega arith) (omega arith))
+    (same-progress (omega (arith, x .1)) (omega arith) (omega arith) (omega arith))
     (placed-behind (s .points) (2 * s .progress .points) d (joined (t .contours)) (2 * (s .progress .points + count d)) (omega (arith, x .0)) (omega (arith, x .1)))
     (ap (placed (s .progress .contours + 1) (rows (laid (s .progress .points + count d) (map count (t .contours))))) (set-placed (s .contours) (s .progress .contours) _ space)
     ∙ placed-behind (s .contours) (s .progress .contours) (_ ∷ []) (rows (laid (s .progress .points + count d) (map count (t .contours)))) (s .progress .contours + 1) (omega arith) refl)
@@ -62,7 +63,7 @@ laid-behind row k m p q a b h e f =
 
 -- contours that stay, and those that stay behind them
 abbrev pub both : Stay → Stay → Stay
-both u t = record { contours = u .contours ++ t .contours; decisions = u .decisions + t .decisions }
+both u t = record { contours = u .contours ++ t .contours; tally = together (u .tally) (t .tally) }
 
 pub after-both : (u t : Stay) (s : Reached) → Even (u .contours) → 2 * s .progress .points + length (joined (u .contours)) ≤ length (s .points)
     → s .progress .contours + length (u .contours) ≤ length (s .contours) → after t (after u s) ≡ after (both u t) s
@@ -75,7 +76,7 @@ after-both u t s even room space =
     let n : length (a ++ b) ≡ length a + length b = length-append a b in
     let m : length (map count a) ≡ length a = length-map a count in
     same-reached
-    (same-progress (omega arith) (omega arith) (omega arith))
+    (same-progress (omega arith) (omega arith) (omega arith) (omega arith))
     (placed-behind (s .points) (2 * s .progress .points) (joined a) (joined b) (2 * (s .progress .points + count (joined a))) room (omega arith) ∙ ap (λ (l : List ℤ). placed (2 * s .progress .points) l (s .points)) (sym j))
     (laid-behind (s .contours) (s .progress .contours) (s .progress .contours + length a) (s .progress .points) (s .progress .points + count (joined a)) (map count a) (map count b) (omega arith) (omega arith) (ap (λ (k : ℕ). s .progress .points + k) (the-counts-add-up a even))
     ∙ ap (λ (l : List ℕ). placed (s .progress .contours) (rows (laid (s .progress .points) l)) (s .contours)) (sym (map-append count a b)))
@@ -104,7 +105,7 @@ module _ (rule : Rule) where
 
   -- a shape's fate, behind what is written
   abbrev pub shaped : ShapeFate → Reached → Tested
-  shaped (stands cs k) s = tested true (after (record { contours = cs; decisions = k }) s)
+  shaped (stands cs k) s = tested true (after (record { contours = cs; tally = k }) s)
   shaped (fallen k) s = tested false (placing (gone k) s)
 
   pub shape-after : (l : List (List ℤ)) (s : Reached) → Contours l → Room l (s .progress) (s .points) (s .contours) → run-shape rule l s ≡ shaped (shape-fate rule l) s

@@ -65,12 +65,12 @@ ready c next prev mark out x =
 -- how far the cleaning has come with a contour, by its reply
 module _ (r : Cleaned) (at : Progress) (ranges : List (List ℕ)) where
   pub noting-gone : (k : ℕ) → (k ≡ 0 → ⊥)
-      → noted (record { stays = false; progress = record { points = at .points; contours = at .contours; decisions = at .decisions + r .decisions } }) ranges ≡ noting k r at ranges
+      → noted (record { stays = false; progress = record { points = at .points; contours = at .contours; decisions = at .decisions + r .decisions; turns = at .turns + r .turns } }) ranges ≡ noting k r at ranges
   noting-gone zero n = absurd (n refl)
   noting-gone (suc k) n = refl
 
   pub noting-stays : (k : ℕ) → k ≡ 0
-      → noted (record { stays = true; progress = record { points = at .points + r .points; contours = at .contours + 1; decisions = at .decisions + r .decisions } })
+      → noted (record { stays = true; progress = record { points = at .points + r .points; contours = at .contours + 1; decisions = at .decisions + r .decisions; turns = at .turns + r .turns } })
       (set ranges (at .contours) (at .points ∷ (at .points + r .points) ∷ []))
       ≡ noting k r at ranges
   noting-stays zero e = refl
@@ -102,26 +102,32 @@ module _ (rule : Rule) (c out : List ℤ) (at : Progress) (records : List (List 
       go : (w : Fate) → fate rule c ≡ w → r ≡ answer-of w → mid ≡ output-of w (midOf (2 * at .points) (length out - 2 * at .points) out)
           → Behind rule c (reached at out records) t (putMid (2 * at .points) (length out - 2 * at .points) out mid) records′
       go (stays d k) e a o =
-          let m : noted t records′ ≡ noting 0 (answer 0 (count d) k) at records = rw a at n in
+          let m : noted t records′ ≡ noting 0 (answer 0 (count d) (k .decisions) (k .turns)) at records = rw a at n in
           let put : putMid (2 * at .points) (length out - 2 * at .points) out mid ≡ placed (2 * at .points) d out = rw o (put-front (2 * at .points) out d) in
           told e (ap (λ (q : Noted). q .tried .stays) m) (same-reached (ap (λ (q : Noted). q .tried .progress) m) put (ap (λ (q : Noted). q .ranges) m))
       go (gone k) e a o =
-          let m : noted t records′ ≡ noting 7 (answer 7 0 k) at records = rw a at n in
+          let m : noted t records′ ≡ noting 7 (answer 7 0 (k .decisions) (k .turns)) at records = rw a at n in
           let put : putMid (2 * at .points) (length out - 2 * at .points) out mid ≡ out = rw o (put-same (2 * at .points) (length out - 2 * at .points) out) in
           told e (ap (λ (q : Noted). q .tried .stays) m) (same-reached (ap (λ (q : Noted). q .tried .progress) m) put (ap (λ (q : Noted). q .ranges) m))
 
   -- what is added stays a number of the machine
-  counts-fit : Contour c (count c) → (r .decisions ≤ 2 * length c) × (2 * r .points ≤ length c)
+  counts-fit : Contour c (count c) → (r .decisions ≤ 2 * length c) × (r .turns ≤ 3 * length c) × (2 * r .points ≤ length c)
   counts-fit x = go (fate rule c) (fate-smaller rule c x) (f .answer)
     where
-      go : (w : Fate) → Smaller c w → r ≡ answer-of w → (r .decisions ≤ 2 * length c) × (2 * r .points ≤ length c)
-      go (stays d k) s a = rw a (s .2, omega (arith, s .0, s .1))
-      go (gone k) s a = rw a (s, omega arith)
+      go : (w : Fate) → Smaller c w → r ≡ answer-of w → (r .decisions ≤ 2 * length c) × (r .turns ≤ 3 * length c) × (2 * r .points ≤ length c)
+      go (stays d k) s a = rw a (s .2, s .3, omega (arith, s .0, s .1))
+      go (gone k) s a = rw a (s .0, s .1, omega arith)
 
   pub notable : (next prev mark : List ℕ) → Placeable c at next prev mark out records → length out < 2 ^ 64 → Notable r at records
   notable next prev mark x l =
       let k = counts-fit (x .contour) in
-      record { space = x .space; narrow = x .narrow; points-fit = omega (arith, k .1, x .room); decisions-fit = omega (arith, k .0, x .fits) }
+      record {
+        space = x .space;
+        narrow = x .narrow;
+        points-fit = omega (arith, k .2, x .room);
+        decisions-fit = omega (arith, k .0, x .fits);
+        turns-fit = omega (arith, k .1, x .turns-fit);
+      }
 
 -- room for the rest, once a contour is cleaned
 pub joined-more : (c : List ℤ) (l : List (List ℤ)) → length (joined (c ∷ l)) ≡ length c + length (joined l)
@@ -136,10 +142,10 @@ room-rest rule c l at out records x k pl out′ records′ e a b = go (fate rule
     go : (w : Fate) → Smaller c w → pl ≡ placing w (reached at out records) .progress → Room l pl out′ records′
     go (stays d n) s f =
         let j = joined-more c l in
-        rw f (record { room = omega (arith, x .room, s .0, s .1); space = omega (arith, x .space); narrow = omega (arith, x .narrow); fits = omega (arith, x .fits, s .2) })
+        rw f (record { room = omega (arith, x .room, s .0, s .1); space = omega (arith, x .space); narrow = omega (arith, x .narrow); fits = omega (arith, x .fits, s .2); turns-fit = omega (arith, x .turns-fit, s .3) })
     go (gone n) s f =
         let j = joined-more c l in
-        rw f (record { room = omega (arith, x .room); space = omega (arith, x .space); narrow = omega (arith, x .narrow); fits = omega (arith, x .fits, s) })
+        rw f (record { room = omega (arith, x .room); space = omega (arith, x .space); narrow = omega (arith, x .narrow); fits = omega (arith, x .fits, s .0); turns-fit = omega (arith, x .turns-fit, s .1) })
 
 -- sound ranges of a set that no call refuses name parts of its points
 pub accepted-named : (p : List ℤ) (cs : List (List ℕ)) (ok : Bool) → Accepted limit p ok → sound (spans cs) (count p) ≡ true → Named p cs
@@ -168,6 +174,7 @@ module _ (p : List ℤ) (ranges : List (List ℕ)) (x : Named p ranges) (k : ℕ
         space = omega (arith, r .space);
         narrow = omega (arith, r .narrow);
         fits = omega (arith, r .fits);
+        turns-fit = omega (arith, r .turns-fit);
       }
 
 -- so all contours of such ranges are

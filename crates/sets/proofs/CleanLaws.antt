@@ -1,5 +1,5 @@
 -- What cleaning a shape, and cleaning shapes, comes to.
-use mathlib.Core.Path.{_≡_, refl, sym, _∙_, ap}
+use mathlib.Core.Path.{_≡_, refl, sym, _∙_, ap, ap₂}
 use mathlib.Core.Bool.{Bool, true, false, not, _&&_, and-true}
 use mathlib.Core.List.{List, [], _++_, map}
 use Prim.Native.Nat.{ℕ, zero, suc, _*_, _≤_, _<_, _^_}
@@ -59,10 +59,10 @@ zeroed-whole z e f g = record {
 }
 
 -- the answer of a shape, by whether it stands
-pub answered-fallen : (b : Bool) (at : Progress) (a : CleanedSet) → a ≡ answer 7 0 0 0 (at .decisions) → not b ≡ true → a ≡ shape-answer b at
+pub answered-fallen : (b : Bool) (at : Progress) (a : CleanedSet) → a ≡ answer 7 0 0 0 (at .decisions) (at .turns) → not b ≡ true → a ≡ shape-answer b at
 answered-fallen b at a e n = e ∙ ap (λ (t : Bool). shape-answer t at) (sym (not-true b n))
 
-pub answered-kept : (b : Bool) (at : Progress) → not b ≡ false → answer 0 (at .points) (at .contours) 1 (at .decisions) ≡ shape-answer b at
+pub answered-kept : (b : Bool) (at : Progress) → not b ≡ false → answer 0 (at .points) (at .contours) 1 (at .decisions) (at .turns) ≡ shape-answer b at
 answered-kept b at n = ap (λ (t : Bool). shape-answer t at) (sym (not-false b n))
 
 -- a set and the rows that are lent; its ranges are sound, or not
@@ -76,7 +76,7 @@ module _ (p : List ℤ) (cs ss : List (List ℕ)) (ok : Bool) (l : Lent) where
       so-far-then (set limit p ok) _ tt asked r e
       (g ∙ ap (λ (b : Bool). first-of (so-far asked ++ (scratch (count p) (length (l .next)) (length (l .prev)) (length (l .mark)) ++ room b))) f)
 
-  pub refused : (done : Outcome) (r : ℕ) → r ≡ first-of rungs → (r ≡ 0 → ⊥) → (a : CleanedSet) → a ≡ answer r 0 0 0 0 → leaving a l ≡ outcome (first-of rungs) l done
+  pub refused : (done : Outcome) (r : ℕ) → r ≡ first-of rungs → (r ≡ 0 → ⊥) → (a : CleanedSet) → a ≡ answer r 0 0 0 0 0 → leaving a l ≡ outcome (first-of rungs) l done
   refused done zero e n a f = absurd (n refl)
   refused done (suc k) e n a f = ap (λ (b : CleanedSet). leaving b l) f ∙ ap (λ (r : ℕ). outcome r l done) e
 
@@ -138,6 +138,7 @@ module _ (p : List ℤ) (cs ss : List (List ℕ)) (ok : Bool) (l : Lent) where
             space = omega (arith, output-fits .1);
             narrow = omega arith;
             fits = omega (arith, a .few, a .even);
+            turns-fit = omega (arith, a .few, a .even);
           }
 
 -- one shape
@@ -154,7 +155,7 @@ module _ (p : List ℤ) (cs : List (List ℕ)) (l : Lent) where
       let n : leb 0 (length (l .shapes)) ≡ true = le-leb 0 (length (l .shapes)) (omega arith) in
       first-refusal p cs [] contours-sound l asked roomy r e (f ∙ rw n (sym (and-true _))) g
 
-  pub shape-refused : (rule : Rule) (r : ℕ) → r ≡ first-of shape-rungs → (r ≡ 0 → ⊥) → (a : CleanedSet) → a ≡ answer r 0 0 0 0 → leaving a l ≡ shape-outcome rule p cs l
+  pub shape-refused : (rule : Rule) (r : ℕ) → r ≡ first-of shape-rungs → (r ≡ 0 → ⊥) → (a : CleanedSet) → a ≡ answer r 0 0 0 0 0 → leaving a l ≡ shape-outcome rule p cs l
   unfolding shape-outcome
   shape-refused rule r e n a f = refused p cs [] contours-sound l _ r e n a f
 
@@ -186,16 +187,19 @@ module _ (p : List ℤ) (cs : List (List ℕ)) (l : Lent) where
         where
           go : (w : ShapeFate) → tested (t .stays) (reached (t .progress) out′ records′) ≡ shaped rule w (reached none-yet (l .points) (l .contours)) → leaving-so a ≡ cleaned-shape (count p) w l
           go (fallen k) q =
-              let d : t .progress .decisions ≡ k = ap (λ (x : Tested). x .reached .progress .decisions) q ∙ omega arith in
-              let e : a ≡ answer 7 0 0 0 k = f ∙ ap (λ (b : Bool). shape-answer b (t .progress)) (ap (λ (x : Tested). x .stands) q) ∙ ap (answer 7 0 0 0) d in
+              let d : t .progress .decisions ≡ k .decisions = ap (λ (x : Tested). x .reached .progress .decisions) q ∙ omega arith in
+              let v : t .progress .turns ≡ k .turns = ap (λ (x : Tested). x .reached .progress .turns) q ∙ omega arith in
+              let e : a ≡ answer 7 0 0 0 (k .decisions) (k .turns) = f ∙ ap (λ (b : Bool). shape-answer b (t .progress)) (ap (λ (x : Tested). x .stands) q) ∙ ap₂ (answer 7 0 0 0) d v in
               swept-back p cs [] contours-sound l z next′ prev′ mark′ s _ _ e
               _ _ (ap (λ (x : Tested). x .reached .points) q) _ _ (ap (λ (x : Tested). x .reached .contours) q) _ _ refl
           go (stands ds k) q =
               let points-are : t .progress .points ≡ count (joined ds) = ap (λ (x : Tested). x .reached .progress .points) q ∙ omega arith in
               let contours-are : t .progress .contours ≡ length ds = ap (λ (x : Tested). x .reached .progress .contours) q ∙ omega arith in
-              let d : t .progress .decisions ≡ k = ap (λ (x : Tested). x .reached .progress .decisions) q ∙ omega arith in
-              let kept : _≡_ {A = CleanedSet} (answer 0 (t .progress .points) (t .progress .contours) 1 (t .progress .decisions)) (answer 0 (count (joined ds)) (length ds) 1 k) = cc in
-              let e : a ≡ answer 0 (count (joined ds)) (length ds) 1 k = f ∙ ap (λ (b : Bool). shape-answer b (t .progress)) (ap (λ (x : Tested). x .stands) q) ∙ kept in
+              let d : t .progress .decisions ≡ k .decisions = ap (λ (x : Tested). x .reached .progress .decisions) q ∙ omega arith in
+              let v : t .progress .turns ≡ k .turns = ap (λ (x : Tested). x .reached .progress .turns) q ∙ omega arith in
+              let kept : _≡_ {A = CleanedSet} (answer 0 (t .progress .points) (t .progress .contours) 1 (t .progress .decisions) (t .progress .turns))
+              (answer 0 (count (joined ds)) (length ds) 1 (k .decisions) (k .turns)) = cc in
+              let e : a ≡ answer 0 (count (joined ds)) (length ds) 1 (k .decisions) (k .turns) = f ∙ ap (λ (b : Bool). shape-answer b (t .progress)) (ap (λ (x : Tested). x .stands) q) ∙ kept in
               swept-back p cs [] contours-sound l z next′ prev′ mark′ s _ _ e
               _ _ (ap (λ (x : Tested). x .reached .points) q ∙ placed-front (l .points) (joined ds))
               _ _ (ap (λ (x : Tested). x .reached .contours) q ∙ placed-front (l .contours) (rows (laid 0 (map count ds)))) _ _ refl
@@ -212,7 +216,7 @@ module _ (p : List ℤ) (cs ss : List (List ℕ)) (l : Lent) where
       → r ≡ first-of (so-far asked ++ (scratch (count p) (length (l .next)) (length (l .prev)) (length (l .mark)) ++ room roomy)) → r ≡ first-of shapes-rungs
   shapes-first = first-refusal p cs ss both-sound l
 
-  pub shapes-refused : (rule : Rule) (r : ℕ) → r ≡ first-of shapes-rungs → (r ≡ 0 → ⊥) → (a : CleanedSet) → a ≡ answer r 0 0 0 0 → leaving a l ≡ shapes-outcome rule p cs ss l
+  pub shapes-refused : (rule : Rule) (r : ℕ) → r ≡ first-of shapes-rungs → (r ≡ 0 → ⊥) → (a : CleanedSet) → a ≡ answer r 0 0 0 0 0 → leaving a l ≡ shapes-outcome rule p cs ss l
   unfolding shapes-outcome
   shapes-refused rule r e n a f = refused p cs ss both-sound l _ r e n a f
 
@@ -241,7 +245,7 @@ module _ (p : List ℤ) (cs ss : List (List ℕ)) (l : Lent) where
     pub shapes-are-kept : (rule : Rule) (t : Total) (next′ prev′ mark′ : List ℕ) (out′ : List ℤ) (records′ groups′ : List (List ℕ))
         → grouped (t .shapes) (reached (t .progress) out′ records′) groups′ ≡ run-shapes rule (shapes p (spans cs) (spans ss)) (grouped 0 (reached none-yet (l .points) (l .contours)) (l .shapes))
         → Zeroed (take (count p) (l .next)) (take (count p) (l .prev)) (take (count p) (l .mark)) next′ prev′ mark′
-        → (w : CleanedSet) → w ≡ answer 0 (t .progress .points) (t .progress .contours) (t .shapes) (t .progress .decisions)
+        → (w : CleanedSet) → w ≡ answer 0 (t .progress .points) (t .progress .contours) (t .shapes) (t .progress .decisions) (t .progress .turns)
         → leaving w
         (lent (next′ ++ drop (count p) (l .next)) (prev′ ++ drop (count p) (l .prev)) (mark′ ++ drop (count p) (l .mark)) out′ records′ groups′)
         ≡ shapes-outcome rule p cs ss l
@@ -256,8 +260,11 @@ module _ (p : List ℤ) (cs ss : List (List ℕ)) (l : Lent) where
         let a : t .progress .points ≡ count (joined (joined ds)) = ap (λ (x : Grouped). x .reached .progress .points) q ∙ omega arith in
         let b : t .progress .contours ≡ length (joined ds) = ap (λ (x : Grouped). x .reached .progress .contours) q ∙ omega arith in
         let c : t .shapes ≡ length ds = ap (λ (x : Grouped). x .written) q ∙ omega arith in
-        let d : t .progress .decisions ≡ shapes-fate rule all .decisions = ap (λ (x : Grouped). x .reached .progress .decisions) q ∙ omega arith in
-        let f : _≡_ {A = CleanedSet} (answer 0 (t .progress .points) (t .progress .contours) (t .shapes) (t .progress .decisions)) (answer 0 (count (joined (joined ds))) (length (joined ds)) (length ds) (shapes-fate rule all .decisions)) = cc in
+        let k = shapes-fate rule all .tally in
+        let d : t .progress .decisions ≡ k .decisions = ap (λ (x : Grouped). x .reached .progress .decisions) q ∙ omega arith in
+        let v : t .progress .turns ≡ k .turns = ap (λ (x : Grouped). x .reached .progress .turns) q ∙ omega arith in
+        let f : _≡_ {A = CleanedSet} (answer 0 (t .progress .points) (t .progress .contours) (t .shapes) (t .progress .decisions) (t .progress .turns))
+        (answer 0 (count (joined (joined ds))) (length (joined ds)) (length ds) (k .decisions) (k .turns)) = cc in
         swept-back p cs ss both-sound l z next′ prev′ mark′ s _ _ (so-far ∙ f)
         _ _ (ap (λ (x : Grouped). x .reached .points) q ∙ placed-front (l .points) (joined (joined ds)))
         _ _ (ap (λ (x : Grouped). x .reached .contours) q ∙ placed-front (l .contours) (rows (laid 0 (map count (joined ds)))))

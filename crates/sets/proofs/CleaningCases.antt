@@ -10,13 +10,13 @@ use Rattle.grid.specs.Corners.{last, differing, distinct-neighbours, corners-fr
 use Rattle.replies.specs.Ladder.{first-of}
 use Rattle.grid.specs.Cases.{row, W3, W4, W7, W9}
 use Rattle.ring.specs.declared.Rule.the-variants.{Collinear, Spike}
-use Rattle.ring.specs.Walk.{survivors-from, others, successor, predecessor, occurrences, unmark, unmark-about, remove, decide, look, looks, walk}
+use Rattle.ring.specs.Walk.{survivors-from, others, successor, predecessor, occurrences, unmark, unmark-about, remove, tally, decide, look, looks, walk}
 use Rattle.ring.specs.Rule.{goes-at}
 use Rattle.clean.specs.Verdicts.{is-simple, spike-free-distinct, no-spikes}
 use Rattle.clean.specs.Outcome.{chosen}
 use Rattle.buffer.specs.Spans.{laid, sound-from}
 use Rattle.buffer.specs.Sets.{joined}
-use Rattle.sets.specs.Fates.{fate, later, shape-fate, shapes-fate}
+use Rattle.sets.specs.Fates.{none-counted, fate, later, shape-fate, shapes-fate}
 use Rattle.sets.specs.Fates.Fate.{stays}
 use Rattle.sets.specs.Fates.ShapeFate.{fallen}
 use Rattle.sets.specs.Outcome.{answer, shape-outcome, shapes-outcome}
@@ -27,13 +27,13 @@ square = row (0 ∷ 0 ∷ 9 ∷ 0 ∷ 9 ∷ 9 ∷ 0 ∷ 9 ∷ [])
 abbrev line : List ℤ
 line = row (0 ∷ 0 ∷ 2 ∷ 0 ∷ 4 ∷ 0 ∷ [])
 
--- the duplicate of W7 stays, after 0 decisions
-w7-stays : fate Spike W7 ≡ stays W7 0
+-- the duplicate of W7 stays, after 0 decisions and 0 turns
+w7-stays : fate Spike W7 ≡ stays W7 none-counted
 unfolding limit most on-grid all-on-grid points cross dot last differing distinct-neighbours corners-from corners some first-of spike-free-distinct no-spikes fate
 w7-stays = refl
 
 -- a shape that starts with a line falls with it, whatever follows
-line-falls : shape-fate Collinear (line ∷ W4 ∷ []) ≡ fallen 1
+line-falls : shape-fate Collinear (line ∷ W4 ∷ []) ≡ fallen (tally 1 1)
 unfolding survivors-from others successor predecessor occurrences unmark unmark-about remove decide look looks walk goes-at points cross dot limit most on-grid all-on-grid first-of last differing distinct-neighbours corners-from corners some is-simple chosen fate later shape-fate
 line-falls = refl
 
@@ -41,7 +41,7 @@ line-falls = refl
 line-and-w3 : shape-outcome Collinear (line ++ W3) ((0 ∷ 3 ∷ []) ∷ (3 ∷ 6 ∷ []) ∷ [])
     (record { next = replicate 7 9; prev = replicate 7 9; mark = replicate 7 9; points = row (replicate 13 9); contours = replicate 3 (9 ∷ 9 ∷ []); shapes = [] })
     ≡ record {
-      answer = answer 7 0 0 0 1;
+      answer = answer 7 0 0 0 1 1;
       rows = record {
         next = 0 ∷ 0 ∷ 0 ∷ 0 ∷ 0 ∷ 0 ∷ 9 ∷ [];
         prev = 0 ∷ 0 ∷ 0 ∷ 0 ∷ 0 ∷ 0 ∷ 9 ∷ [];
@@ -58,7 +58,7 @@ line-and-w3 = refl
 w4-and-square : shape-outcome Collinear (row (0 ∷ 0 ∷ 2 ∷ 0 ∷ 4 ∷ 0 ∷ 4 ∷ 4 ∷ 0 ∷ 4 ∷ 0 ∷ 0 ∷ 9 ∷ 0 ∷ 9 ∷ 9 ∷ 0 ∷ 9 ∷ [])) ((0 ∷ 5 ∷ []) ∷ (5 ∷ 9 ∷ []) ∷ [])
     (record { next = replicate 10 7; prev = replicate 10 7; mark = replicate 10 7; points = row (replicate 19 7); contours = replicate 3 (7 ∷ 7 ∷ []); shapes = [] })
     ≡ record {
-      answer = answer 0 8 2 1 6;
+      answer = answer 0 8 2 1 6 6;
       rows = record {
         next = 0 ∷ 0 ∷ 0 ∷ 0 ∷ 0 ∷ 0 ∷ 0 ∷ 0 ∷ 0 ∷ 7 ∷ [];
         prev = 0 ∷ 0 ∷ 0 ∷ 0 ∷ 0 ∷ 0 ∷ 0 ∷ 0 ∷ 0 ∷ 7 ∷ [];
@@ -72,7 +72,7 @@ unfolding survivors-from others successor predecessor occurrences unmark unmark-
 w4-and-square = refl
 
 -- the same line among shapes is dropped, and its decision counts; an empty shape stays
-fallen-dropped : shapes-fate Collinear ((line ∷ []) ∷ [] ∷ (W4 ∷ []) ∷ []) ≡ record { shapes = [] ∷ (W9 ∷ []) ∷ []; decisions = 7 }
+fallen-dropped : shapes-fate Collinear ((line ∷ []) ∷ [] ∷ (W4 ∷ []) ∷ []) ≡ record { shapes = [] ∷ (W9 ∷ []) ∷ []; tally = tally 7 7 }
 unfolding survivors-from others successor predecessor occurrences unmark unmark-about remove decide look looks walk goes-at points cross dot limit most on-grid all-on-grid first-of last differing distinct-neighbours corners-from corners some is-simple chosen fate later shape-fate shapes-fate
 fallen-dropped = refl
 
@@ -80,7 +80,7 @@ fallen-dropped = refl
 empty-stays : shapes-outcome Collinear [] ((0 ∷ 0 ∷ []) ∷ []) ((0 ∷ 0 ∷ []) ∷ (0 ∷ 1 ∷ []) ∷ [])
     (record { next = []; prev = []; mark = []; points = []; contours = replicate 1 (7 ∷ 7 ∷ []); shapes = replicate 2 (7 ∷ 7 ∷ []) })
     ≡ record {
-      answer = answer 0 0 0 1 0;
+      answer = answer 0 0 0 1 0 0;
       rows = record { next = []; prev = []; mark = []; points = []; contours = (7 ∷ 7 ∷ []) ∷ []; shapes = (0 ∷ 0 ∷ []) ∷ (7 ∷ 7 ∷ []) ∷ [] };
     }
 unfolding survivors-from others successor predecessor occurrences unmark unmark-about remove decide look looks walk goes-at points cross dot limit most on-grid all-on-grid first-of last differing distinct-neighbours corners-from corners some is-simple chosen fate later shape-fate shapes-fate shapes-outcome laid joined sound-from
@@ -92,7 +92,7 @@ middle-falls : shapes-outcome Collinear
     ((0 ∷ 5 ∷ []) ∷ (5 ∷ 8 ∷ []) ∷ (8 ∷ 12 ∷ []) ∷ (12 ∷ 16 ∷ []) ∷ []) ((0 ∷ 1 ∷ []) ∷ (1 ∷ 3 ∷ []) ∷ (3 ∷ 4 ∷ []) ∷ [])
     (record { next = replicate 16 7; prev = replicate 16 7; mark = replicate 16 7; points = row (replicate 32 7); contours = replicate 4 (7 ∷ 7 ∷ []); shapes = replicate 3 (7 ∷ 7 ∷ []) })
     ≡ record {
-      answer = answer 0 8 2 2 7;
+      answer = answer 0 8 2 2 7 7;
       rows = record {
         next = replicate 16 0;
         prev = replicate 16 0;

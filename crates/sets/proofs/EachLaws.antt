@@ -40,7 +40,7 @@ pub room-front : (l rest : List (List ℤ)) (at : Progress) (out : List ℤ) (re
 room-front l rest at out records r =
     let j = joined-both l rest in
     let n = length-append l rest in
-    record { room = omega (arith, r .room); space = omega (arith, r .space); narrow = omega (arith, r .narrow); fits = omega (arith, r .fits) }
+    record { room = omega (arith, r .room); space = omega (arith, r .space); narrow = omega (arith, r .narrow); fits = omega (arith, r .fits); turns-fit = omega (arith, r .turns-fit) }
 
 -- room for the rest, and rows as long as they were
 pub record Leaves (rest : List (List ℤ)) (s t : Reached) : Type 0 where
@@ -72,7 +72,7 @@ module _ (rule : Rule) (rest : List (List ℤ)) where
           let j = joined-both l rest in
           let m = length-append l rest in
           record {
-            room = record { room = omega (arith, q .room); space = omega (arith, q .space); narrow = omega (arith, q .narrow); fits = omega (arith, q .fits) };
+            room = record { room = omega (arith, q .room); space = omega (arith, q .space); narrow = omega (arith, q .narrow); fits = omega (arith, q .fits); turns-fit = omega (arith, q .turns-fit) };
             points-long = refl;
             contours-long = refl;
           }

@@ -21,15 +21,15 @@ use Rattle.clean.specs.Outcome.{chosen}
 use Rattle.buffer.specs.Spans.{spans, laid, sound-from}
 use Rattle.buffer.specs.Sets.{joined, contours}
 use Rattle.buffer.specs.Contours.{refusals}
-use Rattle.sets.specs.Fates.{Fate, fate, later, ShapeFate, behind, shape-fate}
+use Rattle.sets.specs.Fates.{none-counted, Fate, fate, later, ShapeFate, behind, shape-fate}
 use Rattle.sets.specs.Fates.Fate.{stays, gone}
 use Rattle.sets.specs.Fates.ShapeFate.{stands}
 use Rattle.sets.specs.Outcome.{Lent, Outcome, lacking, cleaned-shape, shape-outcome}
 
--- the first contour cleaned and the rest copied, with the decisions of a cleaning of all
+-- the first contour cleaned and the rest copied, with the decisions and the turns of a cleaning of all
 abbrev pub first-alone : Rule → List (List ℤ) → ShapeFate
-first-alone rule [] = stands [] 0
-first-alone rule (c ∷ l) = behind (fate rule c) (record { contours = l; decisions = later rule l .decisions })
+first-alone rule [] = stands [] none-counted
+first-alone rule (c ∷ l) = behind (fate rule c) (record { contours = l; tally = later rule l .tally })
 
 -- what such a program answers, and leaves in the rows
 abbrev pub idle : Rule → List ℤ → List (List ℕ) → Lent → Outcome
@@ -44,7 +44,7 @@ pub its-decisions-are-right : (rule : Rule) (p : List ℤ) (cs : List (List ℕ)
 unfolding shape-outcome shape-fate
 its-decisions-are-right rule p cs l z = rw (z, shape-outcome) (go (contours p (spans cs)))
   where
-    first : (f : Fate) (s : List (List ℤ)) → cleaned-shape (points-in p) (behind f (record { contours = s; decisions = later rule s .decisions })) l .answer .decisions
+    first : (f : Fate) (s : List (List ℤ)) → cleaned-shape (points-in p) (behind f (record { contours = s; tally = later rule s .tally })) l .answer .decisions
         ≡ cleaned-shape (points-in p) (behind f (later rule s)) l .answer .decisions
     first (stays d k) s = refl
     first (gone k) s = refl

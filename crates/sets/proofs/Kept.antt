@@ -18,7 +18,7 @@ use Rattle.replies.specs.Ladder.{first-of}
 use Rattle.replies.proofs.LadderLaws.{cleared}
 use Rattle.area.proofs.Removal.{few-points}
 use Rattle.ring.specs.declared.Rule.{Rule}
-use Rattle.ring.specs.Walk.{End, survivors, fresh}
+use Rattle.ring.specs.Walk.{Tally, End, survivors, fresh}
 use Rattle.ring.specs.Walk.End.{kept, collapsed}
 use Rattle.ring.specs.Rule.{goes-at, goes}
 use Rattle.ring.proofs.Branches.{less?, true-false}
@@ -38,7 +38,7 @@ use Rattle.buffer.specs.Contours.{refusals as contour-refusals}
 use Rattle.buffer.specs.Shapes.{refusals as shape-refusals}
 use Rattle.buffer.proofs.RefusalLaws.{accepted}
 use Rattle.buffer.proofs.WrittenLaws.{rows-front}
-use Rattle.sets.specs.Fates.{Fate, walk-fate, fate, and-later, later, ShapeFate, behind, shape-fate, and-others, shapes-fate}
+use Rattle.sets.specs.Fates.{none-counted, Fate, walk-fate, fate, and-later, later, ShapeFate, behind, shape-fate, and-others, shapes-fate}
 use Rattle.sets.specs.Fates.Fate.{stays, gone}
 use Rattle.sets.specs.Fates.ShapeFate.{stands, fallen}
 use Rattle.sets.specs.Promises.{Contours, AllContours, Collapses, OutlineCollapses, KeptAs, LaterFollow, Follow, ShapesFollow}
@@ -80,7 +80,7 @@ module _ (rule : Rule) where
         chosen-even s,
       )
 
-      go : (b : Bool) → passes rule (points c) ≡ b → Right rule c (elim b [ true ↦ stays c 0 | false ↦ walk-fate c (walked rule c .end) (walked rule c .tally) ])
+      go : (b : Bool) → passes rule (points c) ≡ b → Right rule c (elim b [ true ↦ stays c none-counted | false ↦ walk-fate c (walked rule c .end) (walked rule c .tally) ])
       go true t = (
         record {
           stands = λ x. true-false t (x .fails);
@@ -199,7 +199,7 @@ module _ (rule : Rule) (p : List ℤ) (cs : List (List ℕ)) (l : Lent) (o : Out
     kept-contours = contours (take (2 * o .answer .points) (o .rows .points)) (spans kept-ranges)
 
     -- what the shape stands with
-    module _ (t : List (List ℤ)) (k : ℕ) (even : Even t) (e : o ≡ cleaned-shape (count p) (stands t k) l) where
+    module _ (t : List (List ℤ)) (k : Tally) (even : Even t) (e : o ≡ cleaned-shape (count p) (stands t k) l) where
       ranges-are : spans kept-ranges ≡ contour-spans t
       ranges-are = rw e (ranges-back 0 (map count t) (length t) (length-map t count) (l .contours))
 

@@ -28,7 +28,7 @@ use Rattle.sets.proofs.Kept.{ShapeRight, shape-is-right}
 abbrev pub among : Shapes → Grouped → Grouped
 among t s =
     grouped (s .written + length (t .shapes))
-    (after (record { contours = joined (t .shapes); decisions = t .decisions }) (s .reached))
+    (after (record { contours = joined (t .shapes); tally = t .tally }) (s .reached))
     (placed (s .written) (rows (laid (s .reached .progress .contours) (map length (t .shapes)))) (s .shapes))
 
 module _ (rule : Rule) where
@@ -36,11 +36,11 @@ module _ (rule : Rule) where
   among-first : (c rest : List (List ℤ)) (w : ShapeFate) → ShapeRight rule c w → (s : Grouped) → Leaves rest (s .reached) (shaped rule w (s .reached) .reached) → s .written + 1 ≤ length (s .shapes)
       → (t : Shapes) → among t (added (shaped rule w (s .reached)) s) ≡ among (and-others w t) s
   unfolding joined laid
-  among-first c rest (fallen k) x s y h t = same-grouped refl (same-reached (same-progress refl refl (omega arith)) refl refl) refl
+  among-first c rest (fallen k) x s y h t = same-grouped refl (same-reached (same-progress refl refl (omega arith) (omega arith)) refl refl) refl
   among-first c rest (stands ds k) x s y h t =
       let e = points-even ds (x .1) in
       same-grouped (omega arith)
-      (after-both (record { contours = ds; decisions = k }) (record { contours = joined (t .shapes); decisions = t .decisions }) (s .reached) (x .1)
+      (after-both (record { contours = ds; tally = k }) (record { contours = joined (t .shapes); tally = t .tally }) (s .reached) (x .1)
       (omega (arith, y .room .room, y .points-long)) (omega (arith, y .room .space, y .contours-long)))
       (ap (placed (s .written + 1) (rows (laid (s .reached .progress .contours + length ds) (map length (t .shapes))))) (set-placed (s .shapes) (s .written) _ (omega arith))
       ∙ laid-behind (s .shapes) (s .written) (s .written + 1) (s .reached .progress .contours) (s .reached .progress .contours + length ds) (length ds ∷ []) (map length (t .shapes)) h refl (omega arith))

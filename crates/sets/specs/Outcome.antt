@@ -18,8 +18,8 @@ use Rattle.sets.specs.declared.cleaning.CleanedSet.{CleanedSet}
 use Rattle.sets.specs.Fates.{ShapeFate, Shapes, shape-fate, shapes-fate}
 use Rattle.sets.specs.Fates.ShapeFate.{stands, fallen}
 
-abbrev pub answer : ℕ → ℕ → ℕ → ℕ → ℕ → CleanedSet
-answer reply points contours shapes decisions = record { reply = reply; points = points; contours = contours; shapes = shapes; decisions = decisions }
+abbrev pub answer : ℕ → ℕ → ℕ → ℕ → ℕ → ℕ → CleanedSet
+answer reply points contours shapes decisions turns = record { reply = reply; points = points; contours = contours; shapes = shapes; decisions = decisions; turns = turns }
 
 -- the lent rows: the scratch, and the rows for points, contour ranges and shape ranges
 pub record Lent : Type 0 where
@@ -63,13 +63,13 @@ lacking p cs ss l = scratch (count p) (length (l .next)) (length (l .prev)) (len
 
 -- by the number of the first refusal: refused, and all rows as they were, or done
 abbrev pub outcome : ℕ → Lent → Outcome → Outcome
-outcome (suc k) l done = leaving (answer (suc k) 0 0 0 0) l
+outcome (suc k) l done = leaving (answer (suc k) 0 0 0 0 0) l
 outcome zero l done = done
 
 -- a cleaned shape: kept in front of the rows, or collapsed with its first contour
 abbrev pub cleaned-shape : ℕ → ShapeFate → Lent → Outcome
-cleaned-shape n (stands cs k) l = record { answer = answer 0 (count (joined cs)) (length cs) 1 k; rows = swept n (with-contours cs l) }
-cleaned-shape n (fallen k) l = record { answer = answer 7 0 0 0 k; rows = swept n l }
+cleaned-shape n (stands cs t) l = record { answer = answer 0 (count (joined cs)) (length cs) 1 (t .decisions) (t .turns); rows = swept n (with-contours cs l) }
+cleaned-shape n (fallen t) l = record { answer = answer 7 0 0 0 (t .decisions) (t .turns); rows = swept n l }
 
 -- cleaning one shape: the contours of a contour set
 unfoldable pub shape-outcome : Rule → List ℤ → List (List ℕ) → Lent → Outcome
@@ -79,7 +79,7 @@ shape-outcome rule p cs l =
 
 -- cleaned shapes, in front of the rows
 abbrev pub cleaned-shapes : ℕ → Shapes → Lent → Outcome
-cleaned-shapes n ss l = record { answer = answer 0 (count (joined (joined (ss .shapes)))) (length (joined (ss .shapes))) (length (ss .shapes)) (ss .decisions); rows = swept n (with-shapes (ss .shapes) l) }
+cleaned-shapes n ss l = record { answer = answer 0 (count (joined (joined (ss .shapes)))) (length (joined (ss .shapes))) (length (ss .shapes)) (ss .tally .decisions) (ss .tally .turns); rows = swept n (with-shapes (ss .shapes) l) }
 
 -- cleaning shapes: those of a shape set
 unfoldable pub shapes-outcome : Rule → List ℤ → List (List ℕ) → List (List ℕ) → Lent → Outcome

@@ -10,7 +10,7 @@ use crate::inner::shapes;
 use crate::inner::shapes::Total;
 use ring::Rule;
 
-// The answer of cleaning a set: its reply number, how many of each are kept, and after how many decisions.
+// The answer of cleaning a set: its reply number, how many of each are kept, after how many decisions, and in how many turns.
 #[repr(C)]
 pub struct CleanedSet {
     pub reply: u32,
@@ -18,11 +18,12 @@ pub struct CleanedSet {
     pub contours: usize,
     pub shapes: usize,
     pub decisions: usize,
+    pub turns: usize,
 }
 
 // An answer with nothing kept.
-fn nothing(reply: u32, decisions: usize) -> CleanedSet
-    ensures { λ r. ⌜ r ≡ answer reply 0 0 0 decisions ⌝ }
+fn nothing(reply: u32, decisions: usize, turns: usize) -> CleanedSet
+    ensures { λ r. ⌜ r ≡ answer reply 0 0 0 decisions turns ⌝ }
 {
     CleanedSet {
         reply,
@@ -30,6 +31,7 @@ fn nothing(reply: u32, decisions: usize) -> CleanedSet
         contours: 0,
         shapes: 0,
         decisions,
+        turns,
     }
 }
 
@@ -39,7 +41,7 @@ fn shape_answer(tried: Tried) -> CleanedSet
 {
     let progress = tried.progress;
     if !tried.stays {
-        return nothing(replies::COLLAPSED, progress.decisions);
+        return nothing(replies::COLLAPSED, progress.decisions, progress.turns);
     }
     CleanedSet {
         reply: replies::DONE,
@@ -47,13 +49,15 @@ fn shape_answer(tried: Tried) -> CleanedSet
         contours: progress.contours,
         shapes: 1,
         decisions: progress.decisions,
+        turns: progress.turns,
     }
 }
 
 // The answer of shapes: those that stand are kept.
 fn shapes_answer(at: Total) -> CleanedSet
     ensures { λ r. ⌜
-        r ≡ answer 0 (at .progress .points) (at .progress .contours) (at .shapes) (at .progress .decisions)
+        r ≡ answer 0 (at .progress .points) (at .progress .contours) (at .shapes)
+        (at .progress .decisions) (at .progress .turns)
         ⌝ }
 {
     let progress = at.progress;
@@ -63,6 +67,7 @@ fn shapes_answer(at: Total) -> CleanedSet
         contours: progress.contours,
         shapes: at.shapes,
         decisions: progress.decisions,
+        turns: progress.turns,
     }
 }
 
@@ -113,7 +118,7 @@ pub fn clean_shape(
     let asked = buffer::contours::refused(points, ranges);
     let refused = or_lacking(asked, n, next.len(), prev.len(), mark.len(), room);
     if refused != 0 {
-        return nothing(refused, 0);
+        return nothing(refused, 0, 0);
     }
     let tried = shapes::sweep_shape(
         rule,
@@ -157,7 +162,7 @@ pub fn clean_shapes(
     let asked = buffer::shapes::refused(points, contours, shapes);
     let refused = or_lacking(asked, n, next.len(), prev.len(), mark.len(), room);
     if refused != 0 {
-        return nothing(refused, 0);
+        return nothing(refused, 0, 0);
     }
     let at = shapes::sweep_shapes(
         rule,

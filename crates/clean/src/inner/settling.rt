@@ -3,12 +3,9 @@ ghost use mathlib.Core.Path.{_≡_};
 ghost use Prim.Native.Nat.{_+_, _*_, _<_, _≤_};
 ghost use lib.IntN.{pos};
 ghost use lib.ListN.{length, getD, set};
-ghost use Rattle.rows.specs.Rows.{front};
-ghost use Rattle.ring.specs.Walk.{survivors};
 ghost use Rattle.ring.specs.Rule.{goes};
 ghost use Rattle.ring.specs.inside.Rows.{FirstStand};
-ghost use Rattle.clean.specs.Outcome.{chosen};
-ghost use Rattle.clean.specs.inside.Settling.{Ready, Settled, Swept};
+ghost use Rattle.clean.specs.inside.Settling.{Ready, Settled, Swept, WrittenOut};
 use crate::cleaning::Cleaned;
 use ring::Rule;
 
@@ -21,32 +18,44 @@ fn put(points: &[i32], i: usize, out: &mut [i32], k: usize)
         (2 * k + 1) (getD (now (points .entry)) (2 * i + 1) (pos 0))
         ⌝ }
 {
-    out[2 * k] = points[2 * i];
-    out[2 * k + 1] = points[2 * i + 1];
+    let x = points[2 * i];
+    let y = points[2 * i + 1];
+    out[2 * k] = x;
+    out[2 * k + 1] = y;
 }
 
-// Writes the points that survive in front of the output, and says how many they are.
-fn write(points: &[i32], mark: &[u8], out: &mut [i32]) -> usize
+// How many points survive, and how many of them are marked.
+pub struct Survived {
+    pub points: usize,
+    pub marked: usize,
+}
+
+// Writes the points that survive in front of the output. The mark of one that survives is 0 or 1.
+fn write(points: &[i32], mark: &[u8], out: &mut [i32]) -> Survived
     requires { ⌜ length (now points) ≡ 2 * length (now mark) ⌝ }
     requires { ⌜ length (now points) ≤ length (now out) ⌝ }
     ensures { λ r. ⌜
-        (r ≡ length (survivors (now (mark .entry))))
-        × (now (out .exit)
-        ≡ front (chosen (now (points .entry)) (survivors (now (mark .entry)))) (now (out .entry)))
+        WrittenOut (now (points .entry)) (now (mark .entry)) (now (out .entry)) r (now (out .exit))
         ⌝ }
 {
     let mut kept: usize = 0;
+    let mut marked: usize = 0;
     let mut i: usize = 0;
     while i < mark.len() {
-        if mark[i] < 2 {
+        let own = mark[i];
+        if own < 2 {
             put(points, i, out, kept);
             kept += 1;
+            marked += own as usize;
             i += 1;
         } else {
             i += 1;
         }
     }
-    kept
+    Survived {
+        points: kept,
+        marked,
+    }
 }
 
 // The walk and what it writes, with scratch of exactly the points' count, of three points or more that were looked over
@@ -70,22 +79,26 @@ pub fn settle_from(
     let walked = ring::inner::walk(rule, points, standing, next, prev, mark);
     let decisions = walked.decisions;
     if walked.kept {
+        let survived = write(points, mark, out);
+        let pending = survived.points - survived.marked;
         Cleaned {
             reply: replies::DONE,
-            points: write(points, mark, out),
+            points: survived.points,
             decisions,
+            turns: ring::inner::turns(walked, survived.points, pending, prev, mark),
         }
     } else {
         Cleaned {
             reply: replies::COLLAPSED,
             points: 0,
             decisions,
+            turns: decisions,
         }
     }
 }
 
-// The same of any count of points, looked over first. Where all stand the contour is copied, after as many decisions, and
-// nothing is linked; otherwise the walk begins at the first that is to go.
+// The same of any count of points, looked over first. Where all stand the contour is copied, after as many decisions,
+// each a turn, and nothing is linked; otherwise the walk begins at the first that is to go.
 pub fn settle(
     rule: Rule,
     points: &[i32],
@@ -102,6 +115,7 @@ pub fn settle(
             reply: replies::COLLAPSED,
             points: 0,
             decisions: 0,
+            turns: 0,
         };
     }
     let standing = ring::inner::standing(rule, points, mark.len());
@@ -111,6 +125,7 @@ pub fn settle(
             reply: replies::DONE,
             points: mark.len(),
             decisions: mark.len(),
+            turns: mark.len(),
         };
     }
     settle_from(rule, points, standing, next, prev, mark, out)

@@ -50,16 +50,20 @@ fn walked(
     let ending = ring::inner::walk(Rule::Collinear, contour, standing, next, prev, mark);
     let decisions = ending.decisions;
     if ending.kept {
+        let points = survivors(mark);
+        let pending = ring::inner::unmarked(mark);
         return Cleaned {
             reply: replies::DONE,
-            points: survivors(mark),
+            points,
             decisions,
+            turns: ring::inner::turns(ending, points, pending, prev, mark),
         };
     }
     Cleaned {
         reply: replies::COLLAPSED,
         points: 0,
         decisions,
+        turns: decisions,
     }
 }
 
@@ -76,6 +80,7 @@ pub fn answer(contour: &[i32], next: &mut [u32], prev: &mut [u32], mark: &mut [u
             reply: replies::COLLAPSED,
             points: 0,
             decisions: 0,
+            turns: 0,
         };
     }
     let standing = ring::inner::standing(Rule::Collinear, contour, n);
@@ -84,6 +89,7 @@ pub fn answer(contour: &[i32], next: &mut [u32], prev: &mut [u32], mark: &mut [u
             reply: replies::DONE,
             points: n,
             decisions: n,
+            turns: n,
         };
     }
     walked(contour, standing, next, prev, mark)

@@ -4,8 +4,9 @@ use mathlib.Core.Path.{_≡_}
 use mathlib.Core.Bool.{Bool, true, false}
 use mathlib.Core.List.{List, _++_}
 use lib.ListN.{length, getD, set, replicate}
-use Rattle.ring.specs.Walk.{unmarked, marked, removed, mark-at, Survivor, survivors, successor, predecessor, occurrences, unmark, unmark-about, remove, fresh, to-go, Walked, tally, ending}
+use Rattle.ring.specs.Walk.{unmarked, marked, removed, mark-at, Survivor, survivors, successor, predecessor, occurrences, unmark, unmark-about, remove, fresh, to-go, Walked, tally, ending, walk}
 use Rattle.ring.specs.Walk.End.{kept, collapsed}
+use Rattle.ring.specs.Promises.{idle-round}
 use Rattle.ring.specs.declared.Ending.{Ending}
 
 -- Each survivor has its successor in one row and its predecessor in the other.
@@ -80,6 +81,35 @@ pub record Removed (m : List ℕ) (c : ℕ) (m′ next prev : List ℕ) (taken :
   pub fewer : occurrences marked m′ + taken ≡ occurrences marked m
   pub small : taken ≤ 3
 
+-- A ring in which the walk has come to position p, which is marked, though not all are: each survivor has its predecessor in a row, and so many remain.
+pub record Idling (m prev : List ℕ) (p remaining : ℕ) : Type 0 where
+  pub prev-long : length prev ≡ length m
+  pub to-predecessor : (q : ℕ) → Survivor m q → getD prev q 0 ≡ predecessor m q
+  pub met : mark-at m p ≡ marked
+  pub some : occurrences unmarked m ≡ 0 → ⊥
+  pub remaining-is : remaining ≡ length (survivors m)
+
+-- The turns of a walk that kept a ring: the decisions that were made where it met a marked position, and its last round.
+abbrev pub turns-of : Ending → List ℕ → ℕ
+turns-of e m = e .decisions - occurrences unmarked m + idle-round m (e .at)
+
 -- The walk that an ending tells of, with the survivors in the row of marks.
 abbrev pub ended-as : Ending → List ℕ → Walked
-ended-as e m = elim (e .kept) [ true ↦ ending (kept (survivors m)) (tally (e .decisions)) | false ↦ ending collapsed (tally (e .decisions)) ]
+ended-as e m =
+    elim (e .kept) [
+      | true ↦ ending (kept (survivors m)) (tally (e .decisions) (turns-of e m))
+      | false ↦ ending collapsed (tally (e .decisions) (e .decisions))
+    ]
+
+-- A walk met a marked position; each survivor has its predecessor in a row, and the numbers are small.
+pub record Halted (m prev : List ℕ) (e : Ending) : Type 0 where
+  pub prev-long : length prev ≡ length m
+  pub to-predecessor : (q : ℕ) → Survivor m q → getD prev q 0 ≡ predecessor m q
+  pub met : mark-at m (e .at) ≡ marked
+  pub due : occurrences unmarked m ≤ e .decisions
+  pub small : e .decisions + length m < 2 ^ 64
+
+-- The walk of a ring of n ended so, with these marks, and with links back from which its turns can be told.
+pub record Ended (goes : ℕ → ℕ → ℕ → Bool) (n : ℕ) (m prev : List ℕ) (e : Ending) : Type 0 where
+  pub is : walk goes n ≡ ended-as e m
+  pub halted : e .kept ≡ true → Halted m prev e

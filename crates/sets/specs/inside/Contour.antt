@@ -30,13 +30,13 @@ pub record Cleanable (c : List ℤ) (next prev mark : List ℕ) (out : List ℤ)
 
 -- a contour's fate as an answer
 abbrev pub answer-of : Fate → Cleaned
-answer-of (stays d k) = answer 0 (count d) k
-answer-of (gone k) = answer 7 0 k
+answer-of (stays d t) = answer 0 (count d) (t .decisions) (t .turns)
+answer-of (gone t) = answer 7 0 (t .decisions) (t .turns)
 
 -- and what it leaves in the output
 abbrev pub output-of : Fate → List ℤ → List ℤ
-output-of (stays d k) out = front d out
-output-of (gone k) out = out
+output-of (stays d t) out = front d out
+output-of (gone t) out = out
 
 -- the answer and the output of cleaning one contour
 pub record Fated (rule : Rule) (c out : List ℤ) (r : Cleaned) (exit : List ℤ) : Type 0 where
@@ -55,11 +55,11 @@ noted tried ranges = record { tried = tried; ranges = ranges }
 abbrev pub noting : ℕ → Cleaned → Progress → List (List ℕ) → Noted
 noting zero r at ranges =
     noted
-    (record { stays = true; progress = record { points = at .points + r .points; contours = at .contours + 1; decisions = at .decisions + r .decisions } })
+    (record { stays = true; progress = record { points = at .points + r .points; contours = at .contours + 1; decisions = at .decisions + r .decisions; turns = at .turns + r .turns } })
     (set ranges (at .contours) (at .points ∷ (at .points + r .points) ∷ []))
 noting (suc k) r at ranges =
     noted
-    (record { stays = false; progress = record { points = at .points; contours = at .contours; decisions = at .decisions + r .decisions } })
+    (record { stays = false; progress = record { points = at .points; contours = at .contours; decisions = at .decisions + r .decisions; turns = at .turns + r .turns } })
     ranges
 
 -- a range more, and sums that fit
@@ -68,6 +68,7 @@ pub record Notable (r : Cleaned) (at : Progress) (ranges : List (List ℕ)) : Ty
   pub narrow : (at .contours + 1) * 16 < 2 ^ 64
   pub points-fit : at .points + r .points < 2 ^ 64
   pub decisions-fit : at .decisions + r .decisions < 2 ^ 64
+  pub turns-fit : at .turns + r .turns < 2 ^ 64
 
 -- how far a cleaning has come, and the rows as they are there
 pub record Reached : Type 0 where
@@ -80,21 +81,24 @@ reached progress points contours = record { progress = progress; points = points
 
 -- nothing is written
 abbrev pub none-yet : Progress
-none-yet = record { points = 0; contours = 0; decisions = 0 }
+none-yet = record { points = 0; contours = 0; decisions = 0; turns = 0 }
 
 -- a contour's fate, behind what is written
 abbrev pub placing : Fate → Reached → Reached
-placing (stays d k) s =
+placing (stays d t) s =
     reached
-    (record { points = s .progress .points + count d; contours = s .progress .contours + 1; decisions = s .progress .decisions + k })
+    (record { points = s .progress .points + count d; contours = s .progress .contours + 1; decisions = s .progress .decisions + t .decisions; turns = s .progress .turns + t .turns })
     (placed (2 * s .progress .points) d (s .points))
     (set (s .contours) (s .progress .contours) (s .progress .points ∷ (s .progress .points + count d) ∷ []))
-placing (gone k) s =
-    reached (record { points = s .progress .points; contours = s .progress .contours; decisions = s .progress .decisions + k }) (s .points) (s .contours)
+placing (gone t) s =
+    reached
+    (record { points = s .progress .points; contours = s .progress .contours; decisions = s .progress .decisions + t .decisions; turns = s .progress .turns + t .turns })
+    (s .points)
+    (s .contours)
 
 abbrev pub stayed : Fate → Bool
-stayed (stays d k) = true
-stayed (gone k) = false
+stayed (stays d t) = true
+stayed (gone t) = false
 
 -- a contour of the domain, with scratch, and room behind what is written
 pub record Placeable (c : List ℤ) (at : Progress) (next prev mark : List ℕ) (out : List ℤ) (records : List (List ℕ)) : Type 0 where
@@ -104,6 +108,7 @@ pub record Placeable (c : List ℤ) (at : Progress) (next prev mark : List ℕ) 
   pub space : at .contours < length records
   pub narrow : (at .contours + 1) * 16 < 2 ^ 64
   pub fits : at .decisions + 2 * length c < 2 ^ 64
+  pub turns-fit : at .turns + 3 * length c < 2 ^ 64
 
 -- one contour was cleaned behind what is written
 pub record Behind (rule : Rule) (c : List ℤ) (s : Reached) (r : Tried) (out : List ℤ) (records : List (List ℕ)) : Type 0 where

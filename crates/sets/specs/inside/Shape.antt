@@ -18,12 +18,13 @@ use Rattle.sets.specs.Fates.Fate.{stays, gone}
 use Rattle.sets.specs.Outcome.{answer}
 use Rattle.sets.specs.inside.Contour.{Scratch, Reached, placing}
 
--- room for contours behind what is written, and for their decisions
+-- room for contours behind what is written, and for their decisions and turns
 pub record Room (l : List (List ℤ)) (at : Progress) (out : List ℤ) (records : List (List ℕ)) : Type 0 where
   pub room : 2 * at .points + length (joined l) ≤ length out
   pub space : at .contours + length l ≤ length records
   pub narrow : (at .contours + length l) * 16 < 2 ^ 64
   pub fits : at .decisions + 2 * length (joined l) < 2 ^ 64
+  pub turns-fit : at .turns + 3 * length (joined l) < 2 ^ 64
 
 -- ranges that name parts of points of the domain
 pub record Named (p : List ℤ) (ranges : List (List ℕ)) : Type 0 where
@@ -51,8 +52,8 @@ tested stands reached = record { stands = stands; reached = reached }
 
 -- a shape, by the fate of its first contour
 abbrev pub outline : Fate → Rule → List (List ℤ) → Reached → Tested
-outline (stays d k) rule l s = tested true (run rule l (placing (stays d k) s))
-outline (gone k) rule l s = tested false (placing (gone k) s)
+outline (stays d t) rule l s = tested true (run rule l (placing (stays d t) s))
+outline (gone t) rule l s = tested false (placing (gone t) s)
 
 unfoldable pub run-shape : Rule → List (List ℤ) → Reached → Tested
 run-shape rule [] s = tested true s
@@ -66,5 +67,5 @@ pub record Zeroed (next prev mark next′ prev′ mark′ : List ℕ) : Type 0 w
 
 -- the answer of a shape that was cleaned alone: kept, or collapsed
 abbrev pub shape-answer : Bool → Progress → CleanedSet
-shape-answer true at = answer 0 (at .points) (at .contours) 1 (at .decisions)
-shape-answer false at = answer 7 0 0 0 (at .decisions)
+shape-answer true at = answer 0 (at .points) (at .contours) 1 (at .decisions) (at .turns)
+shape-answer false at = answer 7 0 0 0 (at .decisions) (at .turns)

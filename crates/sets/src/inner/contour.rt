@@ -5,11 +5,12 @@ use clean::Cleaned;
 use clean::inner::look;
 use ring::Rule;
 
-// How far a cleaning has come: how many points and contours are written, after how many decisions.
+// How far a cleaning has come: how many points and contours are written, after how many decisions and turns.
 pub struct Progress {
     pub points: usize,
     pub contours: usize,
     pub decisions: usize,
+    pub turns: usize,
 }
 
 // Whether what was cleaned stays, and how far the cleaning has come.
@@ -37,6 +38,7 @@ fn one(
             reply: replies::COLLAPSED,
             points: 0,
             decisions: 0,
+            turns: 0,
         };
     }
     let look = look::look_over(rule, contour, n);
@@ -46,6 +48,7 @@ fn one(
             reply: replies::DONE,
             points: n,
             decisions: 0,
+            turns: 0,
         };
     }
     clean::inner::settling::settle_from(
@@ -70,6 +73,7 @@ fn note(cleaned: Cleaned, at: Progress, records: &mut [[usize; 2]]) -> Tried
     let start = at.points;
     let k = at.contours;
     let decisions = at.decisions + cleaned.decisions;
+    let turns = at.turns + cleaned.turns;
     if cleaned.reply != 0 {
         return Tried {
             stays: false,
@@ -77,6 +81,7 @@ fn note(cleaned: Cleaned, at: Progress, records: &mut [[usize; 2]]) -> Tried
                 points: start,
                 contours: k,
                 decisions,
+                turns,
             },
         };
     }
@@ -88,6 +93,7 @@ fn note(cleaned: Cleaned, at: Progress, records: &mut [[usize; 2]]) -> Tried
             points: end,
             contours: k + 1,
             decisions,
+            turns,
         },
     }
 }

@@ -116,6 +116,7 @@ fn each(
             points: 0,
             contours: 0,
             decisions: 0,
+            turns: 0,
         },
     };
     let mut i: usize = 0;

@@ -6,7 +6,7 @@ use native.Mathlib.Omega.{arith}
 use lib.ListN.{length}
 use Rattle.ring.specs.Walk.{unmarked, mark-at, occurrences, to-go}
 use Rattle.ring.specs.Rule.{by, goes}
-use Rattle.ring.proofs.Loop.{Turn, Known, known, turn-start, turn-idle, turn-stay, stay-less, turn-removable, turn-go, go-less, turn-fall}
+use Rattle.ring.proofs.Loop.{Turn, Known, known, turn-start, turn-ends, turn-stay, stay-less, turn-removable, turn-go, go-less, turn-fall}
 use Rattle.ring.proofs.inner.round.Statement.{statement}
 use Rattle.ring.proofs.inner.round.Tie as tie
 
@@ -86,7 +86,10 @@ add-t22 : tie.Need-add-t22 Inv-loop μ-loop
 add-t22 c = let h = head (round-of (due-of (c .before .before))) in omega arith
 
 unmarked-requires : tie.Need-unmarked-requires Inv-loop μ-loop
-unmarked-requires c κs = search needs
+unmarked-requires c κs =
+    let i = c .before in
+    let h = head (round-of (due-of (i .before .before))) .0 in
+    omega (arith, h .fewer, i .if3 .taken)
 
 sub-t26 : tie.Need-sub-t26 Inv-loop μ-loop
 sub-t26 c = let h = head (round-of (due-of (c .before .before .before .before))) .0 in omega (arith, c .unmarked .ensures, h .few)
@@ -179,8 +182,8 @@ same-length-6 c = head (c .before .before) .0 .mark-long
 returns-2 : tie.Need-returns-2 Inv-loop μ-loop
 returns-2 c =
     let l = c .before .before in
-    let h = head l .0 in
-    turn-idle _ _ (many l) (l .loop .inv) (omega (arith, h .read, h .survives, c .if1 .left))
+    let h = head l in
+    turn-ends _ _ (many l) (l .loop .inv) (omega (arith, h .0 .read, h .0 .survives, c .if1 .left)) (omega (arith, h .1, h .0 .mark-long))
 
 pub round-spec : {M : Type 1} → statement M
 round-spec =

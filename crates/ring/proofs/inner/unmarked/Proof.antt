@@ -1,9 +1,10 @@
 -- `ring::inner::unmarked` meets its contract: the unmarked positions passed are counted.
 use borrow.Author.Needs.{needs}
 use Prim.Native.Nat.{_-_}
+use native.Mathlib.Omega.{arith}
 use lib.ListN.{length}
 use Rattle.ring.specs.Walk.{unmarked}
-use Rattle.ring.proofs.Counting.{Found, found-none, found-one, found-other, found-all}
+use Rattle.ring.proofs.Counting.{Found, found-none, found-less, found-one, found-other, found-all}
 use Rattle.ring.proofs.inner.unmarked.Statement.{statement}
 use Rattle.ring.proofs.inner.unmarked.Tie as tie
 
@@ -20,7 +21,9 @@ shared-slice-read-if1 : tie.Need-shared-slice-read-if1 Inv-loop μ-loop
 shared-slice-read-if1 c = search needs
 
 add-found : tie.Need-add-found Inv-loop μ-loop
-add-found c = search needs
+add-found c =
+    let l = c .before .before .before in
+    omega (arith, found-less _ _ (l .loop .inv) (c .before .before .loop-test .taken) (c .if1 .taken), l .before .pre)
 
 add-i : tie.Need-add-i Inv-loop μ-loop
 add-i c = search needs
@@ -40,6 +43,9 @@ loop-less-2 c = search needs
 loop-again-2 : tie.Need-loop-again-2 Inv-loop μ-loop
 loop-again-2 c = let l = c .before .before .before in found-other _ _ (l .loop .inv) (c .before .before .loop-test .taken) (c .if1 .left)
 
+cast-result : tie.Need-cast-result Inv-loop μ-loop
+cast-result c = search needs
+
 returns : tie.Need-returns Inv-loop μ-loop
 returns c = found-all _ _ (c .before .loop .inv) (c .loop-test .left)
 
@@ -58,4 +64,5 @@ unmarked-spec =
     add-i-2
     loop-less-2
     loop-again-2
+    cast-result
     returns)

@@ -8,10 +8,10 @@ use lib.ListN.{length}
 use Rattle.grid.specs.Limits.{most}
 use Rattle.grid.specs.Domain.{Contour}
 use Rattle.ring.specs.declared.Rule.{Rule}
-use Rattle.ring.specs.Walk.{fresh, walk}
+use Rattle.ring.specs.Walk.{fresh}
 use Rattle.ring.specs.Rule.{by, goes}
 use Rattle.ring.specs.inside.Rows.{first-marked, Begun}
-use Rattle.ring.proofs.Loop.{begun-first}
+use Rattle.ring.proofs.Loop.{begun-first, ended-long}
 use Rattle.ring.proofs.inner.walk.Statement.{statement}
 use Rattle.ring.proofs.inner.walk.Tie as tie
 
@@ -84,7 +84,7 @@ returns c =
     let r = c .before .before .before .before .before .before in
     let t = r .before .before .before .before in
     let m = t .before .before .before .before in
-    rw (t .enum-told .given .1) (ap (walk (goes (by true) (head (linking m) .args .points .now))) (sym (long m)) ∙ r .round .ensures)
+    rw (t .enum-told .given .1) (ended-long (long m) (r .round .ensures))
 
 same-length-4 : tie.Need-same-length-4
 same-length-4 c = search needs
@@ -100,7 +100,7 @@ returns-2 c =
     let r = c .before .before .before .before .before .before in
     let t = r .before .before .before .before in
     let m = t .before .before .before .before in
-    rw (t .enum-told2 .given .1) (ap (walk (goes (by false) (head (linking m) .args .points .now))) (sym (long m)) ∙ r .round2 .ensures)
+    rw (t .enum-told2 .given .1) (ended-long (long m) (r .round2 .ensures))
 
 pub walk-spec : {M : Type 1} → statement M
 walk-spec =

@@ -1,5 +1,6 @@
 -- `clean::inner::settling::settle_from` meets its contract, however the walk ends.
 use borrow.Author.Needs.{needs}
+use Rattle.clean.proofs.RowLaws.{pending-unmarked}
 use Rattle.clean.proofs.OutcomeLaws.{settled-kept, settled-fallen}
 use Rattle.clean.proofs.inner.settling.settle_from.Statement.{statement}
 use Rattle.clean.proofs.inner.settling.settle_from.Tie as tie
@@ -22,6 +23,16 @@ head w =
 write-requires : tie.Need-write-requires
 write-requires c κs = search needs
 
+sub-pending : tie.Need-sub-pending
+sub-pending c = pending-unmarked (c .before .before .write .ensures) .0
+
+turns-requires : tie.Need-turns-requires
+turns-requires c κs =
+    let said = c .before .before .before .before in
+    let w = said .write .ensures in
+    let kept = said .before .before .before in
+    (walked-of (kept .before) .walk .ensures .halted (kept .if1 .taken), w .points-are, pending-unmarked w .1)
+
 same-length : tie.Need-same-length
 same-length c = search needs
 
@@ -36,11 +47,12 @@ same-length-4 c = search needs
 
 returns : tie.Need-returns
 returns c =
-    let said = c .before in
+    let said = c .before .before .before .before .before in
     let kept = said .before .before .before in
     let walked = walked-of (kept .before) in
     let s = head walked in
-    settled-kept (s .args .rule) (s .args .points .now) _ (s .pre .0 .0 .contour) (walked .walk .result) _ (walked .walk .ensures) (kept .if1 .taken) _ _ (said .write .ensures .0) (said .write .ensures .1)
+    let w = said .write .ensures in
+    settled-kept (s .args .rule) (s .args .points .now) _ (s .pre .0 .0 .contour) (walked .walk .result) _ _ (walked .walk .ensures) (kept .if1 .taken) _ _ _ (w .points-are) (c .turns .ensures) (w .output)
 
 same-length-5 : tie.Need-same-length-5
 same-length-5 c = search needs
@@ -55,7 +67,7 @@ returns-2 : tie.Need-returns-2
 returns-2 c =
     let walked = walked-of (c .before) in
     let s = head walked in
-    settled-fallen (s .args .rule) (s .args .points .now) _ (s .pre .0 .0 .contour) (walked .walk .result) _ (walked .walk .ensures) (c .if1 .left)
+    settled-fallen (s .args .rule) (s .args .points .now) _ (s .pre .0 .0 .contour) (walked .walk .result) _ _ (walked .walk .ensures) (c .if1 .left)
 
 pub settle-from-spec : {M : Type 1} → statement M
 settle-from-spec =
@@ -63,6 +75,8 @@ settle-from-spec =
     (tie.spec
     walk-requires
     write-requires
+    sub-pending
+    turns-requires
     same-length
     same-length-2
     same-length-3

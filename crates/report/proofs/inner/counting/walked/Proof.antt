@@ -5,6 +5,7 @@ use native.Mathlib.Omega.{arith}
 use borrow.Author.Needs.{needs}
 use Rattle.ring.specs.declared.Rule as R
 use Rattle.clean.proofs.OutcomeLaws.{settled-kept, settled-fallen}
+use Rattle.report.proofs.CountLaws.{few-unmarked}
 use Rattle.report.proofs.inner.counting.walked.Statement.{statement}
 use Rattle.report.proofs.inner.counting.walked.Tie as tie
 
@@ -19,6 +20,23 @@ survivors-requires c κs =
     let start = lent .before .before .before .before in
     omega (arith, start .pre .1 .1 .1, walked .walk .kept .1 .1 .1 .1 .1 .0)
 
+unmarked-requires : tie.Need-unmarked-requires
+unmarked-requires c κs =
+    let back = c .before .before .before .before in
+    let walked = back .before .before .before .before .before .before in
+    let lent = walked .before .before .before in
+    let start = lent .before .before .before .before in
+    few-unmarked _ (omega (arith, start .pre .1 .1 .1, walked .walk .kept .1 .1 .1 .1 .1 .0))
+
+turns-requires : tie.Need-turns-requires
+turns-requires c κs =
+    let due = c .before .before in
+    let said = due .before .before in
+    let kept = said .before .before in
+    let back = kept .before in
+    let walked = back .before .before .before .before .before .before in
+    (walked .walk .ensures .halted (kept .if1 .taken), said .survivors .ensures, due .unmarked .ensures)
+
 same-length : tie.Need-same-length
 same-length c = search needs
 
@@ -30,13 +48,14 @@ same-length-3 c = search needs
 
 returns : tie.Need-returns
 returns c =
-    let kept = c .before .before in
+    let said = c .before .before .before .before .before in
+    let kept = said .before .before in
     let back = kept .before in
     let walked = back .before .before .before .before .before .before in
     let lent = walked .before .before .before in
     let start = lent .before .before .before .before in
-    settled-kept R.Rule.Collinear (start .args .contour .now) [] (start .pre .0 .0) (walked .walk .result) _ (walked .walk .ensures)
-    (kept .if1 .taken) _ _ (c .survivors .ensures) refl .answer
+    settled-kept R.Rule.Collinear (start .args .contour .now) [] (start .pre .0 .0) (walked .walk .result) _ _ (walked .walk .ensures)
+    (kept .if1 .taken) _ _ _ (said .survivors .ensures) (c .turns .ensures) refl .answer
 
 same-length-4 : tie.Need-same-length-4
 same-length-4 c = search needs
@@ -53,7 +72,7 @@ returns-2 c =
     let walked = back .before .before .before .before .before .before in
     let lent = walked .before .before .before in
     let start = lent .before .before .before .before in
-    settled-fallen R.Rule.Collinear (start .args .contour .now) [] (start .pre .0 .0) (walked .walk .result) _ (walked .walk .ensures)
+    settled-fallen R.Rule.Collinear (start .args .contour .now) [] (start .pre .0 .0) (walked .walk .result) _ _ (walked .walk .ensures)
     (c .if1 .left) .answer
 
 pub walked-spec : {M : Type 1} → statement M
@@ -62,6 +81,8 @@ walked-spec =
     (tie.spec
     walk-requires
     survivors-requires
+    unmarked-requires
+    turns-requires
     same-length
     same-length-2
     same-length-3

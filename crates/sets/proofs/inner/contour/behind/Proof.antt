@@ -15,11 +15,12 @@ start lent = lent .before .before .before .before .before
 abbrev head : tie.After-one → tie.Start
 head c = start (c .before .before .before .before)
 
--- from the end to the contour's answer
+-- from where the rows are back to the contour's answer, and from the end
+abbrev answer-of : tie.After-slice-known6 → tie.After-one
+answer-of back = back .before .before .before .before .before .before
+
 abbrev said-of : tie.After-records → tie.After-one
-said-of c =
-    let back = c .before .before .before .before in
-    back .before .before .before .before .before .before
+said-of c = answer-of (c .before .before .before .before)
 
 mul-from : tie.Need-mul-from
 mul-from c = search needs
@@ -41,8 +42,7 @@ one-requires c κs = cleanable-behind _ _ _ _ _ _ _ (start (c .before .before .b
 
 note-requires : tie.Need-note-requires
 note-requires c κs =
-    let back = c .before .before in
-    let said = back .before .before .before .before .before .before in
+    let said = answer-of (c .before .before) in
     let s = head said in
     notable (s .args .rule) (s .args .contour .now) (s .args .out .now) (s .args .at) (s .args .records .now) _ _ (said .one .ensures) _ _ _ (s .pre) (omega arith)
 

@@ -7,20 +7,23 @@ use Rattle.sets.proofs.inner.contour.note.Tie as tie
 add-decisions : tie.Need-add-decisions
 add-decisions c = search needs
 
+add-turns : tie.Need-add-turns
+add-turns c = search needs
+
 returns : tie.Need-returns
 returns c = noting-gone _ _ _ _ (c .if1 .taken)
 
 add-end : tie.Need-add-end
 add-end c = search needs
 
-mul-t11 : tie.Need-mul-t11
-mul-t11 c = search needs
+mul-t12 : tie.Need-mul-t12
+mul-t12 c = search needs
 
 slice-set-from-records : tie.Need-slice-set-from-records
 slice-set-from-records c = search needs
 
-add-t11 : tie.Need-add-t11
-add-t11 c = search needs
+add-t12 : tie.Need-add-t12
+add-t12 c = search needs
 
 same-length : tie.Need-same-length
 same-length c = search needs
@@ -33,10 +36,11 @@ note-spec =
     tie.close
     (tie.spec
     add-decisions
+    add-turns
     returns
     add-end
-    mul-t11
+    mul-t12
     slice-set-from-records
-    add-t11
+    add-t12
     same-length
     returns-2)
