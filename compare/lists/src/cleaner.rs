@@ -1,10 +1,12 @@
 //! The two cleaners and their verdicts, by the Rust original.
 
-use crate::counted::crosses_of;
+use crate::counted::{crosses_of, COUNTED};
 use crate::line::{next_number, Words};
+use crate::point::Point;
 use i_float::int::point::IntPoint;
 use i_shape::int::despike::DeSpikeContour;
 use i_shape::int::simple::SimpleContour;
+use requests::walk::{walk, Rule};
 
 pub type Contour = Vec<IntPoint<i32>>;
 
@@ -22,6 +24,7 @@ pub enum Cleaner {
 pub struct Walked {
     pub kept: Option<Contour>,
     pub decisions: usize,
+    pub turns: usize,
 }
 
 impl Cleaner {
@@ -46,14 +49,39 @@ impl Cleaner {
     }
 
     /// The walk. It asks for one cross product in each decision and for no other, so
-    /// their count is the number of decisions.
+    /// their count is the number of decisions. Its turns are those of the written walk,
+    /// which must keep the same points after as many decisions.
     pub fn walk(self, contour: &Contour) -> Walked {
         let (kept, decisions) = crosses_of(|| match self {
             Cleaner::Simplified => contour.simplified(),
             Cleaner::Despiked => contour.despiked_contour(),
         });
-        Walked { kept, decisions }
+        let written = walk(self.rule(), &points(contour));
+        let survivors = written
+            .survivors
+            .map(|at| at.iter().map(|&i| contour[i]).collect());
+        assert_eq!(survivors, kept, "{self:?} of {contour:?}");
+        assert!(
+            !COUNTED || written.decisions == decisions,
+            "{self:?} of {contour:?}"
+        );
+        Walked {
+            kept,
+            decisions,
+            turns: written.turns,
+        }
     }
+
+    fn rule(self) -> Rule {
+        match self {
+            Cleaner::Simplified => Rule::Collinear,
+            Cleaner::Despiked => Rule::Spike,
+        }
+    }
+}
+
+fn points(contour: &Contour) -> Vec<Point> {
+    contour.iter().map(|p| [p.x, p.y]).collect()
 }
 
 /// The points of a row of coordinates.
@@ -118,6 +146,18 @@ mod tests {
                 assert_eq!(walked(cleaner, points), (None, decisions), "{points:?}");
             }
         }
+    }
+
+    #[test]
+    fn a_step_over_a_marked_point_is_a_turn() {
+        let turns = |cleaner: Cleaner, points: &[Point]| {
+            let walked = cleaner.walk(&contour(&points.concat()));
+            [walked.decisions, walked.turns]
+        };
+        let points = [[0, 0], [0, 1], [1, 0], [1, 1], [1, 1]];
+        assert_eq!(turns(Simplified, &points), [7, 8]);
+        let points = [[0, 0], [0, 1], [0, 2], [1, 0], [1, 0]];
+        assert_eq!(turns(Despiked, &points), [7, 8]);
     }
 
     #[test]

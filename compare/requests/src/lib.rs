@@ -1,6 +1,6 @@
 //! What the original does not have, written from the sentences of documents 01 and 02 alone:
 //! the replies, whether ranges are sound, the set file, what is sound of a damaged one,
-//! drawings in millimetres, and where a point lies.
+//! drawings in millimetres, where a point lies, and the walk with its turns.
 
 mod bits;
 pub mod drawing;
@@ -11,3 +11,4 @@ pub mod locate;
 pub mod ranges;
 pub mod reply;
 pub mod salvage;
+pub mod walk;

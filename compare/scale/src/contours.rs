@@ -86,6 +86,7 @@ fn cleaning(found: &mut Found, cleaner: Cleaner, lent: Lengths, row: &[i32]) {
         } else {
             answer.decisions
         },
+        turns: original.turns,
     };
     found.hold(name(cleaner), expected, answer);
     hold_scratch(found, &original.rows.scratch, &scratch);

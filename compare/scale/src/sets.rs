@@ -111,6 +111,7 @@ fn cleaning(found: &mut Found, form: Form, lent: Lengths, set: &Set, points: &[i
         } else {
             answer.decisions
         },
+        turns: original.turns,
     };
     let name = match (form.cleaner, form.shapes) {
         (Cleaner::Simplified, false) => "simplified_shape",

@@ -18,6 +18,7 @@ pub struct Cleaning {
     pub contours: usize,
     pub shapes: usize,
     pub decisions: usize,
+    pub turns: usize,
     pub scratch: Scratch,
     pub rows: Rows,
 }
@@ -29,15 +30,25 @@ pub fn answer(form: Form, lent: Lengths, set: &Set) -> Cleaning {
         contours: 0,
         shapes: 0,
         decisions: 0,
+        turns: 0,
         scratch: Scratch::with_canaries(lent.scratch),
         rows: Rows::with_canaries(lent.rows),
     };
+    let cleaner = form.cleaner;
     match refusal_of(form, lent, set) {
         Err(reply) => Cleaning { reply, ..before },
         Ok(()) if form.shapes => {
-            before.after_shapes(form.cleaner.clean_shapes(&set.to_shapes()), set)
+            let shapes = set.to_shapes();
+            let turns = shapes.iter().map(|shape| cleaner.turns_over(shape)).sum();
+            let before = Cleaning { turns, ..before };
+            before.after_shapes(cleaner.clean_shapes(&shapes), set)
         }
-        Ok(()) => before.after_shape(form.cleaner.clean_shape(&set.to_contours()), set),
+        Ok(()) => {
+            let contours = set.to_contours();
+            let turns = cleaner.turns_over(&contours);
+            let before = Cleaning { turns, ..before };
+            before.after_shape(cleaner.clean_shape(&contours), set)
+        }
     }
 }
 
@@ -107,7 +118,13 @@ impl Cleaning {
 
 impl fmt::Display for Cleaning {
     fn fmt(&self, out: &mut fmt::Formatter) -> fmt::Result {
-        let counts = [self.points, self.contours, self.shapes, self.decisions];
+        let counts = [
+            self.points,
+            self.contours,
+            self.shapes,
+            self.decisions,
+            self.turns,
+        ];
         let counts = counts.map(|count| count.to_string()).join(" ");
         write!(
             out,
@@ -136,16 +153,17 @@ mod tests {
         }
     }
 
-    fn counts(cleaning: &Cleaning) -> [usize; 5] {
+    fn counts(cleaning: &Cleaning) -> [usize; 6] {
         let Cleaning {
             reply,
             points,
             contours,
             shapes,
             decisions,
+            turns,
             ..
         } = *cleaning;
-        [reply.into(), points, contours, shapes, decisions]
+        [reply.into(), points, contours, shapes, decisions, turns]
     }
 
     #[test]
@@ -154,7 +172,7 @@ mod tests {
         let set = "3 0 5 5 8 8 14 1 0 3 0 0 2 0 4 0 4 4 0 4 0 0 1 0 2 0 0 0 4 0 4 4 4 8 4 4 0 4";
         for (form, lent) in [(0, "14 15 16 29 3 0"), (2, "14 15 16 29 4 2")] {
             let cleaning = cleaned(&format!("W {form} {lent} {set}"));
-            assert_eq!(counts(&cleaning), [0, 8, 2, 1, 6 + 1 + 9]);
+            assert_eq!(counts(&cleaning), [0, 8, 2, 1, 6 + 1 + 9, 6 + 1 + 9]);
             assert_eq!(cleaning.rows.records[..2], [[0, 4], [4, 8]]);
             assert_eq!(cleaning.rows.records[2..], vec![[7, 7]; 1 + form / 2]);
             assert_eq!(cleaning.rows.out[16..], [-7; 13]);
@@ -169,18 +187,18 @@ mod tests {
     fn a_shape_goes_with_its_first_contour() {
         let set = "2 0 3 3 8 2 0 2 2 2 0 0 1 0 2 0 0 0 2 0 4 0 4 4 0 4";
         let one = cleaned(&format!("W 0 8 8 8 16 2 0 {set}"));
-        assert_eq!(counts(&one), [7, 0, 0, 0, 1]);
+        assert_eq!(counts(&one), [7, 0, 0, 0, 1, 1]);
         assert_eq!(one.rows.out, [-7; 16]);
         assert_eq!(one.scratch.prev, [0; 8]);
         let all = cleaned(&format!("W 2 8 8 8 16 2 2 {set}"));
-        assert_eq!(counts(&all), [0, 0, 0, 1, 1]);
+        assert_eq!(counts(&all), [0, 0, 0, 1, 1, 1]);
         assert_eq!(all.rows.groups, [[0, 0], [7, 7]]);
     }
 
     #[test]
     fn a_contour_without_spikes_keeps_its_duplicates() {
         let cleaning = cleaned("W 1 4 4 4 8 1 0 1 0 4 1 0 1 0 0 0 0 4 0 0 4");
-        assert_eq!(counts(&cleaning), [0, 4, 1, 1, 0]);
+        assert_eq!(counts(&cleaning), [0, 4, 1, 1, 0, 0]);
     }
 
     #[test]
@@ -198,7 +216,7 @@ mod tests {
             ("W 2 1 1 1 2 1 0 1 0 1 1 0 1 5 6", 5),
         ] {
             let cleaning = cleaned(line);
-            assert_eq!(counts(&cleaning), [reply, 0, 0, 0, 0], "{line}");
+            assert_eq!(counts(&cleaning), [reply, 0, 0, 0, 0, 0], "{line}");
             let Kind::Cleaning { lent, .. } = asked(line).kind else {
                 panic!()
             };

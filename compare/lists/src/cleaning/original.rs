@@ -76,6 +76,23 @@ impl Cleaner {
         verdict + verdicts
     }
 
+    /// The turns of the contours that are walked: one that passes is not, and none is behind
+    /// a collapsed first one.
+    pub fn turns_over(self, shape: &Shape) -> usize {
+        let mut turns = 0;
+        for (place, contour) in shape.iter().enumerate() {
+            if self.passes(contour) {
+                continue;
+            }
+            let walked = self.walk(contour);
+            turns += walked.turns;
+            if place == 0 && walked.kept.is_none() {
+                break;
+            }
+        }
+        turns
+    }
+
     fn crosses_of_verdicts(self, contours: &[Contour]) -> usize {
         let ask = || {
             contours

@@ -116,12 +116,13 @@ fn located(reply: Reply<Place>) -> String {
     }
 }
 
-/// The points kept, the decisions and the checksum of what was written; or the reply
-/// of a collapsed contour, and the decisions.
-fn walked(Walked { kept, decisions }: &Walked) -> String {
-    match kept {
-        Some(kept) => format!("{}:{decisions}:{}", kept.len(), checksum(&row(kept))),
-        None => format!("{COLLAPSED}:{decisions}"),
+/// The points kept, the decisions, the turns and the checksum of what was written; or the
+/// reply of a collapsed contour, the decisions and the turns.
+fn walked(walked: &Walked) -> String {
+    let counts = format!("{}:{}", walked.decisions, walked.turns);
+    match &walked.kept {
+        Some(kept) => format!("{}:{counts}:{}", kept.len(), checksum(&row(kept))),
+        None => format!("{COLLAPSED}:{counts}"),
     }
 }
 
@@ -134,14 +135,14 @@ mod tests {
         for (line, expected) in [
             (
                 "c 1 1 0 0 4 0 0 4",
-                "16 8 no yes yes yes yes 3:3:119168 3:3:119168",
+                "16 8 no yes yes yes yes 3:3:3:119168 3:3:3:119168",
             ),
-            ("c 0 0", "!8 !8 !8 yes no no no 7:0 7:0"),
+            ("c 0 0", "!8 !8 !8 yes no no no 7:0:0 7:0:0"),
             (
                 "c 0 0 0 0 0 1 1 0",
-                "-1 0 yes yes yes yes yes 3:3:992 3:3:992",
+                "-1 0 yes yes yes yes yes 3:3:3:992 3:3:3:992",
             ),
-            ("c 1 0 0 0 1 0 2 0", "0 0 yes no no no no 7:1 7:1"),
+            ("c 1 0 0 0 1 0 2 0", "0 0 yes no no no no 7:1:1 7:1:1"),
         ] {
             assert_eq!(answer(&line.parse().unwrap()), expected);
         }
@@ -150,8 +151,8 @@ mod tests {
     #[test]
     fn a_cleaning_is_answered_with_its_rows() {
         for (line, expected) in [
-            ("w 0 3 3 3 6 0 0 4 0 0 4", "0 3 3 0 0 0 119168 6:119168"),
-            ("w 1 3 3 4 6 0 0 1 0 2 0", "7 0 1 0 0 7 4087883104 0:0"),
+            ("w 0 3 3 3 6 0 0 4 0 0 4", "0 3 3 3 0 0 0 119168 6:119168"),
+            ("w 1 3 3 4 6 0 0 1 0 2 0", "7 0 1 1 0 0 7 4087883104 0:0"),
         ] {
             assert_eq!(answer(&line.parse().unwrap()), expected);
         }
@@ -193,7 +194,7 @@ mod tests {
                 "!2 !2 !2 !2 !2 !2 !2 !2 !2",
             ),
             ("c 0 0 1073741824 0", "!3 !3 !3 !3 !3 !3 !3 !3 !3"),
-            ("c 1073741824 0", "!8 !8 !8 yes !3 no no 7:0 7:0"),
+            ("c 1073741824 0", "!8 !8 !8 yes !3 no no 7:0:0 7:0:0"),
         ] {
             assert_eq!(answer(&line.parse().unwrap()), expected);
         }

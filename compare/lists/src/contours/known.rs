@@ -220,6 +220,11 @@ const ORDER: &[&str] = &[
     "c 2147483647 -2147483648",
 ];
 
+/// The smallest contours of which a walk steps over a marked point: by the collinear rule and by the despiking one.
+pub fn idle() -> Vec<Case> {
+    lines(&["c 0 0 0 0 0 1 1 0 1 1 1 1", "c 0 0 0 0 0 1 0 2 1 0 1 0"])
+}
+
 /// Three contours that the worked cases do not replace: only they tell whether a
 /// removal unmarks the predecessor's new successor.
 pub fn successors() -> Vec<Case> {

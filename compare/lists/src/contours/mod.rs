@@ -34,6 +34,7 @@ pub fn list() -> Vec<Case> {
         long::wound(),
         long::written_out(),
         known::successors(),
+        known::idle(),
         unclean::from_every_start(),
         unclean::collapsing(),
         unclean::random(),

@@ -36,6 +36,7 @@ pub struct Cleaning {
     pub reply: u8,
     pub points: usize,
     pub decisions: usize,
+    pub turns: usize,
     pub rows: Rows,
 }
 
@@ -46,6 +47,7 @@ pub fn answer(cleaner: Cleaner, lent: Lengths, points: &[i32]) -> Cleaning {
             reply,
             points: 0,
             decisions: 0,
+            turns: 0,
             rows,
         },
         Ok(()) => rows.after(points.len() / 2, cleaner.walk(&contour(points))),
@@ -80,6 +82,7 @@ impl Rows {
             },
             points: kept.len() / 2,
             decisions: walked.decisions,
+            turns: walked.turns,
             rows: Rows {
                 scratch: self.scratch.zeroed(n),
                 ..self
@@ -94,10 +97,11 @@ impl fmt::Display for Cleaning {
         let rows = &self.rows;
         write!(
             out,
-            "{} {} {} {} {} {}",
+            "{} {} {} {} {} {} {}",
             self.reply,
             self.points,
             self.decisions,
+            self.turns,
             rows.scratch,
             checksum(&rows.out),
             part(&rows.out[..2 * self.points]),
@@ -142,7 +146,8 @@ mod tests {
                 out: rows.out.len(),
             };
             assert_eq!(cleaning.reply, reply, "{line}");
-            assert_eq!((cleaning.points, cleaning.decisions), (0, 0), "{line}");
+            let counts = [cleaning.points, cleaning.decisions, cleaning.turns];
+            assert_eq!(counts, [0; 3], "{line}");
             assert_eq!(cleaning.rows, Rows::with_canaries(lent), "{line}");
         }
     }
@@ -176,10 +181,10 @@ mod tests {
 
     #[test]
     fn the_line_has_the_checksums_of_the_rows() {
-        assert_eq!(asked("w 0 0 0 0 0").to_string(), "7 0 0 0 0 0 0 0:0");
+        assert_eq!(asked("w 0 0 0 0 0").to_string(), "7 0 0 0 0 0 0 0 0:0");
         assert_eq!(
             asked("w 0 2 1 2 1").to_string(),
-            "7 0 0 224 7 224 4294967289 0:0"
+            "7 0 0 0 224 7 224 4294967289 0:0"
         );
     }
 }

@@ -27,6 +27,7 @@ pub struct Cleaned {
     pub reply: u32,
     pub points: usize,
     pub decisions: usize,
+    pub turns: usize,
 }
 
 #[repr(C)]
@@ -37,6 +38,7 @@ pub struct CleanedSet {
     pub contours: usize,
     pub shapes: usize,
     pub decisions: usize,
+    pub turns: usize,
 }
 
 #[repr(C)]
