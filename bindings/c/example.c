@@ -34,7 +34,7 @@ static void one_contour(void)
     int32_t *out = malloc(sizeof contour);
     UkmCleaned cleaned = ukm_simplified(contour, LENGTH(contour), next, n, prev, n, mark, n, out, LENGTH(contour));
     if (cleaned.reply == UKM_DONE) {
-        printf("simplified, after %zu decisions:", cleaned.decisions);
+        printf("simplified, after %zu decisions in %zu turns:", cleaned.decisions, cleaned.turns);
         print_points(out, 0, cleaned.points);
     }
     free(next);

@@ -48,8 +48,8 @@ int main(void)
     DUE(ukm_contains(NO, UKM_LIMIT + 1, 1), a.reply == 3 && !a.yes);
     DUE(ukm_locate(NO, 1, 1), a.reply == 0 && a.place == UKM_OUTSIDE);
     DUE(ukm_locate(NO, 1, UKM_LIMIT + 1), a.reply == 3 && a.place == 0);
-    DUE(ukm_simplified(NO, NO_SCRATCH, NO), a.reply == 7 && a.points == 0 && a.decisions == 0);
-    DUE(ukm_despiked(NO, NO_SCRATCH, NO), a.reply == 7 && a.points == 0 && a.decisions == 0);
+    DUE(ukm_simplified(NO, NO_SCRATCH, NO), a.reply == 7 && a.points == 0 && a.decisions == 0 && a.turns == 0);
+    DUE(ukm_despiked(NO, NO_SCRATCH, NO), a.reply == 7 && a.points == 0 && a.decisions == 0 && a.turns == 0);
     DUE(ukm_simplified(triangle, 6, NO, NO, NO, out, 6), a.reply == 4);
     DUE(ukm_simplified(triangle, 6, next, 3, prev, 3, NO, out, 6), a.reply == 4);
     DUE(ukm_despiked(triangle, 6, next, 3, prev, 3, mark, 3, NO), a.reply == 5);
@@ -82,7 +82,7 @@ int main(void)
 
     DUE(ukm_simplified_shape(NO, NO, NO_SCRATCH, NO, NO), a.reply == 0 && a.contours == 0 && a.shapes == 1);
     DUE(ukm_despiked_shape(NO, NO, NO_SCRATCH, NO, NO), a.reply == 0 && a.contours == 0 && a.shapes == 1);
-    DUE(ukm_simplified_shape(NO, empty_contour, 1, NO_SCRATCH, NO, records, 1), a.reply == 7 && a.decisions == 0);
+    DUE(ukm_simplified_shape(NO, empty_contour, 1, NO_SCRATCH, NO, records, 1), a.reply == 7 && a.decisions == 0 && a.turns == 0);
     DUE(ukm_simplified_shape(NO, empty_contour, 1, NO_SCRATCH, NO, NO), a.reply == 5);
     DUE(ukm_simplified_shapes(NO, NO, NO, NO_SCRATCH, NO, NO, NO), a.reply == 0 && a.shapes == 0);
     DUE(ukm_despiked_shapes(NO, NO, NO, NO_SCRATCH, NO, NO, NO), a.reply == 0 && a.shapes == 0);

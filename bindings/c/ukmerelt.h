@@ -13,8 +13,8 @@
  *
  * Answers. `reply` is 0, or the number of the first refusal in the order 1, 2, 6, 3, 12, 4, 5, 8, 7; ukm_read_set,
  * ukm_salvage and ukm_import_mm have orders of their own. On a refusal every other field is 0 or false and every row is
- * as it was, but for 7, which reports its decisions and leaves the scratch zeroed. Whatever numbers arrive are answered
- * or refused; none traps.
+ * as it was, but for 7, which reports its decisions and turns and leaves the scratch zeroed. Whatever numbers arrive are
+ * answered or refused; none traps.
  *
  * Scratch. A cleaner is lent three rows, next, prev and mark, with at least as many entries each as the input has
  * points. After 0 and 7 that many entries of each are 0; what they held before plays no part.
@@ -98,11 +98,13 @@ typedef struct UkmArea {
     int64_t value;
 } UkmArea;
 
-/* points: how many are kept. decisions: how often the walk looked at a vertex and decided. */
+/* points: how many are kept. decisions: how often the walk looked at a vertex and decided. turns: how often it was at one,
+ * to decide or to step over one that it had marked; at most five for each point of the input. */
 typedef struct UkmCleaned {
     uint32_t reply;
     size_t points;
     size_t decisions;
+    size_t turns;
 } UkmCleaned;
 
 /* The same, of a set. */
@@ -112,6 +114,7 @@ typedef struct UkmCleanedSet {
     size_t contours;
     size_t shapes;
     size_t decisions;
+    size_t turns;
 } UkmCleanedSet;
 
 /* How many of each are written. */
@@ -249,8 +252,8 @@ UkmArea ukm_shapes_area(const int32_t *points, size_t points_len,
                         const UkmRange *contours, size_t contours_len,
                         const UkmRange *shapes, size_t shapes_len);
 
-/* Cleaning shapes. A contour that already passes (ukm_is_simple, ukm_has_no_spikes) is copied and adds no decisions. A
- * later contour that collapses is dropped. */
+/* Cleaning shapes. A contour that already passes (ukm_is_simple, ukm_has_no_spikes) is copied and adds no decisions
+ * and no turns. A later contour that collapses is dropped. */
 
 /* The shape with each contour simplified; shapes is 1 on 0. Refuses with 1, 2, 6, 3, with 4 if a scratch row has fewer
  * entries than the whole shape has points, with 5 if out is shorter than points or records than ranges, and with 7 if

@@ -12,7 +12,7 @@
 //! assert!(contour.contains_point(IntPoint::new(1, 1))?);
 //! let simplified = contour.simplified()?;
 //! assert_eq!(simplified.kept, [[0, 0], [4, 0], [4, 4], [0, 4]].map(IntPoint::from));
-//! assert_eq!(simplified.decisions, 6);
+//! assert_eq!((simplified.decisions, simplified.turns), (6, 6));
 //! # Ok(())
 //! # }
 //! ```
@@ -42,11 +42,13 @@ pub const LIMIT: i32 = 1_073_741_823;
 /// [`export_mm`](flat::buffer::FlatContoursBuffer::export_mm).
 pub const NARROW_LIMIT: i32 = 536_870_912;
 
-/// What a cleaning kept, and after how many decisions.
+/// What a cleaning kept, after how many decisions, and in how many turns: those that decided, and those that stepped over
+/// a marked point.
 #[derive(Debug, Clone, PartialEq, Eq)]
 pub struct Cleaned<T> {
     pub kept: T,
     pub decisions: usize,
+    pub turns: usize,
 }
 
 impl<T> Cleaned<T> {
@@ -54,6 +56,7 @@ impl<T> Cleaned<T> {
         Cleaned {
             kept: f(self.kept),
             decisions: self.decisions,
+            turns: self.turns,
         }
     }
 }

@@ -20,7 +20,7 @@ pub enum Refused {
     Room,
     /// 6
     Ranges,
-    /// 7
+    /// 7. Every turn of a walk that collapses decides, so there are as many.
     Collapsed { decisions: usize },
     /// 8
     Empty,

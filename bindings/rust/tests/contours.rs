@@ -9,6 +9,7 @@ fn contour<const N: usize>(points: [[i32; 2]; N]) -> IntContour {
     points.map(IntPoint::from).to_vec()
 }
 
+/// Kept after so many decisions, each turn of which decided.
 fn kept<const N: usize>(
     points: [[i32; 2]; N],
     decisions: usize,
@@ -16,6 +17,7 @@ fn kept<const N: usize>(
     Ok(Cleaned {
         kept: contour(points),
         decisions,
+        turns: decisions,
     })
 }
 
@@ -51,6 +53,16 @@ fn a_spike() {
         kept([[0, 0], [4, 0], [4, 4], [0, 4]], 9)
     );
     assert_eq!(c.simplified(), kept([[0, 0], [4, 0], [4, 4], [0, 4]], 9));
+}
+
+#[test]
+fn a_step_over_a_marked_point_is_a_turn() {
+    let counts =
+        |cleaned: Cleaned<IntContour>| [cleaned.kept.len(), cleaned.decisions, cleaned.turns];
+    let c = contour([[0, 0], [0, 1], [1, 0], [1, 1], [1, 1]]);
+    assert_eq!(c.simplified().map(counts), Ok([4, 7, 8]));
+    let c = contour([[0, 0], [0, 1], [0, 2], [1, 0], [1, 0]]);
+    assert_eq!(c.despiked_contour().map(counts), Ok([4, 7, 8]));
 }
 
 #[test]

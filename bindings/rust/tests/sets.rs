@@ -68,6 +68,7 @@ fn cleaning_a_shape() {
     let cleaned = Cleaned {
         kept: vec![square(0, 8), square(2, 6)],
         decisions: 6 + 1,
+        turns: 6 + 1,
     };
     assert_eq!(shape.simplified(), Ok(cleaned));
     let despiked = shape.despiked_shape().unwrap();
@@ -97,6 +98,7 @@ fn cleaning_shapes() {
         [vec![square(0, 8)], vec![], vec![square(0, 8)]]
     );
     assert_eq!(cleaned.decisions, 6 + 1 + 1);
+    assert_eq!(cleaned.turns, 6 + 1 + 1);
     let despiked = shapes.despiked_shapes().unwrap();
     assert_eq!(
         despiked.kept,

@@ -30,6 +30,7 @@ pub struct Cleaned {
     reply: u32,
     points: usize,
     decisions: usize,
+    turns: usize,
 }
 
 #[repr(C)]
@@ -39,6 +40,7 @@ pub struct CleanedSet {
     contours: usize,
     shapes: usize,
     decisions: usize,
+    turns: usize,
 }
 
 #[repr(C)]
@@ -97,6 +99,7 @@ impl Cleaned {
         Ok(crate::Cleaned {
             kept: out,
             decisions: self.decisions,
+            turns: self.turns,
         })
     }
 }
@@ -113,6 +116,7 @@ impl CleanedSet {
         Ok(crate::Cleaned {
             kept: out,
             decisions: self.decisions,
+            turns: self.turns,
         })
     }
 
@@ -128,6 +132,7 @@ impl CleanedSet {
         Ok(crate::Cleaned {
             kept: out,
             decisions: self.decisions,
+            turns: self.turns,
         })
     }
 }
