@@ -1,6 +1,6 @@
 -- What is written of a file and said of it, once it is salvaged.
 use mathlib.Core.Path.{_≡_, refl, sym, _∙_, ap, ap₂}
-use mathlib.Core.Bool.{Bool, true, false, not, _&&_}
+use mathlib.Core.Bool.{false, _&&_}
 use mathlib.Core.List.{List, [], _∷_, _++_}
 use Prim.Native.Nat.{ℕ, zero, suc, _+_, _/_, _≤_}
 use native.Mathlib.Omega.{arith}
@@ -8,12 +8,13 @@ use lib.Dec.{ltb, leb}
 use lib.ListN.{length, take, drop, length-append, length-drop}
 use lib.Seq.{take-at}
 use borrow.Author.Tests.{ltb-false, le-leb}
-use Rattle.replies.specs.Ladder.{Rung, first-of, room}
+use Rattle.replies.specs.Ladder.{first-of, room}
 use Rattle.rows.specs.Rows.{front}
 use Rattle.replies.proofs.LadderLaws.{clear, below-clear, same-below, room-clear}
-use Rattle.setfile.specs.Bits.{bits}
-use Rattle.setfile.specs.Format.{bad-head, promised, come}
-use Rattle.setfile.proofs.BitLaws.{bits-length}
+use Rattle.bits.specs.Bits.{bits}
+use Rattle.setfile.specs.Layouts.{promised}
+use Rattle.setfile.specs.Format.{bad-head, come}
+use Rattle.bits.proofs.BitLaws.{bits-length}
 use Rattle.setfile.proofs.SizeLaws.{Sized, complete-sized, promised-few}
 use Rattle.salvage.specs.declared.answer.Salvaged.{Salvaged}
 use Rattle.salvage.specs.Outcome as S

@@ -1,4 +1,4 @@
--- What a conjunction that holds says, and a disjunction that does not; where a conjunction does not hold.
+-- What a conjunction that holds says, and needs; where one does not hold; and what a disjunction says that does not.
 use mathlib.Core.Path.{_≡_, refl, sym, subst}
 use mathlib.Core.Bool.{Bool, true, false, not, _&&_, _||_}
 use lib.Dec.{T}
@@ -10,6 +10,10 @@ and-left false b e = e
 pub and-right : (a b : Bool) → (a && b) ≡ true → b ≡ true
 and-right true b e = e
 and-right false b e = absurd (subst T (sym e) tt)
+
+pub and-both : (a b : Bool) → a ≡ true → b ≡ true → (a && b) ≡ true
+and-both true b e f = f
+and-both false b e f = e
 
 pub or-left : (a b : Bool) → (a || b) ≡ false → a ≡ false
 or-left true b e = e

@@ -15,7 +15,8 @@ use mir.Facts.{toZ-ofZ, toZ-pos, toZ-neg}
 use borrow.Author.Needs.{sfits-of}
 use borrow.Author.Tests.{ltb-true}
 
-less : (k : ℕ) → negsuc 0 -ℤ pos k ≡ negsuc k
+-- -1 - k
+pub less : (k : ℕ) → negsuc 0 -ℤ pos k ≡ negsuc k
 less zero = refl
 less (suc m) = ap (λ (n : ℕ). negsuc (suc n)) (zero-add m)
 

@@ -26,7 +26,8 @@ use Rattle.sets.specs.Fates.{ShapeFate, shape-fate, shapes-fate}
 use Rattle.sets.specs.Fates.ShapeFate.{stands, fallen}
 use Rattle.sets.specs.Outcome as SetCleaning
 use Rattle.sets.proofs.Untouched as sets
-use Rattle.setfile.specs.Format.{entries, file}
+use Rattle.setfile.specs.Entries.{entries}
+use Rattle.setfile.specs.Format.{file}
 use Rattle.setfile.specs.Writing as Writing
 use Rattle.salvage.specs.Outcome as Salvage
 use Rattle.drawing.specs.declared.command.Command.{Command}

@@ -27,7 +27,8 @@ use Rattle.buffer.specs.Shapes as Shapes
 use Rattle.sets.specs.Area.{area-refusals}
 use Rattle.sets.specs.Contains as SetContains
 use Rattle.sets.specs.Outcome as SetCleaning
-use Rattle.setfile.specs.Format.{contours-of, shapes-of, parsed, damage, read-contours, file-length}
+use Rattle.setfile.specs.Entries.{contours-of, shapes-of, damage, read-contours}
+use Rattle.setfile.specs.Format.{parsed, file-length}
 use Rattle.setfile.specs.Reading as Reading
 use Rattle.setfile.specs.Writing as Writing
 use Rattle.salvage.specs.Outcome as Salvage

@@ -11,8 +11,10 @@ use Rattle.grid.specs.Edges.{cross}
 use Rattle.grid.specs.Area.{around, exact, wrapped}
 use Rattle.integers.specs.Modulo.{mod64}
 use Rattle.buffer.specs.Sets.{joined}
-use Rattle.setfile.specs.Bits.{value, field, bits}
-use Rattle.setfile.specs.Format.{parsed, complete, coordinates}
+use Rattle.bits.specs.Bits.{value, field, bits}
+use Rattle.bits.specs.Signs.{numbers}
+use Rattle.setfile.specs.Layouts.{some-set, contours-in}
+use Rattle.setfile.specs.Format.{parsed}
 use Rattle.report.specs.Text.{places, decimal, heading, signed}
 use Rattle.report.specs.Listing.{line, lines, listing}
 
@@ -29,11 +31,11 @@ unfolding listing parsed bits field value first-of decimal places
 refused-10 = refl
 
 none : listing (16 ∷ 0 ∷ []) ≡ heading
-unfolding listing parsed bits field value first-of decimal places complete lines all-on-grid joined
+unfolding listing parsed bits field value first-of decimal places contours-in numbers some-set lines all-on-grid joined
 none = refl
 
 w4 : listing (16 ∷ 1 ∷ 128 ∷ 5 ∷ 0 ∷ 0 ∷ 0 ∷ 0 ∷ 0 ∷ 0 ∷ 0 ∷ 0 ∷ 0 ∷ 0 ∷ 0 ∷ 2 ∷ 0 ∷ 0 ∷ 0 ∷ 0 ∷ 0 ∷ 0 ∷ 0 ∷ 4 ∷ 0 ∷ 0 ∷ 0 ∷ 0 ∷ 0 ∷ 0 ∷ 0 ∷ 4 ∷ 0 ∷ 0 ∷ 0 ∷ 4 ∷ 0 ∷ 0 ∷ 0 ∷ 0 ∷ 0 ∷ 0 ∷ 0 ∷ 4 ∷ [])
     ≡ heading ++ 49 ∷ 32 ∷ 53 ∷ 32 ∷ 52 ∷ 32 ∷ 54 ∷ 32 ∷ 51 ∷ 50 ∷ 10 ∷ []
-unfolding listing parsed bits field value first-of decimal places complete coordinates lines line narrow on-grid all-on-grid joined
+unfolding listing parsed bits field value first-of decimal places contours-in numbers some-set lines line narrow on-grid all-on-grid joined
     survivors-from others successor predecessor occurrences unmark unmark-about remove decide look looks walk goes-at cross points around exact wrapped mod64
 w4 = refl

@@ -11,7 +11,7 @@ use Rattle.grid.specs.Domain.{count, Contour}
 use Rattle.rows.specs.Rows.{placed}
 use Rattle.rows.proofs.RowLaws.{placed-front}
 use Rattle.buffer.specs.Sets.{joined}
-use Rattle.setfile.specs.Format.{Entry, contours-of}
+use Rattle.setfile.specs.Entries.{Entry, contours-of}
 use Rattle.setfile.specs.inside.Bytes.{decoded, held}
 use Rattle.setfile.specs.inside.Reading.{contained}
 use Rattle.setfile.proofs.ReadLaws.{decoded-length}

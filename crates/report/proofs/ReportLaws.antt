@@ -1,8 +1,8 @@
 -- What the listing of a file is, by how it was judged.
-use mathlib.Core.Path.{_≡_, refl, sym, _∙_, ap, subst}
+use mathlib.Core.Path.{_≡_, refl, sym, _∙_, ap}
 use mathlib.Core.Bool.{Bool, true, false, not}
 use mathlib.Core.List.{List, [], _∷_, _++_}
-use Prim.Native.Nat.{ℕ, zero, suc, _+_, _*_, _%_, _≤_}
+use Prim.Native.Nat.{ℕ, zero, suc, _+_, _*_, _≤_}
 use native.Mathlib.Omega.{arith}
 use lib.Dec.{eqb·suc-zero, ltb}
 use lib.ListN.{length, length-append, length-map}
@@ -16,11 +16,11 @@ use Rattle.replies.proofs.LadderLaws.First.{here}
 use Rattle.grid.proofs.LimitLaws.{narrow-within, all-on-wider, on-taken, on-dropped}
 use Rattle.buffer.specs.Sets.{joined, Even}
 use Rattle.setfile.specs.declared.inner.judging.Judged.{Judged}
-use Rattle.setfile.specs.Format.{Entry, contours-of, Parsed, promised, parsed, damage, read-contours}
+use Rattle.setfile.specs.Entries.{Entry, contours-of, damage, read-contours}
+use Rattle.setfile.specs.Layouts.{promised}
+use Rattle.setfile.specs.Format.{parsed}
 use Rattle.setfile.specs.Reading.{refusals}
-use Rattle.setfile.specs.inside.Bytes.{Bytes, pair}
-use Rattle.setfile.specs.inside.Reading.{contained, refusals-of, Judgement}
-use Rattle.setfile.proofs.ByteLaws.{promised-by-bytes, parsed-by-bytes}
+use Rattle.setfile.specs.inside.Reading.{contained, Judgement}
 use Rattle.setfile.proofs.SizeLaws.{promised-few, carried, carried-promised}
 use Rattle.report.specs.Text.{decimal, line-end, heading, refused}
 use Rattle.report.specs.Listing.{lines, listing}
@@ -88,26 +88,21 @@ listing-promised f = go (first-of (refusals f)) refl
 pub listing-length : (f : List ℕ) → length (listing f) ≤ 184312
 listing-length f = omega (arith, listing-promised f, promised-few f)
 
--- the same, by the bytes of its head
-pub listing-by-bytes : (f : List ℕ) → Bytes f → 2 ≤ length f → (n : ℕ) → n ≡ pair f % 4096 → (length (listing f) ≤ 37 + 45 * n) × (n ≤ 4095)
-listing-by-bytes f bytes h n e =
-    let p : n ≡ promised f = e ∙ sym (promised-by-bytes f bytes h) in
-    (omega (arith, p, listing-promised f), omega (arith, p, promised-few f))
+-- the same, where the count was read
+pub listing-by-count : (f : List ℕ) (n : ℕ) → n ≡ promised f → (length (listing f) ≤ 37 + 45 * n) × (n ≤ 4095)
+listing-by-count f n e = (omega (arith, listing-promised f), omega (arith, promised-few f))
 
 -- a file that was judged
-module _ (f : List ℕ) (bytes : Bytes f) (j : Judged) (x : Judgement f j) where
-  reply-is : j .reply ≡ first-of (refusals f)
-  reply-is = x .reply ∙ ap (λ (w : Parsed). first-of (refusals-of (length f) w)) (sym (parsed-by-bytes f bytes))
-
+module _ (f : List ℕ) (j : Judged) (x : Judgement f j) where
   pub judged-refused : (j .reply ≡ 0 → ⊥) → listing f ≡ refused ++ decimal (j .reply) ++ line-end
-  judged-refused n = listing-refused f (j .reply) reply-is n
+  judged-refused n = listing-refused f (j .reply) (x .reply) n
 
   module _ (z : j .reply ≡ 0) where
     clear : first-of (refusals f) ≡ 0
-    clear = sym reply-is ∙ z
+    clear = sym (x .reply) ∙ z
 
     pub judged-listed : listing f ≡ heading ++ lines 1 (contours-of (contained f))
-    judged-listed = listing-done f clear ∙ ap (λ (w : Parsed). heading ++ lines 1 (contours-of (read-contours w))) (parsed-by-bytes f bytes)
+    judged-listed = listing-done f clear
 
     pub judged-listable : Listable f (j .contours)
     judged-listable =
@@ -115,5 +110,5 @@ module _ (f : List ℕ) (bytes : Bytes f) (j : Judged) (x : Judgement f j) where
         record {
           readable = x .counts z .readable;
           few = a .few;
-          sound = subst (λ (w : Parsed). Contours (contours-of (read-contours w))) (parsed-by-bytes f bytes) (sound-contours f a);
+          sound = sound-contours f a;
         }

@@ -13,7 +13,8 @@ use Rattle.ring.specs.declared.Rule as R
 use Rattle.ring.specs.Walk.{End, Walked}
 use Rattle.ring.specs.Walk.End.{kept, collapsed}
 use Rattle.clean.specs.Outcome.{walked}
-use Rattle.setfile.specs.Format.{contours-of, parsed, read-contours}
+use Rattle.setfile.specs.Entries.{contours-of, read-contours}
+use Rattle.setfile.specs.Format.{parsed}
 use Rattle.setfile.specs.Reading.{refusals}
 use Rattle.report.specs.Text.{decimal, signed, dash, space, line-end, heading, refused}
 

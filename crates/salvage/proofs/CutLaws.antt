@@ -2,18 +2,22 @@
 use mathlib.Core.Path.{_≡_, refl, sym, _∙_, ap, ap₂}
 use mathlib.Core.Bool.{Bool, true, false}
 use mathlib.Core.List.{List, [], _∷_}
-use Prim.Native.Nat.{ℕ, zero, suc, _+_, _*_, _%_, _-_, _≤_, _<_}
+use Prim.Native.Nat.{ℕ, zero, suc, _+_, _*_, _-_, _≤_, _<_}
 use native.Mathlib.Nat.{zero-add, suc-add}
 use native.Mathlib.Omega.{arith}
-use lib.Dec.{leb}
+use lib.Dec.{eqb, leb}
 use lib.ListN.{length, take, drop, length-take}
-use lib.Seq.{getD-take, take-nil}
+use lib.Seq.{take-nil, take-take}
 use lib.IntN.{ℤ}
-use mir.Syntax.{w32}
-use mir.Val.{toZ}
 use borrow.Author.Tests.{leb-true, leb-false, le-leb, lt-leb}
-use Rattle.setfile.specs.Format.{Entry, entry, Come, come-next}
-use Rattle.setfile.specs.inside.Bytes.{pair, quad, decoded, starts, held, front-entry, all-there, arrived}
+use Rattle.bits.specs.Bits.{value, bits}
+use Rattle.bits.specs.Signs.{signed, numbers}
+use Rattle.bits.proofs.BitLaws.{bits-taken}
+use Rattle.setfile.specs.Entries.{Entry, entry}
+use Rattle.setfile.specs.Layouts.{edition-of, promised}
+use Rattle.setfile.specs.Format.{Come, come-next}
+use Rattle.setfile.specs.inside.Bytes.{decoded, starts, held, front-entry, all-there, arrived}
+use Rattle.setfile.proofs.ByteLaws.{none-arrived, next-arrived}
 use Rattle.setfile.proofs.ReadLaws.{decoded-length}
 use Rattle.salvage.specs.inside.Sifting.{size}
 use Rattle.salvage.specs.Promises.{length-of, as-long, all-within}
@@ -23,47 +27,54 @@ drop-take zero n l = ap (λ (m : ℕ). take m l) (zero-add n)
 drop-take (suc k) n [] = ap (drop (suc k)) (take-nil (suc k + n)) ∙ sym (take-nil n)
 drop-take (suc k) n (a ∷ l) = ap (λ (m : ℕ). drop (suc k) (take m (a ∷ l))) (suc-add k n) ∙ drop-take k n l
 
--- fields of bytes of which some are left
-module _ (f : List ℕ) (n : ℕ) where
-  pub pair-cut : 2 ≤ n → pair (take n f) ≡ pair f
-  pair-cut h = ap₂ (λ (a b : ℕ). a * 256 + b) (getD-take n f 0 0 (omega arith)) (getD-take n f 1 0 (omega arith))
+-- bits of bytes of which some are left
+bits-cut : (f : List ℕ) (n k : ℕ) → k ≤ 8 * n → take k (bits (take n f)) ≡ take k (bits f)
+bits-cut f n k h = ap (take k) (sym (bits-taken n f)) ∙ take-take k (8 * n) (bits f) h
 
-  quad-cut : 4 ≤ n → quad (take n f) ≡ quad f
-  quad-cut h =
-      omega (
-        arith,
-        getD-take n f 0 0 (omega arith),
-        getD-take n f 1 0 (omega arith),
-        getD-take n f 2 0 (omega arith),
-        getD-take n f 3 0 (omega arith),
-      )
+-- and a field behind the first j of them
+field-cut : (f : List ℕ) (n j w : ℕ) → j + w ≤ 8 * n → value (take w (drop j (bits (take n f)))) ≡ value (take w (drop j (bits f)))
+field-cut f n j w h = ap value (sym (drop-take j w (bits (take n f))) ∙ ap (drop j) (bits-cut f n (j + w) h) ∙ drop-take j w (bits f))
+
+module _ (f : List ℕ) (n : ℕ) (h : 2 ≤ n) where
+  pub edition-cut : edition-of (take n f) ≡ edition-of f
+  edition-cut = ap value (bits-cut f n 4 (omega arith))
+
+  pub promised-cut : promised (take n f) ≡ promised f
+  promised-cut = field-cut f n 4 12 (omega arith)
+
+  starts-cut : starts (take n f) ≡ starts f
+  starts-cut = ap (λ (l : List Bool). eqb (value l) 1) (bits-cut f n 1 (omega arith))
+
+  held-cut : held (take n f) ≡ held f
+  held-cut = field-cut f n 1 15 (omega arith)
+
+numbers-cut : (k m : ℕ) (l : List Bool) → numbers 32 k (take (32 * k + m) l) ≡ numbers 32 k l
+unfolding numbers
+numbers-cut zero m l = refl
+numbers-cut (suc k) m l =
+    let e : 32 * suc k + m ≡ 32 + (32 * k + m) = omega arith in
+    ap₂ (λ (z : ℤ) (l : List ℤ). z ∷ l)
+    (ap (λ (b : List Bool). signed 32 (value b)) (take-take 32 (32 * suc k + m) l (omega arith)))
+    (ap (numbers 32 k) (ap (λ (n : ℕ). drop 32 (take n l)) e ∙ drop-take 32 (32 * k + m) l) ∙ numbers-cut k m (drop 32 l))
 
 decoded-cut : (k m : ℕ) (f : List ℕ) → decoded k (take (4 * k + m) f) ≡ decoded k f
-unfolding decoded
-decoded-cut zero m f = refl
-decoded-cut (suc k) m f =
-    let e : 4 * suc k + m ≡ 4 + (4 * k + m) = omega arith in
-    ap₂ (λ (z : ℤ) (l : List ℤ). z ∷ l)
-    (ap (toZ w32) (quad-cut f (4 * suc k + m) (omega arith)))
-    (ap (decoded k) (ap (λ (n : ℕ). drop 4 (take n f)) e ∙ drop-take 4 (4 * k + m) f) ∙ decoded-cut k m (drop 4 f))
+decoded-cut k m f =
+    let e : 8 * (4 * k + m) ≡ 32 * k + 8 * m = omega arith in
+    ap (numbers 32 k) (sym (bits-taken (4 * k + m) f) ∙ ap (λ (n : ℕ). take n (bits f)) e) ∙ numbers-cut k (8 * m) (bits f)
 
 -- the contour in front, where it is left whole, and where it is not
 module _ (f : List ℕ) (n : ℕ) where
   entry-cut : size f ≤ n → front-entry (take n f) ≡ front-entry f
   entry-cut h =
-      let p : pair (take n f) ≡ pair f = pair-cut f n (omega arith) in
       let m : n ≡ 2 + (4 * (2 * held f) + (n - size f)) = omega arith in
-      ap (λ (k : ℕ). entry (leb 32768 k) (decoded (2 * (k % 32768)) (drop 2 (take n f)))) p
+      ap₂ (λ (b : Bool) (k : ℕ). entry b (decoded (2 * k) (drop 2 (take n f)))) (starts-cut f n (omega arith)) (held-cut f n (omega arith))
       ∙ ap (entry (starts f))
       (ap (λ (k : ℕ). decoded (2 * held f) (drop 2 (take k f))) m
       ∙ ap (decoded (2 * held f)) (drop-take 2 (4 * (2 * held f) + (n - size f)) f) ∙ decoded-cut (2 * held f) (n - size f) (drop 2 f))
 
-  held-cut : 2 ≤ n → held (take n f) ≡ held f
-  held-cut h = ap (λ (k : ℕ). k % 32768) (pair-cut f n h)
-
   there-cut : size f ≤ n → all-there f ≡ true → all-there (take n f) ≡ true
   there-cut h t =
-      let p : held (take n f) ≡ held f = held-cut (omega arith) in
+      let p : held (take n f) ≡ held f = held-cut f n (omega arith) in
       le-leb (size (take n f)) (length (take n f)) (omega (arith, p, leb-true (size f) (length f) t, length-take n f))
 
   lost-cut : n < size f → all-there (take n f) ≡ false
@@ -71,7 +82,7 @@ module _ (f : List ℕ) (n : ℕ) where
     where
       go : (b : Bool) → leb 2 n ≡ b → all-there (take n f) ≡ false
       go true e =
-          let p : held (take n f) ≡ held f = held-cut (leb-true 2 n e) in
+          let p : held (take n f) ≡ held f = held-cut f n (leb-true 2 n e) in
           lt-leb (size (take n f)) (length (take n f)) (omega (arith, p, length-take n f))
       go false e = lt-leb (size (take n f)) (length (take n f)) (omega (arith, leb-false 2 n e, length-take n f))
 
@@ -81,13 +92,13 @@ module _ (f : List ℕ) (n : ℕ) where
       go : (b : Bool) → leb (size f) n ≡ b → all-there (take n f) ≡ false
       go true e =
           let m = leb-true (size f) n e in
-          let p : held (take n f) ≡ held f = held-cut (omega arith) in
+          let p : held (take n f) ≡ held f = held-cut f n (omega arith) in
           lt-leb (size (take n f)) (length (take n f)) (omega (arith, p, leb-false (size f) (length f) t, length-take n f))
       go false e = lost-cut (leb-false (size f) n e)
 
   behind-cut : size f ≤ n → drop (size (take n f)) (take n f) ≡ take (n - size f) (drop (size f) f)
   behind-cut h =
-      let p : held (take n f) ≡ held f = held-cut (omega arith) in
+      let p : held (take n f) ≡ held f = held-cut f n (omega arith) in
       let m : n ≡ size f + (n - size f) = omega arith in
       ap (λ (k : ℕ). drop (2 + 8 * k) (take n f)) p ∙ ap (λ (k : ℕ). drop (size f) (take k f)) m ∙ drop-take (size f) (n - size f) f
 
@@ -100,9 +111,9 @@ pub record Cut (n : ℕ) (whole rest : Come) : Type 0 where
   pub past : rest .past ≤ whole .past
 
 pub arrived-cut : (k n : ℕ) (f : List ℕ) → Cut n (arrived k f) (arrived k (take n f))
-unfolding arrived all-within
-arrived-cut zero n f = record { contours = refl; past = omega (arith, length-take n f) }
-arrived-cut (suc k) n f = go (all-there f) (leb (size f) n) refl refl (arrived-cut k (n - size f) (drop (size f) f))
+unfolding all-within
+arrived-cut zero n f = rw (none-arrived f, none-arrived (take n f)) (record { contours = refl; past = omega (arith, length-take n f) })
+arrived-cut (suc k) n f = rw (next-arrived k f, next-arrived k (take n f)) (go (all-there f) (leb (size f) n) refl refl (arrived-cut k (n - size f) (drop (size f) f)))
   where
     rest : Come
     rest = arrived k (drop (size f) f)

@@ -1,14 +1,15 @@
 -- The fates of contours: each is kept or dropped, and what holds of all holds of those that are kept.
-use mathlib.Core.Path.{_≡_, refl, ap}
+use mathlib.Core.Path.{_≡_, refl, _∙_, ap}
 use mathlib.Core.Bool.{Bool}
 use mathlib.Core.List.{List, [], _∷_, map}
 use Prim.Native.Nat.{ℕ, zero, suc, _+_, _≤_}
 use native.Mathlib.Omega.{arith}
 use lib.ListN.{length, length-append}
-use Rattle.buffer.specs.Sets.{joined, Even}
-use Rattle.setfile.specs.Format.{Entry, contours-of}
+use Rattle.buffer.specs.Sets.{Even}
+use Rattle.setfile.specs.Entries.{Entry, contours-of}
 use Rattle.setfile.specs.inside.Bytes.{coded-contour, coded-contours}
 use Rattle.setfile.specs.Promises.{Each}
+use Rattle.setfile.proofs.CodedLaws.{none-coded, coded-next}
 use Rattle.salvage.specs.Fates.{fates, kept, dropped}
 
 pub fates-length : (b : Bool) (l : List Entry) → length (fates b l) ≡ length l
@@ -38,10 +39,13 @@ kept-even (r ∷ fs) [] h = tt
 kept-even (zero ∷ fs) (e ∷ l) h = (h .0, kept-even fs l (h .1))
 kept-even (suc r ∷ fs) (e ∷ l) h = kept-even fs l (h .1)
 
+one-longer : (e : Entry) (l : List Entry) → length (coded-contours (e ∷ l)) ≡ length (coded-contour e) + length (coded-contours l)
+one-longer e l = ap length (coded-next e l) ∙ length-append (coded-contour e) (coded-contours l)
+
 pub kept-shorter : (fs : List ℕ) (l : List Entry) → length (coded-contours (kept fs l)) ≤ length (coded-contours l)
-unfolding kept joined
-kept-shorter [] l = omega arith
+unfolding kept
+kept-shorter [] l = omega (arith, ap length none-coded)
 kept-shorter (r ∷ fs) [] = omega arith
 kept-shorter (zero ∷ fs) (e ∷ l) =
-    omega (arith, kept-shorter fs l, length-append (coded-contour e) (coded-contours l), length-append (coded-contour e) (coded-contours (kept fs l)))
-kept-shorter (suc r ∷ fs) (e ∷ l) = omega (arith, kept-shorter fs l, length-append (coded-contour e) (coded-contours l))
+    omega (arith, kept-shorter fs l, one-longer e l, one-longer e (kept fs l))
+kept-shorter (suc r ∷ fs) (e ∷ l) = omega (arith, kept-shorter fs l, one-longer e l)

@@ -14,12 +14,15 @@ use Rattle.grid.specs.Domain.{count}
 use Rattle.replies.specs.Ladder.{first-of}
 use Rattle.replies.proofs.LadderLaws.{clear}
 use Rattle.buffer.specs.Sets.{joined}
-use Rattle.setfile.specs.Format.{Entry, contours-of, promised, come}
-use Rattle.setfile.specs.inside.Bytes.{Bytes, coded-contours, coded}
+use Rattle.setfile.specs.Entries.{Entry, contours-of}
+use Rattle.setfile.specs.Layouts.{promised}
+use Rattle.setfile.specs.Format.{come}
+use Rattle.bits.specs.Bits.{Bytes}
+use Rattle.setfile.specs.inside.Bytes.{in-bytes, coded-contours, coded}
 use Rattle.setfile.specs.Writing.{most-points}
 use Rattle.setfile.specs.Promises.{Each, Started, Carried}
 use Rattle.setfile.proofs.SizeLaws.{promised-few}
-use Rattle.setfile.proofs.ByteLaws.{in-bytes, file-by-bytes}
+use Rattle.setfile.proofs.CodedLaws.{file-is-coded}
 use Rattle.grid.proofs.LimitLaws.{on-joined}
 use Rattle.setfile.proofs.RoundTrip.{Matched, come-matched}
 use Rattle.salvage.specs.Fates.{reason, open-behind, fates, kept}
@@ -73,7 +76,7 @@ kept-on b (e ∷ l) = go (reason b e) refl (kept-on (open-behind (e .begins) (al
 -- a file with a head
 module _ (f : List ℕ) (h : Bytes f) (e : 2 ≤ length f) where
   found : Matched (promised f) (drop 2 f) (in-bytes (come f))
-  found = come-matched f h e
+  found = come-matched f h
 
   counts : length (kept-of f) + length (dropped-of f) ≡ length (come f .contours)
   counts = kept-or-dropped 0 (fates-of f) (come f .contours) (fates-length false (come f .contours))
@@ -93,7 +96,7 @@ module _ (f : List ℕ) (h : Bytes f) (e : 2 ≤ length f) where
   }
 
   pub mended-is : mended f ≡ coded (kept-of f)
-  mended-is = file-by-bytes (kept-of f) (kept-carried .small)
+  mended-is = file-is-coded (kept-of f) (kept-carried .small .few)
 
   pub kept-within : 2 + length (coded-contours (kept-of f)) ≤ length f
   kept-within =

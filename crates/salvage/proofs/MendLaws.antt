@@ -1,30 +1,31 @@
 -- What salvaging answers and leaves, once the contours are sifted.
 use mathlib.Core.Path.{_≡_, refl, sym, _∙_, ap, ap₂}
 use mathlib.Core.Bool.{Bool, true, false, not, _&&_, _||_}
-use mathlib.Core.List.{List, _∷_, _++_, append-assoc}
-use Prim.Native.Nat.{ℕ, zero, suc, _+_, _/_, _%_, _-_, _≤_}
+use mathlib.Core.List.{List, _++_, append-assoc}
+use Prim.Native.Nat.{ℕ, zero, suc, _+_, _/_, _-_, _≤_}
 use native.Mathlib.Omega.{arith}
 use lib.Dec.{leb, ltb}
 use lib.ListN.{length, take, drop, length-append}
 use lib.Seq.{drop-at, length-take-le}
-use borrow.Author.Tests.{ltb-false, leb-true, leb-false, lt-ltb, le-ltb, not-false}
+use borrow.Author.Tests.{leb-true, leb-false, lt-ltb, le-ltb, not-false}
 use Rattle.integers.proofs.Logic.{and-left, and-right}
-use Rattle.replies.specs.Ladder.{Rung, first-of, room}
+use Rattle.replies.specs.Ladder.{first-of, room}
 use Rattle.rows.specs.Rows.{front, placed}
 use Rattle.replies.proofs.LadderLaws.{First, first-is, cleared, clear, stopped, onward}
 use Rattle.replies.proofs.LadderLaws.First.{here, past, foot}
 use Rattle.rows.proofs.RowLaws.{placed-front}
 use Rattle.rows.proofs.PlacedLaws.{placed-long}
 use Rattle.setfile.specs.Format.{Come, file, come}
-use Rattle.setfile.specs.inside.Bytes.{Bytes, pair, arrived, two, coded-contours, coded}
+use Rattle.bits.specs.Bits.{Bytes}
+use Rattle.bits.specs.inside.Words.{spelled}
+use Rattle.bits.proofs.WordLaws.{spelled-length}
+use Rattle.setfile.specs.Layouts.{promised}
+use Rattle.setfile.specs.inside.Bytes.{arrived, coded-contours, coded}
 use Rattle.setfile.specs.inside.Reading.{head-refusals}
 use Rattle.setfile.specs.inside.Writing.{Put, Room}
-use Rattle.setfile.specs.Reading.{long}
 use Rattle.setfile.proofs.FaultLaws.{head-long}
-use Rattle.setfile.proofs.ByteLaws.{dropped, head-by-bytes, promised-by-bytes, come-by-bytes}
+use Rattle.setfile.proofs.ByteLaws.{come-by-bytes}
 use Rattle.salvage.specs.declared.answer.Salvaged.{Salvaged}
-use Rattle.salvage.specs.Fates as F
-use Rattle.salvage.specs.Outcome as O
 use Rattle.salvage.specs.Outcome.{Outcome, leaving, salvaged, mended, kept-of, dropped-of, answered, outcome}
 use Rattle.salvage.specs.inside.Sifting.{refusals, none-sifted, Roomy, ended, ending}
 use Rattle.salvage.proofs.FileLaws.{the-counts, mended-is, kept-within}
@@ -44,16 +45,16 @@ either-lacks false y = refl
 -- the refusals, rung by rung
 module _ (f : List ℕ) (out list : ℕ) where
   pub refused-head : (r : ℕ) → r ≡ first-of (head-refusals f) → (r ≡ 0 → ⊥) → r ≡ first-of (refusals f out list)
-  refused-head r e z = first-is _ _ (stopped (head-refusals f) (room (leb (length f) out && leb (pair f % 4096) list)) r e z)
+  refused-head r e z = first-is _ _ (stopped (head-refusals f) (room (leb (length f) out && leb (promised f) list)) r e z)
 
-  module _ (e : first-of (head-refusals f) ≡ 0) (n : ℕ) (g : n ≡ pair f % 4096) where
-    beyond : (r : ℕ) → First (room (leb (length f) out && leb (pair f % 4096) list)) r → r ≡ first-of (refusals f out list)
-    beyond r x = first-is _ _ (onward (head-refusals f) (room (leb (length f) out && leb (pair f % 4096) list)) r tt e x)
+  module _ (e : first-of (head-refusals f) ≡ 0) (n : ℕ) (g : n ≡ promised f) where
+    beyond : (r : ℕ) → First (room (leb (length f) out && leb (promised f) list)) r → r ≡ first-of (refusals f out list)
+    beyond r x = first-is _ _ (onward (head-refusals f) (room (leb (length f) out && leb (promised f) list)) r tt e x)
 
-    either : (t : Bool) → (ltb out (length f) || ltb list n) ≡ t → not (leb (length f) out && leb (pair f % 4096) list) ≡ t
+    either : (t : Bool) → (ltb out (length f) || ltb list n) ≡ t → not (leb (length f) out && leb (promised f) list) ≡ t
     either t h =
-        sym (either-lacks (leb (length f) out) (leb (pair f % 4096) list))
-        ∙ ap₂ (λ (x y : Bool). x || y) (sym (lacks (length f) out)) (sym (lacks (pair f % 4096) list) ∙ ap (λ (k : ℕ). ltb list k) (sym g))
+        sym (either-lacks (leb (length f) out) (leb (promised f) list))
+        ∙ ap₂ (λ (x y : Bool). x || y) (sym (lacks (length f) out)) (sym (lacks (promised f) list) ∙ ap (λ (k : ℕ). ltb list k) (sym g))
         ∙ h
 
     pub refused-room : (ltb out (length f) || ltb list n) ≡ true → 5 ≡ first-of (refusals f out list)
@@ -62,25 +63,10 @@ module _ (f : List ℕ) (out list : ℕ) where
     pub not-refused : (ltb out (length f) || ltb list n) ≡ false → 0 ≡ first-of (refusals f out list)
     not-refused h = beyond 0 (past (either false h) foot)
 
--- by bytes and by bits they are the same
-module _ (f : List ℕ) (h : Bytes f) (out : List ℕ) (list : List (List ℕ)) where
-  both-short : (a : Bool) (l m : List Rung) → first-of ((a, 2) ∷ (true, 10) ∷ l) ≡ first-of ((a, 2) ∷ (true, 10) ∷ m)
-  unfolding first-of
-  both-short true l m = refl
-  both-short false l m = refl
-
-  pub refusals-by-bytes : first-of (refusals f (length out) (length list)) ≡ first-of (O.refusals f out list)
-  refusals-by-bytes = go (ltb (length f) 2) refl
-    where
-      go : (t : Bool) → ltb (length f) 2 ≡ t → first-of (refusals f (length out) (length list)) ≡ first-of (O.refusals f out list)
-      go true e = rw e (both-short _ _ _)
-      go false e =
-          let l = ltb-false (length f) 2 e in
-          ap₂ (λ (a : List Rung) (k : ℕ). first-of (long (length f) ++ a ++ room (leb (length f) (length out) && leb k (length list)))) (sym (head-by-bytes f h l)) (sym (promised-by-bytes f h l))
-
+module _ (f : List ℕ) (out : List ℕ) (list : List (List ℕ)) where
   pub mend-refused : (r : ℕ) → r ≡ first-of (refusals f (length out) (length list)) → (r ≡ 0 → ⊥) → {s : Salvaged} → s ≡ salvaged r 0 0 0 0 → leaving s out list ≡ outcome f out list
   unfolding outcome
-  mend-refused r e z {s} g = ap (λ (s : Salvaged). leaving s out list) g ∙ go r z ∙ ap (λ (k : ℕ). answered k f out list) (e ∙ refusals-by-bytes)
+  mend-refused r e z {s} g = ap (λ (s : Salvaged). leaving s out list) g ∙ go r z ∙ ap (λ (k : ℕ). answered k f out list) e
     where
       go : (r : ℕ) → (r ≡ 0 → ⊥) → leaving (salvaged r 0 0 0 0) out list ≡ answered r f out list
       go zero z = absurd (z refl)
@@ -108,7 +94,7 @@ same-outcome p q w = cc
 pub record Accepted (f out : List ℕ) (list : List (List ℕ)) (n : ℕ) : Type 0 where
   pub bytes : Bytes f
   pub free : first-of (refusals f (length out) (length list)) ≡ 0
-  pub promised : n ≡ pair f % 4096
+  pub count : n ≡ promised f
 
 module _ {f out : List ℕ} {list : List (List ℕ)} {n : ℕ} (file : Accepted f out list n) where
   head-right : first-of (head-refusals f) ≡ 0
@@ -117,18 +103,18 @@ module _ {f out : List ℕ} {list : List (List ℕ)} {n : ℕ} (file : Accepted 
   headed : 2 ≤ length f
   headed = head-long f head-right
 
-  enough : (leb (length f) (length out) && leb (pair f % 4096) (length list)) ≡ true
+  enough : (leb (length f) (length out) && leb (promised f) (length list)) ≡ true
   enough = not-false _ (clear _ tt (cleared (head-refusals f) _ tt (file .free) .1) .0)
 
   pub roomy : Roomy f n out list
   roomy = record {
     head = headed;
     out-room = leb-true (length f) (length out) (and-left (leb (length f) (length out)) _ enough);
-    list-room = omega (arith, leb-true (pair f % 4096) (length list) (and-right (leb (length f) (length out)) _ enough));
+    list-room = omega (arith, leb-true (promised f) (length list) (and-right (leb (length f) (length out)) _ enough));
   }
 
   counts : length (kept-of f) + length (dropped-of f) + come f .missing ≡ n
-  counts = the-counts f (file .bytes) headed ∙ promised-by-bytes f (file .bytes) headed ∙ sym (file .promised)
+  counts = the-counts f (file .bytes) headed ∙ sym (file .count)
 
   body : List ℕ
   body = coded-contours (kept-of f)
@@ -141,7 +127,7 @@ module _ {f out : List ℕ} {list : List (List ℕ)} {n : ℕ} (file : Accepted 
   module _ {r : Salvaged} {mid : List ℕ} {list′ : List (List ℕ)} (p : leaving r mid list′ ≡ ending n 0 none-sifted f out list) where
     by-bits : leaving r mid list′ ≡ leaving (salvaged 0 (2 + length body) (0 + length (dropped-of f)) (come f .missing) (come f .past / 8)) (placed 2 body out) (placed 0 (dropped-of f) list)
     unfolding body
-    by-bits = p ∙ ap (λ (c : Come). ended c 0 none-sifted out list) (ap (λ (k : ℕ). arrived k (drop 2 f)) (file .promised) ∙ sym (come-by-bytes f (file .bytes) headed))
+    by-bits = p ∙ ap (λ (c : Come). ended c 0 none-sifted out list) (ap (λ (k : ℕ). arrived k (drop 2 f)) (file .count) ∙ sym (come-by-bytes f))
 
     answer-is : r ≡ salvaged 0 (2 + length body) (0 + length (dropped-of f)) (come f .missing) (come f .past / 8)
     answer-is = ap (λ (o : Outcome). o .answer) by-bits
@@ -164,17 +150,17 @@ module _ {f out : List ℕ} {list : List (List ℕ)} {n : ℕ} (file : Accepted 
     kept-is : n - r .missing - r .dropped ≡ length (kept-of f)
     kept-is = omega (arith, missing-is, dropped-is, counts)
 
-    pub head-room : Room 0 (two (4096 + (n - r .missing - r .dropped))) mid
-    head-room = omega (arith, ap length mid-is ∙ placed-long out 2 body fits, fits)
+    pub head-room : Room 0 (spelled 2 (4096 + (n - r .missing - r .dropped))) mid
+    head-room = omega (arith, ap length mid-is ∙ placed-long out 2 body fits, fits, spelled-length 2 (4096 + (n - r .missing - r .dropped)))
 
-    pub mend-done : {b : ℕ} {out′ : List ℕ} → Put 0 (two (4096 + (n - r .missing - r .dropped))) mid b out′ → leaving r out′ list′ ≡ outcome f out list
-    unfolding outcome body
+    pub mend-done : {b : ℕ} {out′ : List ℕ} → Put 0 (spelled 2 (4096 + (n - r .missing - r .dropped))) mid b out′ → leaving r out′ list′ ≡ outcome f out list
+    unfolding outcome body spelled
     mend-done {b} {out′} u =
         let o : out′ ≡ front (mended f) out =
-        u .is ∙ ap₂ (λ (k : ℕ) (l : List ℕ). placed 0 (two (4096 + k)) l) kept-is mid-is
-        ∙ placed-before (two (4096 + length (kept-of f))) body out fits ∙ placed-front out (coded (kept-of f)) ∙ ap (λ (l : List ℕ). front l out) (sym (mended-is f (file .bytes) headed)) in
+        u .is ∙ ap₂ (λ (k : ℕ) (l : List ℕ). placed 0 (spelled 2 (4096 + k)) l) kept-is mid-is
+        ∙ placed-before (spelled 2 (4096 + length (kept-of f))) body out fits ∙ placed-front out (coded (kept-of f)) ∙ ap (λ (l : List ℕ). front l out) (sym (mended-is f (file .bytes) headed)) in
         same-outcome
         (answer-is ∙ same-salvaged (sym (ap length (mended-is f (file .bytes) headed) ∙ omega arith)) (omega arith) refl refl)
         o
         (ap (λ (o : Outcome). o .list) by-bits ∙ placed-front list (dropped-of f))
-        ∙ ap (λ (k : ℕ). answered k f out list) (sym (file .free) ∙ refusals-by-bytes f (file .bytes) out list)
+        ∙ ap (λ (k : ℕ). answered k f out list) (sym (file .free))

@@ -5,7 +5,7 @@ use mathlib.Core.List.{List, [], _∷_}
 use lib.IntN.{ℤ}
 use Rattle.grid.specs.Limits.{narrow, all-on-grid}
 use Rattle.replies.specs.Ladder.{first-of}
-use Rattle.setfile.specs.Format.{Entry, Gathered, gather, gathered, shapes-of}
+use Rattle.setfile.specs.Entries.{Entry, Gathered, gather, gathered, shapes-of}
 use Rattle.salvage.specs.Fates.{reason, open-behind, fates, keep, kept}
 use Rattle.salvage.specs.Promises.{if-so, sound-contours, sound-shapes}
 

@@ -12,11 +12,13 @@ use borrow.Author.Tests.{leb-true, le-leb, lt-leb}
 use Rattle.grid.specs.Limits.{narrow, all-on-grid}
 use Rattle.replies.specs.Ladder.{first-of}
 use Rattle.rows.specs.Rows.{placed}
-use Rattle.buffer.specs.Sets.{joined}
 use Rattle.rows.proofs.PlacedLaws.{placed-none, placed-long, placed-behind, set-placed}
-use Rattle.setfile.specs.Format.{Entry, Come, come-next}
-use Rattle.setfile.specs.inside.Bytes.{Bytes, decoded, starts, held, front-entry, all-there, arrived, coded-contour, coded-contours}
-use Rattle.setfile.proofs.ByteLaws.{dropped}
+use Rattle.setfile.specs.Entries.{Entry}
+use Rattle.setfile.specs.Format.{Come, come-next}
+use Rattle.bits.specs.Bits.{Bytes}
+use Rattle.setfile.specs.inside.Bytes.{decoded, starts, held, front-entry, all-there, arrived, coded-contours}
+use Rattle.setfile.proofs.ByteLaws.{dropped, none-arrived, next-arrived}
+use Rattle.setfile.proofs.CodedLaws.{none-coded, coded-next}
 use Rattle.setfile.proofs.RoundTrip.{contour-read}
 use Rattle.salvage.specs.declared.inner.sifting.Sifted.{Sifted}
 use Rattle.salvage.specs.Fates.{reason, open-behind, fates, keep, kept, note}
@@ -125,8 +127,7 @@ module _ (f : List ℕ) (h : Bytes f) (k i : ℕ) (s : Sifted) (out : List ℕ) 
   here-long = omega (arith, ready .within, length-drop (s .at) f)
 
   whole : arrived (suc k) here ≡ come-next true (front-entry here) k found
-  unfolding arrived
-  whole = ap (λ (t : Bool). come-next t (front-entry here) k found) (le-leb (size here) (length here) here-long)
+  whole = next-arrived k here ∙ ap (λ (t : Bool). come-next t (front-entry here) k found) (le-leb (size here) (length here) here-long)
 
   on : (i : ℕ) (to n : ℕ) (b : Bool) (out : List ℕ) (list : List (List ℕ))
       → ended found i (record { at = s .at + size here; to = to; dropped = n; keeping = b }) out list
@@ -135,18 +136,19 @@ module _ (f : List ℕ) (h : Bytes f) (k i : ℕ) (s : Sifted) (out : List ℕ) 
 
   step : (w : ℕ) → w ≡ reason (s .keeping) (front-entry here)
       → ending (suc k) i s f out list ≡ ending k (suc i) (sifted w here s) f (copied w here (s .to) out) (noted w i (s .dropped) list)
-  unfolding reason joined behind
+  unfolding reason behind
   step zero e =
       let rest : List ℕ = coded-contours (kept (fates true (found .contours)) (found .contours)) in
-      let part : coded-contour (front-entry here) ≡ take (size here) here = contour-read here (dropped (s .at) f h) here-long in
+      let part : coded-contours (front-entry here ∷ kept (fates true (found .contours)) (found .contours)) ≡ take (size here) here ++ rest =
+      coded-next (front-entry here) (kept (fates true (found .contours)) (found .contours)) ∙ ap (λ (l : List ℕ). l ++ rest) (contour-read here (dropped (s .at) f h) here-long) in
       let long : length (take (size here) here) ≡ size here = length-take-le (size here) here here-long in
       let room : s .to + length (take (size here) here) ≤ length out = omega (arith, ready .out-room) in
       ap (λ (c : Come). ended c i s out list) whole
       ∙ ended-next found (front-entry here) k i s out list true 0 e (open-kept _ (starts here) (s .keeping) e)
       ∙ same-outcome
-      (ap (λ (l : List ℕ). s .to + length (l ++ rest)) part ∙ omega (arith, length-append (take (size here) here) rest))
+      (ap (λ (l : List ℕ). s .to + length l) part ∙ omega (arith, length-append (take (size here) here) rest))
       refl refl refl
-      (ap (λ (l : List ℕ). placed (s .to) (l ++ rest) out) part
+      (ap (λ (l : List ℕ). placed (s .to) l out) part
       ∙ sym (placed-behind out (s .to) (take (size here) here) rest (s .to + size here) room (omega arith)))
       refl
       ∙ on (suc i) (s .to + size here) (s .dropped) true (placed (s .to) (take (size here) here) out) list
@@ -236,22 +238,23 @@ module _ {f : List ℕ} {n : ℕ} {out₀ : List ℕ} {list₀ : List (List ℕ)
 
   -- none is left, or the next is not complete
   nothing-more : (m p : ℕ) → leaving (salvaged 0 (s .to) (s .dropped) m p) out list ≡ ended (record { contours = []; missing = m; past = p }) i s out list
-  unfolding fates kept F.dropped joined
-  nothing-more m p = same-outcome (omega arith) (omega arith) refl refl (sym (placed-none out (s .to))) (sym (placed-none list (s .dropped)))
+  unfolding fates kept F.dropped
+  nothing-more m p =
+      same-outcome (omega (arith, ap length none-coded)) (omega arith) refl refl (sym (ap (λ (l : List ℕ). placed (s .to) l out) none-coded ∙ placed-none out (s .to))) (sym (placed-none list (s .dropped)))
 
   pub stopped : i < n → false ≡ all-there (drop (s .at) f) → leaving (salvaged 0 (s .to) (s .dropped) (n - i) 0) out list ≡ ending n 0 none-sifted f out₀ list₀
-  unfolding arrived
   stopped l t =
       let e : n - i ≡ suc (n - (i + 1)) = omega arith in
       nothing-more (n - i) 0
       ∙ ap (λ (k : ℕ). ended (record { contours = []; missing = k; past = 0 }) i s out list) e
       ∙ ap (λ (b : Bool). ended (come-next b (front-entry (drop (s .at) f)) (n - (i + 1)) (arrived (n - (i + 1)) (drop (size (drop (s .at) f)) (drop (s .at) f)))) i s out list) t
+      ∙ ap (λ (c : Come). ended c i s out list) (sym (next-arrived (n - (i + 1)) (drop (s .at) f)))
       ∙ ap (λ (k : ℕ). ending k i s f out list) (sym e) ∙ x .is
 
   pub finished : n ≤ i → leaving (salvaged 0 (s .to) (s .dropped) 0 (length f - s .at)) out list ≡ ending n 0 none-sifted f out₀ list₀
-  unfolding arrived
   finished l =
       let e : n - i ≡ 0 = omega (arith, x .high) in
       nothing-more 0 (length f - s .at)
       ∙ ap (λ (k : ℕ). ended (record { contours = []; missing = 0; past = k }) i s out list) (sym (length-drop (s .at) f))
+      ∙ ap (λ (c : Come). ended c i s out list) (sym (none-arrived (drop (s .at) f)))
       ∙ ap (λ (k : ℕ). ending k i s f out list) (sym e) ∙ x .is

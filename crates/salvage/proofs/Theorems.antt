@@ -1,11 +1,11 @@
 -- What a user may count on.
-use mathlib.Core.Path.{_≡_, refl, sym, _∙_, ap, subst}
+use mathlib.Core.Path.{_≡_, refl, sym, _∙_, ap}
 use mathlib.Core.Bool.{Bool, true, false, not, _&&_, _||_, true≢false}
-use mathlib.Core.List.{List, [], _∷_, map}
-use Prim.Native.Nat.{ℕ, zero, suc, _+_, _-_, _/_, _%_, _≤_}
+use mathlib.Core.List.{List, [], _∷_, _++_, map}
+use Prim.Native.Nat.{ℕ, zero, suc, _+_, _-_, _/_, _≤_}
 use native.Mathlib.Omega.{arith}
 use lib.Dec.{eqb, ltb, leb}
-use lib.ListN.{length, take, drop, length-take}
+use lib.ListN.{length, take, drop, length-append, length-take}
 use lib.Seq.{take-at, getD-take}
 use borrow.Author.Tests.{ltb-false, le-ltb, le-leb, not-false}
 use Rattle.integers.proofs.Logic.{and-left, and-right}
@@ -15,13 +15,20 @@ use Rattle.rows.specs.Rows.{front}
 use Rattle.replies.proofs.LadderLaws.{Clear, clear, first-is}
 use Rattle.replies.proofs.LadderLaws.First.{past, foot}
 use Rattle.buffer.specs.Sets.{joined}
-use Rattle.setfile.specs.Format.{Entry, contours-of, shapes-of, file, bad-head, promised, come, parsed, damage, read-contours}
-use Rattle.setfile.specs.Format.Parsed.{carries}
-use Rattle.setfile.specs.inside.Bytes.{Bytes, pair, head-faults, coded-contour, coded}
+use Rattle.setfile.specs.Entries.{Entry, contours-of, shapes-of, damage, read-contours}
+use Rattle.setfile.specs.Layouts.{promised}
+use Rattle.setfile.specs.Format.{file, bad-head, come, parsed}
+use Rattle.setfile.specs.Entries.Parsed.{carries}
+use Rattle.bits.specs.Bits.{Bytes}
+use Rattle.bits.specs.inside.Words.{spelled}
+use Rattle.bits.proofs.WordLaws.{spelled-length}
+use Rattle.setfile.specs.inside.Bytes.{in-bytes, coded-contour, coded}
 use Rattle.setfile.specs.Reading as R
 use Rattle.setfile.specs.Promises.{Started}
 use Rattle.grid.proofs.LimitLaws.{on-joined}
-use Rattle.setfile.proofs.ByteLaws.{coded-bytes, head-by-bytes, promised-by-bytes, come-by-bytes, in-bytes}
+use Rattle.bits.proofs.BitLaws.{bytes-are}
+use Rattle.setfile.proofs.ByteLaws.{come-by-bytes}
+use Rattle.setfile.proofs.CodedLaws.{contours-joined}
 use Rattle.setfile.proofs.RoundTrip.{come-matched, Whole, read-whole, read-carried, read-back, written-back}
 use Rattle.setfile.proofs.Theorems.{right, whole}
 use Rattle.salvage.specs.Fates.{reason, open-behind, fates, keep, kept, note, dropped}
@@ -30,7 +37,7 @@ use Rattle.salvage.specs.Promises.{written-file, written-list, Parted, S
 use Rattle.salvage.specs.Promises.Parted.{all-parted, one-kept, one-dropped}
 use Rattle.salvage.proofs.FileLaws.{the-counts, kept-carried, kept-on, mended-is, kept-within}
 use Rattle.salvage.proofs.ShapeLaws.{kept-shapes}
-use Rattle.salvage.proofs.CutLaws.{drop-take, pair-cut, Cut, arrived-cut}
+use Rattle.salvage.proofs.CutLaws.{drop-take, edition-cut, promised-cut, Cut, arrived-cut}
 
 -- where nothing is refused
 not-refused : (f out : List ℕ) (list : List (List ℕ)) → Clear (refusals f out list) → outcome f out list ≡ answered 0 f out list
@@ -120,7 +127,7 @@ module _ (f : List ℕ) (h : Bytes f) (ok : first-of (R.refusals f) ≡ 0) where
   read = read-contours (parsed f)
 
   taken : Whole f read
-  taken = read-whole f h read (whole f h ok)
+  taken = read-whole f read (whole f h ok)
 
   short : length f ≤ R.most-bytes
   short = ltb-false R.most-bytes (length f) (right f h ok .0)
@@ -176,7 +183,7 @@ module _ (f : List ℕ) (h : Bytes f) (out : List ℕ) (list : List (List ℕ)) 
   in-bytes-is = file-is ∙ mended-is f h with-head
 
   no-longer : length (written-file o) ≤ length f
-  no-longer = omega (arith, ap length in-bytes-is, kept-within f h with-head)
+  no-longer = omega (arith, ap length in-bytes-is ∙ length-append (spelled 2 (4096 + length (kept-of f))) _, spelled-length 2 (4096 + length (kept-of f)), kept-within f h with-head)
 
   pub what-is-written-is-always-taken-by-the-reader : first-of (R.refusals (written-file o)) ≡ 0
   what-is-written-is-always-taken-by-the-reader =
@@ -192,24 +199,26 @@ module _ (f : List ℕ) (h : Bytes f) (out : List ℕ) (list : List (List ℕ)) 
   kept-dropped-and-missing-are-as-many-as-promised = rw (kept-is, outcome-is) (the-counts f h with-head)
 
   pub every-kept-contour-has-the-bytes-it-had : SameBytes f o
+  unfolding spelled
   every-kept-contour-has-the-bytes-it-had =
-      let m = come-matched f h with-head in
+      let m = come-matched f h in
       record {
         rest = m .rest;
-        before = sym (m .same);
-        after = ap (drop 2) in-bytes-is ∙ ap joined (sym (kept-map coded-contour (fates-of f) (come f .contours)));
+        before = sym (m .same) ∙ ap (λ (l : List ℕ). l ++ m .rest) (sym (contours-joined (come f .contours)));
+        after = ap (drop 2) in-bytes-is ∙ sym (contours-joined (kept-of f)) ∙ ap joined (sym (kept-map coded-contour (fates-of f) (come f .contours)));
       }
 
   pub a-hole-never-follows-another-outline : shapes-of (read-contours (parsed (written-file o))) ≡ sound-shapes (shapes-of (come f .contours))
   a-hole-never-follows-another-outline = ap shapes-of kept-is ∙ kept-shapes false (come f .contours)
 
   bytes-written : Bytes (written-file o)
-  bytes-written = rw in-bytes-is (coded-bytes (kept-of f))
+  unfolding file
+  bytes-written = rw file-is (bytes-are _ _)
 
   pub what-is-written-needs-no-more-room : (length (written-file o) ≤ length f) × (promised (written-file o) ≤ promised f)
   what-is-written-needs-no-more-room =
-      let t = read-whole (written-file o) bytes-written (kept-of f) reads in
-      let n = come-matched (written-file o) bytes-written (headed (written-file o) bytes-written what-is-written-is-always-taken-by-the-reader) .number in
+      let t = read-whole (written-file o) (kept-of f) reads in
+      let n = come-matched (written-file o) bytes-written .number in
       (no-longer, omega (arith, n, t .none-missing, ap length (t .is), the-counts f h with-head))
 
   pub salvaging-what-was-salvaged-changes-nothing : (out′ : List ℕ) (list′ : List (List ℕ)) → length (written-file o) ≤ length out′ → promised (written-file o) ≤ length list′
@@ -225,13 +234,13 @@ module _ (f : List ℕ) (h : Bytes f) (e : 2 ≤ length f) (n : ℕ) (m : 2 ≤ 
   head-cut = omega (arith, length-take n f)
 
   same-promise : promised (take n f) ≡ promised f
-  same-promise = promised-by-bytes (take n f) bytes-cut head-cut ∙ ap (λ (k : ℕ). k % 4096) (pair-cut f n m) ∙ sym (promised-by-bytes f h e)
+  same-promise = promised-cut f n m
 
   cut-off : Cut (n - 2) (in-bytes (come f)) (in-bytes (come (take n f)))
   cut-off =
       let k : n ≡ 2 + (n - 2) = omega arith in
       let d : drop 2 (take n f) ≡ take (n - 2) (drop 2 f) = ap (λ (k : ℕ). drop 2 (take k f)) k ∙ drop-take 2 (n - 2) f in
-      rw (come-by-bytes f h e, come-by-bytes (take n f) bytes-cut head-cut, pair-cut f n m, d) (arrived-cut (pair f % 4096) (n - 2) (drop 2 f))
+      rw (come-by-bytes f, come-by-bytes (take n f), same-promise, d) (arrived-cut (promised f) (n - 2) (drop 2 f))
 
   pub a-file-that-is-cut-off-yields-the-contours-whose-bytes-are-all-there : come (take n f) .contours ≡ all-within (n - 2) (come f .contours)
   a-file-that-is-cut-off-yields-the-contours-whose-bytes-are-all-there = cut-off .contours
@@ -252,13 +261,11 @@ module _ (f : List ℕ) (h : Bytes f) (ok : first-of (R.refusals f) ≡ 0) (n : 
       let c = cut-off f h x n m in
       let is : come g .contours ≡ there = c .contours ∙ ap (all-within (n - 2)) (sym (t .is)) in
       let all = within-kept false (n - 2) (read f h ok) (each-kept f h ok) in
-      let number = come-matched g b hl .number in
-      let all-came = come-matched f h x .number in
+      let number = come-matched g b .number in
+      let all-came = come-matched f h .number in
       let l : length g ≤ length f = omega (arith, length-take n f) in
       let a : ltb R.most-bytes (length g) ≡ false = le-ltb R.most-bytes (length g) (omega (arith, short f h ok)) in
-      let right-head : Clear (head-faults f) = subst Clear (head-by-bytes f h x) (head-clear f h ok) in
-      let hd : Clear (bad-head g) =
-      subst Clear (sym (head-by-bytes g b hl)) (le-ltb (length g) 2 hl, (ap (λ (k : ℕ). not (eqb (k / 4096) 1)) (pair-cut f n m) ∙ right-head .1 .0, tt)) in
+      let hd : Clear (bad-head g) = (le-ltb (length g) 2 hl, (ap (λ (k : ℕ). not (eqb k 1)) (edition-cut f n m) ∙ head-clear f h ok .1 .0, tt)) in
       not-refused g out list (a, (hd .0, (hd .1 .0, (room-enough (length g) (length out) (promised g) (length list) (omega arith) (omega (arith, same-promise f h x n m)), tt))))
       ∙ answered-so g out list
       (ap (λ (l : List Entry). file (kept (fates false l) l)) is ∙ ap file (all-kept false there all))

@@ -4,7 +4,7 @@ use mathlib.Core.List.{List, [], _∷_}
 use Prim.Native.Nat.{ℕ, zero, suc}
 use Rattle.grid.specs.Limits.{narrow, all-on-grid}
 use Rattle.replies.specs.Ladder.{first-of}
-use Rattle.setfile.specs.Format.{Entry}
+use Rattle.setfile.specs.Entries.{Entry}
 
 -- why a contour is dropped: 3 a place off the grid, 11 no shape, since it begins none and the one that it belongs to is not kept; 0 where it is kept
 unfoldable pub reason : Bool → Entry → ℕ

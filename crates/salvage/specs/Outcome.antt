@@ -6,7 +6,9 @@ use lib.Dec.{leb}
 use lib.ListN.{length}
 use Rattle.replies.specs.Ladder.{Rung, first-of, room}
 use Rattle.rows.specs.Rows.{front}
-use Rattle.setfile.specs.Format.{Entry, file, bad-head, promised, come}
+use Rattle.setfile.specs.Entries.{Entry}
+use Rattle.setfile.specs.Layouts.{promised}
+use Rattle.setfile.specs.Format.{file, bad-head, come}
 use Rattle.setfile.specs.Reading.{long}
 use Rattle.salvage.specs.declared.answer.Salvaged.{Salvaged}
 use Rattle.salvage.specs.Fates.{fates, kept, dropped}

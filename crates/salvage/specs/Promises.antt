@@ -9,7 +9,8 @@ use lib.IntN.{ℤ}
 use Rattle.grid.specs.Limits.{narrow, all-on-grid}
 use Rattle.grid.specs.Domain.{count}
 use Rattle.buffer.specs.Sets.{joined}
-use Rattle.setfile.specs.Format.{Entry, come}
+use Rattle.setfile.specs.Entries.{Entry}
+use Rattle.setfile.specs.Format.{come}
 use Rattle.setfile.specs.inside.Bytes.{coded-contour}
 use Rattle.salvage.specs.Fates.{kept}
 use Rattle.salvage.specs.Outcome.{fates-of, Outcome}

@@ -26,7 +26,8 @@ use Rattle.buffer.proofs.SpanLaws.{first-starts, first-forward, others-sound, r
 use Rattle.buffer.proofs.SetLaws.{contours-even, sizes-are, sound-laid}
 use Rattle.buffer.proofs.RowLaws.{spans-length}
 use Rattle.buffer.proofs.Theorems.{a-sound-set's-contours-laid-end-to-end-are-its-points, and-its-ranges-are-theirs, a-sound-set's-shapes-laid-end-to-end-are-its-contours, the-counts-add-up}
-use Rattle.setfile.specs.Format.{Entry, contours-of, entries, Gathered, shapes-of, file-length}
+use Rattle.setfile.specs.Entries.{Entry, contours-of, entries, Gathered, shapes-of}
+use Rattle.setfile.specs.Format.{file-length}
 use Rattle.setfile.specs.Reading.{most-bytes}
 use Rattle.setfile.specs.Writing.{most-contours, most-points, some-over, some-empty, refusals}
 use Rattle.setfile.specs.Promises.{Each, Filled, Carried, Carriable}

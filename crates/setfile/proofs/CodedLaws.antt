@@ -1,12 +1,12 @@
 -- Contours and shapes in bytes, met one after the other.
-use mathlib.Core.Path.{_≡_, refl, _∙_, ap}
+use mathlib.Core.Path.{_≡_, refl, sym, _∙_, ap}
 use mathlib.Core.Bool.{Bool, true, false}
-use mathlib.Core.List.{List, [], _∷_, _++_, map, map-append}
-use Prim.Native.Nat.{ℕ, suc, _+_, _-_, _<_, _≤_, _^_}
+use mathlib.Core.List.{List, [], _∷_, _++_, map, append-assoc}
+use Prim.Native.Nat.{ℕ, suc, _+_, _-_, _*_, _<_, _≤_, _^_}
 use native.Mathlib.Omega.{arith}
 use native.Mathlib.Numerals.{add-one}
 use lib.Dec.{eqb}
-use lib.ListN.{length, getD, drop, length-map, drop-of-length-le}
+use lib.ListN.{length, getD, drop, length-append, length-map, drop-of-length-le}
 use lib.Seq.{drop-cons}
 use lib.IntN.{ℤ, pos}
 use lib.Signed.{mag}
@@ -14,27 +14,111 @@ use mir.Syntax.{w32}
 use mir.Val.{toZ, ofZ}
 use mir.Facts.{toZ-ofZ}
 use borrow.Author.Tests.{ne-eqb, eq-eqb}
-use Rattle.buffer.specs.Spans.{span, spans}
-use Rattle.buffer.specs.Sets.{joined, cut, contour, contours, shapes}
+use Rattle.grid.specs.Domain.{count}
+use Rattle.bits.specs.Bits.{digit, field, padded}
+use Rattle.bits.specs.Signs.{unsigned, fields}
+use Rattle.bits.specs.inside.Words.{spelled}
+use Rattle.bits.proofs.BitLaws.{field-length, field-joined, padded-append, padded-length, padded-none}
+use Rattle.bits.proofs.WordLaws.{spelled-length, padded-field}
+use Rattle.bits.proofs.SignLaws.{unsigned-word}
+use Rattle.buffer.specs.Spans.{span, spans, total}
+use Rattle.buffer.specs.Sets.{joined, cut, contour, contours, shapes, Even}
 use Rattle.buffer.proofs.PartLaws.{contours-at}
-use Rattle.buffer.proofs.SetLaws.{joined-append}
-use Rattle.setfile.specs.Format.{Entry, entry, shape-entries, entries}
-use Rattle.setfile.specs.inside.Bytes.{four, coded-coordinates, coded-contour, coded-contours}
-use Rattle.setfile.specs.inside.Writing.{between, coded-shape, coded-shapes}
-use Rattle.setfile.proofs.WriteLaws.{Parted}
+use Rattle.rows.proofs.PlacedLaws.{placed-long}
+use Rattle.setfile.specs.Entries.{Entry, entry, contours-of, shape-entries, entries}
+use Rattle.setfile.specs.Layouts.{all-coded}
+use Rattle.setfile.specs.Format.{contour-bits, edition-1, file-length, file}
+use Rattle.setfile.specs.Writing.{most-contours, most-points}
+use Rattle.setfile.specs.inside.Bytes.{coded-coordinates, coded-contour, coded-contours, coded}
+use Rattle.setfile.specs.inside.Writing.{Put, Room, between, coded-shape, coded-shapes}
+use Rattle.setfile.proofs.EditionLaws.{contour-length}
+use Rattle.setfile.proofs.WriteLaws.{Parted, both-put}
+
+-- two fields of 16 bits together, in front of more: one number of two bytes
+two-fields : (j k h n : ℕ) (more : List Bool) → j + k ≡ 16 → n < 2 ^ k → padded (field j h ++ (field k n ++ more)) ≡ spelled 2 (h * 2 ^ k + n) ++ padded more
+two-fields j k h n more e l =
+    let m : ℕ = h * 2 ^ k + n in
+    ap padded (sym (append-assoc (field j h) (field k n) more) ∙ ap (λ (b : List Bool). b ++ more) (field-joined j k h n l ∙ ap (λ (w : ℕ). field w m) e))
+    ∙ padded-append 2 (field 16 m) more (field-length 16 m) ∙ ap (λ (f : List ℕ). f ++ padded more) (padded-field 2 m)
+
+-- coordinates in bytes, and one more in front
+coordinates-next : (z : ℤ) (c : List ℤ) → coded-coordinates (z ∷ c) ≡ spelled 4 (ofZ w32 z) ++ coded-coordinates c
+unfolding fields
+coordinates-next z c =
+    padded-append 4 (field 32 (unsigned 32 z)) (fields 32 c) (field-length 32 (unsigned 32 z))
+    ∙ ap (λ (f : List ℕ). f ++ coded-coordinates c) (padded-field 4 (unsigned 32 z) ∙ ap (spelled 4) (unsigned-word z))
 
 -- the coordinates from number i on: the next of them, or none
 module _ (c : List ℤ) (i : ℕ) where
   pub next-coordinate : {n : ℕ} → n ≡ ofZ w32 (toZ w32 (ofZ w32 (getD c i (pos 0)))) → mag (getD c i (pos 0)) < 2 ^ 31 → i < length c
-      → Parted (coded-coordinates (drop i c)) (four n) (coded-coordinates (drop (i + 1) c))
-  unfolding joined
+      → Parted (coded-coordinates (drop i c)) (spelled 4 n) (coded-coordinates (drop (i + 1) c))
   next-coordinate {n} e f h =
       let z : n ≡ ofZ w32 (getD c i (pos 0)) = e ∙ ap (ofZ w32) (toZ-ofZ {w = w32} {z = getD c i (pos 0)} (record { sfits = f })) in
-      record { is = rw (drop-cons c i (pos 0) h, add-one i, z) }
+      record { is = rw (drop-cons c i (pos 0) h, add-one i, z) (coordinates-next (getD c i (pos 0)) (drop (suc i) c)) }
 
   pub no-coordinate : length c ≤ i → coded-coordinates (drop i c) ≡ []
-  unfolding joined
-  no-coordinate h = rw (drop-of-length-le c {i = i} h)
+  unfolding fields
+  no-coordinate h = rw (drop-of-length-le c {i = i} h) padded-none
+
+-- the header of a contour in bytes: its two fields are one number of two
+abbrev header : Entry → List ℕ
+header e = spelled 2 (digit (e .begins) * 32768 + count (e .points))
+
+coded-contour-is : (e : Entry) → count (e .points) ≤ most-points → coded-contour e ≡ header e ++ coded-coordinates (e .points)
+coded-contour-is e h = two-fields 1 15 (digit (e .begins)) (count (e .points)) (fields 32 (e .points)) refl (omega arith)
+
+whole-bytes : (e : Entry) → length (contour-bits e) ≡ 8 * (2 + 4 * length (e .points))
+whole-bytes e = contour-length e ∙ omega arith
+
+-- a contour that is put: there is room for its header, and behind that for its coordinates
+module _ (e : Entry) (at : ℕ) (row : List ℕ) (short : count (e .points) ≤ most-points) (h : Room at (coded-contour e) row) where
+  both-room : Room at (header e ++ coded-coordinates (e .points)) row
+  both-room = rw (coded-contour-is e short) at h
+
+  pub header-room : Room at (header e) row
+  header-room = omega (arith, both-room, length-append (header e) (coded-coordinates (e .points)))
+
+  module _ {b : ℕ} {mid : List ℕ} (p : Put at (header e) row b mid) where
+    pub coordinates-room : Room b (coded-coordinates (e .points)) mid
+    coordinates-room =
+        omega (
+          arith,
+          both-room,
+          length-append (header e) (coded-coordinates (e .points)),
+          p .behind,
+          ap length (p .is) ∙ placed-long row at (header e) header-room,
+        )
+
+    pub contour-put : {c : ℕ} {exit : List ℕ} → Put b (coded-coordinates (e .points)) mid c exit → Put at (coded-contour e) row c exit
+    contour-put q = rw (coded-contour-is e short) (both-put both-room p q)
+
+-- contours in bytes, and one more in front
+pub none-coded : coded-contours [] ≡ []
+unfolding joined
+none-coded = padded-none
+
+pub coded-next : (e : Entry) (l : List Entry) → coded-contours (e ∷ l) ≡ coded-contour e ++ coded-contours l
+unfolding joined
+coded-next e l = padded-append (2 + 4 * length (e .points)) (contour-bits e) (all-coded edition-1 l) (whole-bytes e)
+
+pub contours-joined : (l : List Entry) → joined (map coded-contour l) ≡ coded-contours l
+unfolding joined
+contours-joined [] = sym none-coded
+contours-joined (e ∷ l) = ap (λ (f : List ℕ). coded-contour e ++ f) (contours-joined l) ∙ sym (coded-next e l)
+
+contours-length : (l : List Entry) → Even (contours-of l) → length (coded-contours l) ≡ 2 * length l + 8 * total (map count (contours-of l))
+contours-length [] h = ap length none-coded
+contours-length (e ∷ l) h =
+    ap length (coded-next e l) ∙ length-append (coded-contour e) (coded-contours l)
+    ∙ omega (arith, h .0, padded-length (2 + 4 * length (e .points)) (contour-bits e) [] (whole-bytes e), contours-length l (h .1))
+
+pub coded-length : (l : List Entry) → Even (contours-of l) → length (coded l) ≡ file-length (length l) (total (map count (contours-of l)))
+coded-length l h =
+    length-append (spelled 2 (4096 + length l)) (coded-contours l) ∙ omega (arith, spelled-length 2 (4096 + length l), contours-length l h)
+
+pub file-is-coded : (l : List Entry) → length l ≤ most-contours → file l ≡ coded l
+unfolding file
+file-is-coded l h = two-fields 4 12 1 (length l) (all-coded edition-1 l) refl (omega arith)
 
 -- contours of which the first begins a shape or not, and the others do not
 abbrev pub marked : Bool → List (List ℤ) → List Entry
@@ -50,7 +134,11 @@ others-follow [] = refl
 others-follow (c ∷ l) = refl
 
 coded-append : (a b : List Entry) → coded-contours (a ++ b) ≡ coded-contours a ++ coded-contours b
-coded-append a b = ap joined (map-append coded-contour a b) ∙ joined-append (map coded-contour a) (map coded-contour b)
+coded-append [] b = ap (λ (f : List ℕ). f ++ coded-contours b) (sym none-coded)
+coded-append (e ∷ a) b =
+    coded-next e (a ++ b) ∙ ap (λ (f : List ℕ). coded-contour e ++ f) (coded-append a b)
+    ∙ sym (append-assoc (coded-contour e) (coded-contours a) (coded-contours b))
+    ∙ ap (λ (f : List ℕ). f ++ coded-contours b) (sym (coded-next e a))
 
 -- a shape's contours from number k to number n, of which the first is number `from`: the next of them, or none
 module _ (p : List ℤ) (cs : List (List ℕ)) (from k n : ℕ) where
@@ -70,12 +158,12 @@ module _ (p : List ℤ) (cs : List (List ℕ)) (from k n : ℕ) where
       record {
         is =
             rw (next-between h g, e, b)
-            (ap (λ (l : List Entry). coded-contour (entry (eqb k from) (contour p (span (getD cs k [])))) ++ coded-contours l) (others-follow (between p cs (k + 1) n)));
+            (coded-next (entry (eqb k from) (contour p (span (getD cs k [])))) (map (entry false) (between p cs (k + 1) n))
+            ∙ ap (λ (l : List Entry). coded-contour (entry (eqb k from) (contour p (span (getD cs k [])))) ++ coded-contours l) (others-follow (between p cs (k + 1) n)));
       }
 
   pub no-contour : n ≤ k → coded-contours (marked (eqb k from) (between p cs k n)) ≡ []
-  unfolding joined
-  no-contour h = let z : n - k ≡ 0 = omega arith in rw z
+  no-contour h = let z : n - k ≡ 0 = omega arith in rw z none-coded
 
 pub first-contour : (p : List ℤ) (cs : List (List ℕ)) (from n : ℕ) → coded-contours (marked (eqb from from) (between p cs from n)) ≡ coded-shape p cs from n
 first-contour p cs from n = rw (eq-eqb from from refl) (ap coded-contours (first-begins (between p cs from n)))
@@ -93,4 +181,4 @@ module _ (p : List ℤ) (cs ss : List (List ℕ)) (i : ℕ) where
 
   pub no-shape : length ss ≤ i → coded-shapes p cs (drop i ss) ≡ []
   unfolding joined
-  no-shape h = rw (drop-of-length-le ss {i = i} h)
+  no-shape h = rw (drop-of-length-le ss {i = i} h) padded-none

@@ -11,7 +11,7 @@ use Rattle.rows.specs.Rows.{front, placed}
 use Rattle.buffer.specs.Spans.{row, rows, laid}
 use Rattle.buffer.specs.Sets.{joined}
 use Rattle.rows.proofs.RowLaws.{placed-front}
-use Rattle.setfile.specs.Format.{Entry, contours-of}
+use Rattle.setfile.specs.Entries.{Entry, contours-of}
 use Rattle.setfile.specs.inside.Bytes.{decoded, held, front-entry}
 use Rattle.setfile.specs.inside.Reading.{contained, Readable}
 use Rattle.buffer.proofs.SetLaws.{laid-length}

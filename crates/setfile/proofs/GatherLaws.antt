@@ -7,7 +7,7 @@ use native.Mathlib.Omega.{arith}
 use lib.ListN.{length}
 use lib.IntN.{ℤ}
 use Rattle.buffer.specs.Sets.{joined}
-use Rattle.setfile.specs.Format.{Entry, entry, contours-of, shape-entries, entries, Gathered, gather, gathered, shapes-of}
+use Rattle.setfile.specs.Entries.{Entry, entry, contours-of, shape-entries, entries, Gathered, gather, gathered, shapes-of}
 use Rattle.setfile.specs.Promises.{Filled, Started}
 
 loose-first : (cs : List (List ℤ)) (l : List Entry)

@@ -1,8 +1,8 @@
 -- What is judged of a file, contour by contour.
 use mathlib.Core.Path.{_≡_, refl, sym, _∙_, ap, ap₂, subst}
 use mathlib.Core.Bool.{Bool, true, false, not, _&&_, and-assoc, and-true}
-use mathlib.Core.List.{List, _∷_}
-use Prim.Native.Nat.{ℕ, zero, suc, _+_, _*_, _%_, _-_, _≤_, _<_}
+use mathlib.Core.List.{List, [], _∷_, _++_}
+use Prim.Native.Nat.{ℕ, zero, suc, _+_, _*_, _-_, _≤_, _<_}
 use native.Mathlib.Omega.{arith}
 use native.Mathlib.Nat.{zero-add}
 use lib.Dec.{eqb, ltb, eqb·suc-zero}
@@ -10,7 +10,7 @@ use lib.ListN.{length, drop, length-append, length-drop}
 use lib.Seq.{drop-drop}
 use lib.IntN.{ℤ}
 use mir.Val.{boolByte}
-use borrow.Author.Tests.{ltb-true, ltb-false, lt-ltb, le-ltb, eq-eqb, ne-eqb}
+use borrow.Author.Tests.{ltb-true, ltb-false, lt-ltb, le-ltb}
 use Rattle.grid.specs.Limits.{narrow, all-on-grid}
 use Rattle.grid.proofs.LimitLaws.{on-joined}
 use Rattle.replies.specs.Ladder.{first-of}
@@ -20,13 +20,16 @@ use Rattle.replies.proofs.LadderLaws.First.{here, past, foot}
 use Rattle.buffer.specs.Sets.{joined}
 use Rattle.setfile.specs.declared.inner.judging.Met.{Met}
 use Rattle.setfile.specs.declared.inner.judging.Judged.{Judged}
-use Rattle.setfile.specs.Bits.{digit}
-use Rattle.setfile.specs.Format.{Entry, entry, contours-of, shapes-of, gathered, Parsed, read-contours}
-use Rattle.setfile.specs.Format.Parsed.{carries, damaged}
-use Rattle.setfile.specs.inside.Bytes.{pair, decoded, starts, held, fault, walk, head-faults, head-fault, walked, and-then}
+use Rattle.bits.specs.Bits.{digit, bits}
+use Rattle.setfile.specs.Entries.{Entry, entry, contours-of, shapes-of, gathered, Parsed, and-then, read-contours}
+use Rattle.setfile.specs.Entries.Parsed.{carries, damaged}
+use Rattle.setfile.specs.Layouts.{promised}
+use Rattle.setfile.specs.Format.{edition-1, bad-head, head-damage, parsed}
+use Rattle.setfile.specs.inside.Bytes.{decoded, starts, held, fault, walk}
 use Rattle.setfile.specs.inside.Reading.{none-met, met-more, Within, judged, on-or-refused, summed, head-refusals, contained, refusals-of, Readable, Judgement}
-use Rattle.setfile.proofs.BitLaws.{byte-digit, digit-below}
-use Rattle.setfile.proofs.ReadLaws.{decoded-length, walk-more, Numbered, walk-numbered, Long, walk-long}
+use Rattle.bits.proofs.BitLaws.{byte-digit, digit-below}
+use Rattle.setfile.proofs.LayoutLaws.{Numbered, contours-long}
+use Rattle.setfile.proofs.ReadLaws.{decoded-length, walk-more, walk-all, walk-left, parsed-faulty, parsed-behind, parsed-numbered}
 
 same-judged : {a b c d k l m n : ℕ} → a ≡ k → b ≡ l → c ≡ m → d ≡ n → judged a b c d ≡ judged k l m n
 same-judged e f g h = cc
@@ -81,58 +84,44 @@ met-is f m h b on e g k =
 -- behind the last contour
 module _ (f : List ℕ) (m : Met) (n : ℕ) where
   pub left-over : m .at ≤ length f → (m .at ≡ length f → ⊥) → judged 10 0 0 0 ≡ summed m n (walk 0 false (drop (m .at) f))
-  unfolding walk
-  left-over h z =
-      let e : eqb (length (drop (m .at) f)) 0 ≡ false = ne-eqb (length (drop (m .at) f)) 0 (λ (k : length (drop (m .at) f) ≡ 0). z (omega (arith, length-drop (m .at) f))) in
-      rw (e, walk)
+  left-over h z = sym (ap (summed m n) (walk-left (drop (m .at) f) (left h z)))
+    where
+      left : m .at ≤ length f → (m .at ≡ length f → ⊥) → 0 < length (drop (m .at) f)
+      left h z = go (length (drop (m .at) f)) refl
+        where
+          go : (k : ℕ) → length (drop (m .at) f) ≡ k → 0 < k
+          go zero e = absurd (z (omega (arith, length-drop (m .at) f)))
+          go (suc k) e = omega arith
 
   pub all-met : m .at ≡ length f → (r : ℕ) → r ≡ on-or-refused (m .on) → judged r (m .numbers) n (m .shapes) ≡ summed m n (walk 0 false (drop (m .at) f))
-  unfolding walk joined all-on-grid gathered
+  unfolding joined all-on-grid gathered
   all-met h r k =
-      let e : eqb (length (drop (m .at) f)) 0 ≡ true = eq-eqb (length (drop (m .at) f)) 0 (omega (arith, length-drop (m .at) f)) in
-      rw (e, walk) (same-judged (k ∙ ap on-or-refused (sym (and-true (m .on)))) (omega arith) (omega arith) (omega arith))
+      rw (walk-all (drop (m .at) f) (omega (arith, length-drop (m .at) f))) (same-judged (k ∙ ap on-or-refused (sym (and-true (m .on)))) (omega arith) (omega arith) (omega arith))
 
 -- a file, by what is wrong with its head
 module _ (f : List ℕ) where
-  walked-faulty : (r : ℕ) → r ≡ head-fault f → (r ≡ 0 → ⊥) → walked f ≡ damaged r
-  unfolding walked
-  walked-faulty zero e z = absurd (z refl)
-  walked-faulty (suc r) e z = rw (sym e, walked)
-
-  walked-behind : 0 ≡ head-fault f → walked f ≡ walk (pair f % 4096) true (drop 2 f)
-  unfolding walked
-  walked-behind e = rw (sym e, walked)
-
-  walked-numbered : Numbered (walked f)
-  unfolding walked
-  walked-numbered = go (head-fault f)
-    where
-      go : (r : ℕ) → Numbered (elim r [ suc r ↦ damaged (suc r) | zero ↦ walk (pair f % 4096) true (drop 2 f) ])
-      go zero = walk-numbered (pair f % 4096) true (drop 2 f)
-      go (suc r) = tt
-
   -- a file that can be read
-  readable : (l : List Entry) → walked f ≡ carries l → Readable f (length l)
-  readable l e = go (head-fault f) refl
+  readable : (l : List Entry) → parsed f ≡ carries l → Readable f (length l)
+  readable l e = go (head-damage f) refl
     where
-      go : (r : ℕ) → r ≡ head-fault f → Readable f (length l)
+      go : (r : ℕ) → r ≡ head-damage f → Readable f (length l)
       go (suc r) h =
-          let d : damaged (suc r) ≡ carries l = sym (walked-faulty (suc r) h (λ z. omega arith)) ∙ e in
+          let d : damaged (suc r) ≡ carries l = sym (parsed-faulty f (suc r) h (λ z. omega arith)) ∙ e in
           let z : _≡_ {A = ℕ} 0 1 = cc in
           absurd (omega arith)
       go zero h =
           let c = clear _ tt (sym h) in
-          let w : walk (pair f % 4096) true (drop 2 f) ≡ carries l = sym (walked-behind h) ∙ e in
-          let n : length l ≡ pair f % 4096 = subst (Long (pair f % 4096)) w (walk-long (pair f % 4096) true (drop 2 f)) in
+          let w : walk (promised f) true (drop 2 f) ≡ carries l = sym (parsed-behind f h) ∙ e in
+          let n : length l ≡ promised f = contours-long edition-1 (promised f) true 0 (bits (drop 2 f)) l w in
           record {
             head = ltb-false _ _ (c .0);
             reads = ap (λ (k : ℕ). walk k true (drop 2 f)) n ∙ w ∙ ap carries (sym (ap read-contours e));
           }
 
-  judgement : length f ≤ 65536 → (r : Judged) → r ≡ summed none-met 0 (walked f) → Judgement f r
-  judgement few r e = go (walked f) refl walked-numbered
+  judgement : length f ≤ 65536 → (r : Judged) → r ≡ summed none-met 0 (parsed f) → Judgement f r
+  judgement few r e = go (parsed f) refl (parsed-numbered f)
     where
-      go : (w : Parsed) → walked f ≡ w → Numbered w → Judgement f r
+      go : (w : Parsed) → parsed f ≡ w → Numbered w → Judgement f r
       go (damaged zero) h n = absurd n
       go (damaged (suc k)) h n =
           let j : r ≡ judged (suc k) 0 0 0 = e ∙ ap (summed none-met 0) h in
@@ -170,16 +159,16 @@ module _ (f : List ℕ) where
   unfolding first-of
   judged-head k e z r j = go (ltb 65536 (length f)) refl e
     where
-      go : (b : Bool) → ltb 65536 (length f) ≡ b → k ≡ first-of ((b, 2) ∷ head-faults f) → Judgement f r
+      go : (b : Bool) → ltb 65536 (length f) ≡ b → k ≡ first-of ((b, 2) ∷ bad-head f) → Judgement f r
       go true h e = over (ltb-true _ _ h) r (j ∙ ap (λ (n : ℕ). judged n 0 0 0) e)
-      go false h e = judgement (ltb-false _ _ h) r (j ∙ ap (summed none-met 0) (sym (walked-faulty k e z)))
+      go false h e = judgement (ltb-false _ _ h) r (j ∙ ap (summed none-met 0) (sym (parsed-faulty f k e z)))
 
   -- one whose head is right
   module _ (e : first-of (head-refusals f) ≡ 0) where
     right : Clear (head-refusals f)
     right = clear (head-refusals f) tt e
 
-    pub judged-contours : (r : Judged) → r ≡ summed none-met 0 (walk (pair f % 4096) true (drop 2 f)) → Judgement f r
+    pub judged-contours : (r : Judged) → r ≡ summed none-met 0 (walk (promised f) true (drop 2 f)) → Judgement f r
     judged-contours r j =
-        let k : 0 ≡ head-fault f = first-is _ _ (past (right .1 .0) (past (right .1 .1 .0) foot)) in
-        judgement (ltb-false _ _ (right .0)) r (j ∙ ap (summed none-met 0) (sym (walked-behind k)))
+        let k : 0 ≡ head-damage f = first-is _ _ (past (right .1 .0) (past (right .1 .1 .0) foot)) in
+        judgement (ltb-false _ _ (right .0)) r (j ∙ ap (summed none-met 0) (sym (parsed-behind f k)))

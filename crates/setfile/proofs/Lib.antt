@@ -1,5 +1,8 @@
-pub mod BitLaws
-pub mod ArrivedLaws
+pub mod LayoutLaws
+pub mod EditionLaws
+pub mod StepLaws
+pub mod Edition2Laws
+pub mod EditionsLaws
 pub mod ByteLaws
 pub mod RoundTrip
 pub mod GatherLaws
@@ -20,4 +23,5 @@ pub mod RefusedLaws
 pub mod OutcomeLaws
 pub mod Cases
 pub mod WriteCases
+pub mod Edition2Cases
 pub mod Theorems

@@ -10,7 +10,6 @@ use lib.IntN.{ℤ}
 use borrow.Author.Tests.{leb-true}
 use Rattle.integers.proofs.Logic.{and-left, and-right}
 use Rattle.replies.specs.Ladder.{first-of, so-far, room}
-use Rattle.grid.specs.Domain.{count}
 use Rattle.rows.specs.Rows.{front}
 use Rattle.replies.proofs.LadderLaws.{first-is, clear-of}
 use Rattle.replies.proofs.LadderLaws.First.{here, past}
@@ -18,16 +17,15 @@ use Rattle.buffer.specs.declared.answer.Packed.{Packed}
 use Rattle.buffer.specs.declared.ranges.Span.{Span}
 use Rattle.buffer.specs.Spans.{rows}
 use Rattle.buffer.specs.Sets.{joined, contour-spans, shape-spans}
-use Rattle.buffer.specs.Answers.{packed, leaving, enough, stored}
+use Rattle.buffer.specs.Answers.{packed, leaving, enough}
 use Rattle.buffer.proofs.AnswerLaws.{stored-refused, stored-done}
 use Rattle.setfile.specs.declared.inner.judging.Judged.{Judged}
-use Rattle.setfile.specs.Format.{contours-of, shapes-of, Parsed, damage, read-contours}
-use Rattle.setfile.specs.Reading.{put, outcome}
-use Rattle.setfile.specs.inside.Bytes.{Bytes, walked}
-use Rattle.setfile.specs.inside.Reading.{contained, refusals-of, refusals, Readable, Counts, Judgement}
+use Rattle.setfile.specs.Entries.{contours-of, shapes-of, damage}
+use Rattle.setfile.specs.Format.{parsed}
+use Rattle.setfile.specs.Reading.{refusals, outcome}
+use Rattle.setfile.specs.inside.Reading.{contained, Readable, Counts, Judgement}
 use Rattle.setfile.proofs.FillLaws.{contours-laid}
 use Rattle.setfile.proofs.ShapeFillLaws.{shapes-laid}
-use Rattle.setfile.proofs.ByteLaws.{parsed-by-bytes}
 
 -- only the number of the first refusal counts, and 5 below it
 roomed : (a c b : Bool) (d : ℕ) → first-of (so-far (first-of ((a, 2) ∷ so-far d ++ (c, 3) ∷ [])) ++ room b) ≡ first-of (((a, 2) ∷ so-far d ++ (c, 3) ∷ []) ++ room b)
@@ -60,7 +58,6 @@ pub record Accepted (f : List ℕ) (out : List ℤ) (cs ss : List (List ℕ)) (j
 
 -- a file that is judged, and r what is refused of it and of the room
 pub record Reading (f : List ℕ) (out : List ℤ) (cs ss : List (List ℕ)) (j : Judged) (r : ℕ) : Type 0 where
-  pub bytes : Bytes f
   pub judgement : Judgement f j
   pub with-room :
       r ≡ first-of (so-far (j .reply) ++ room (leb (j .numbers) (length out) && leb (j .contours) (length cs) && leb (j .shapes) (length ss)))
@@ -92,23 +89,16 @@ module _ {f : List ℕ} {out : List ℤ} {cs ss : List (List ℕ)} {j : Judged} 
       let c = file .judgement .counts z in
       same-fits (length out) (length cs) (length ss) (c .numbers) (c .contours ∙ sym contours-count) (c .shapes ∙ sym shapes-count)
 
-  -- as the file is read by its bytes
-  by-bytes : stored (refusals f) points contour-ranges shape-ranges out cs ss ≡ outcome f out cs ss
-  unfolding points contour-ranges shape-ranges
-  by-bytes =
-      ap
-      (λ (w : Parsed). put (refusals-of (length f) w) (read-contours w) out cs ss)
-      (sym (parsed-by-bytes f (file .bytes)))
-
   reply-is : r ≡ first-of (refusals f ++ room (enough points contour-ranges shape-ranges out cs ss))
   reply-is =
       let b : Bool = enough points contour-ranges shape-ranges out cs ss in
       file .with-room ∙ same-room (j .reply) fits b fits-is
       ∙ ap (λ (k : ℕ). first-of (so-far k ++ room b)) (file .judgement .reply)
-      ∙ roomed _ _ b (damage (walked f))
+      ∙ roomed _ _ b (damage (parsed f))
 
   pub read-refused : (w : Packed) → w ≡ packed r 0 0 0 → (r ≡ 0 → ⊥) → leaving w out cs ss ≡ outcome f out cs ss
-  read-refused w g n = stored-refused points contour-ranges shape-ranges out cs ss (refusals f) _ refl r reply-is w g n ∙ by-bytes
+  unfolding points contour-ranges shape-ranges
+  read-refused w g n = stored-refused points contour-ranges shape-ranges out cs ss (refusals f) _ refl r reply-is w g n
 
   module _ (z : r ≡ 0) where
     clear : (j .reply ≡ 0) × (fits ≡ true)
@@ -136,4 +126,4 @@ module _ {f : List ℕ} {out : List ℤ} {cs ss : List (List ℕ)} {j : Judged} 
     unfolding points contour-ranges shape-ranges
     read-done p c s a b d =
         rw (counts .numbers, counts .contours ∙ sym contours-count, counts .shapes ∙ sym shapes-count)
-        (stored-done points contour-ranges shape-ranges out cs ss (refusals f) _ refl r reply-is p c s z a b d ∙ by-bytes)
+        (stored-done points contour-ranges shape-ranges out cs ss (refusals f) _ refl r reply-is p c s z a b d)

@@ -1,18 +1,23 @@
 -- The rest of a file that can be read, contour by contour.
-use mathlib.Core.Path.{_≡_, refl, sym, _∙_, ap}
+use mathlib.Core.Path.{_≡_, sym, _∙_, ap, ap₂}
 use mathlib.Core.Bool.{Bool, true, false, not, _&&_}
 use mathlib.Core.List.{List, [], _∷_}
-use Prim.Native.Nat.{ℕ, zero, suc, _+_, _*_, _-_, _≤_, _<_}
+use Prim.Native.Nat.{ℕ, suc, _+_, _*_, _-_, _≤_, _<_}
 use native.Mathlib.Omega.{arith}
 use lib.Dec.{eqb}
 use lib.ListN.{length, drop}
-use borrow.Author.Tests.{eq-eqb, not-false}
+use lib.Seq.{drop-drop}
+use borrow.Author.Tests.{eq-eqb, ne-eqb, not-false}
 use Rattle.replies.proofs.LadderLaws.{clear}
-use Rattle.setfile.specs.Format.{Entry, Parsed}
-use Rattle.setfile.specs.Format.Parsed.{carries, damaged}
-use Rattle.setfile.specs.inside.Bytes.{starts, held, fault, walk, and-then, front-entry}
+use Rattle.bits.specs.Bits.{bits}
+use Rattle.setfile.specs.Entries.{Entry}
+use Rattle.setfile.specs.Entries.Parsed.{carries}
+use Rattle.setfile.specs.Format.{edition-1}
+use Rattle.setfile.specs.inside.Bytes.{starts, held, walk, front-entry}
 use Rattle.setfile.specs.inside.Reading.{contained, Readable}
-use Rattle.setfile.proofs.ReadLaws.{walk-faulty, walk-more, walk-ends, contour-within}
+use Rattle.setfile.proofs.LayoutLaws.{next-read, none-read}
+use Rattle.setfile.proofs.ByteLaws.{front-is}
+use Rattle.setfile.proofs.ReadLaws.{walk-behind, walk-ends, contour-within}
 
 -- from position at on, behind i of n contours, these are the rest
 pub record Rest (f : List ℕ) (n i at : ℕ) (l : List Entry) : Type 0 where
@@ -28,34 +33,24 @@ pub record Next (f : List ℕ) (n i at : ℕ) (l : List Entry) : Type 0 where
 
 module _ {f : List ℕ} {n i at : ℕ} {l : List Entry} (r : Rest f n i at l) where
   pub next : i < n → Next f n i at l
-  next h = go (fault (eqb i 0) here) refl
-    where
-      here : List ℕ
-      here = drop at f
-
-      behind : (w : Parsed) → w ≡ walk (n - (i + 1)) (eqb (i + 1) 0) (drop (at + (2 + 8 * held here)) f) → fault (eqb i 0) here ≡ 0 → and-then (front-entry here) w ≡ carries l → Next f n i at l
-      behind (damaged k) e z g = let o : _≡_ {A = ℕ} 0 1 = cc in absurd (omega arith)
-      behind (carries m) e z g = record {
-        rest = m;
-        is = cc;
-        due = record { within = contour-within f n i at (eqb i 0) (r .within) z; reads = sym e };
-        begun = λ o. not-false (starts here) (ap (λ (b : Bool). b && not (starts here)) (sym (eq-eqb i 0 o)) ∙ clear _ tt z .1 .0);
+  next h =
+      let here : List ℕ = drop at f in
+      let e : suc (n - (i + 1)) ≡ n - i = omega arith in
+      let x = next-read edition-1 (eqb i 0) 0 (bits here) l (n - (i + 1)) (ap (λ (k : ℕ). walk k (eqb i 0) here) e ∙ r .reads) in
+      record {
+        rest = x .others;
+        is = x .is ∙ ap (λ (e : Entry). e ∷ x .others) (front-is here);
+        due = record {
+          within = contour-within f n i at (eqb i 0) (r .within) (x .right);
+          reads =
+              ap₂ (walk (n - (i + 1))) (ne-eqb (i + 1) 0 (λ z. omega arith)) (sym (drop-drop (2 + 8 * held here) at f))
+              ∙ sym (walk-behind (n - (i + 1)) here _) ∙ x .there;
+        };
+        begun = λ o. not-false (starts here) (ap (λ (b : Bool). b && not (starts here)) (sym (eq-eqb i 0 o)) ∙ clear _ tt (x .right) .1 .0);
       }
 
-      go : (k : ℕ) → k ≡ fault (eqb i 0) here → Next f n i at l
-      go (suc k) e =
-          let g : damaged (suc k) ≡ carries l = sym (walk-faulty f n i at (eqb i 0) h (suc k) e (λ z. omega arith)) ∙ r .reads in
-          let o : _≡_ {A = ℕ} 0 1 = cc in
-          absurd (omega arith)
-      go zero e = behind _ refl (sym e) (sym (walk-more f n i at (eqb i 0) h (sym e)) ∙ r .reads)
-
   pub done : i ≡ n → l ≡ []
-  unfolding walk
-  done e = go (eqb (length (drop at f)) 0) (sym (walk-ends (n - i) (eqb i 0) (drop at f) (omega arith)) ∙ r .reads)
-    where
-      go : (b : Bool) → (elim b [ true ↦ carries [] | false ↦ damaged 10 ]) ≡ carries l → l ≡ []
-      go true g = cc
-      go false g = let o : _≡_ {A = ℕ} 0 1 = cc in absurd (omega arith)
+  done e = none-read edition-1 false 0 (bits (drop at f)) l (sym (walk-ends (n - i) (eqb i 0) (drop at f) (omega arith)) ∙ r .reads) .1
 
 pub rest-all : {f : List ℕ} {n : ℕ} → Readable f n → Rest f n 0 2 (contained f)
 rest-all {f} {n} r =

@@ -10,7 +10,7 @@ use Rattle.rows.specs.Rows.{front}
 use Rattle.buffer.specs.Spans.{row, rows, laid}
 use Rattle.buffer.specs.Sets.{shape-spans}
 use Rattle.setfile.specs.declared.inner.filling.Open.{Open}
-use Rattle.setfile.specs.Format.{Entry, entry, shapes-of, gathered}
+use Rattle.setfile.specs.Entries.{Entry, entry, shapes-of, gathered}
 use Rattle.setfile.specs.inside.Bytes.{decoded, starts, held}
 use Rattle.setfile.specs.inside.Reading.{contained, Readable, next-open, closed}
 use Rattle.setfile.proofs.RestLaws.{Rest, Next, next, done, rest-all}

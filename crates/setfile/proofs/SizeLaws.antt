@@ -1,5 +1,5 @@
 -- How much a file can carry.
-use mathlib.Core.Path.{_≡_, refl, ap}
+use mathlib.Core.Path.{_≡_, refl, sym, subst}
 use mathlib.Core.Bool.{Bool, true, false}
 use mathlib.Core.List.{List, [], _∷_, map}
 use Prim.Native.Nat.{ℕ, zero, suc, _+_, _-_, _*_, _≤_, _<_, _^_}
@@ -14,15 +14,15 @@ use Rattle.grid.specs.Domain.{count}
 use Rattle.buffer.specs.Spans.{total}
 use Rattle.buffer.specs.Sets.{joined, Even}
 use Rattle.buffer.proofs.Theorems.{points-total}
-use Rattle.setfile.specs.Bits.{bits}
-use Rattle.setfile.specs.Format.{Entry, contours-of, shapes-of, gather, gathered, points-in, coordinates, contour-in, is-complete, Come, come-next, complete, contours-damage, unless, contours-in, head-damage, promised, come, parsed, read-contours}
-use Rattle.setfile.proofs.BitLaws.{value-below, bits-length}
-use Rattle.setfile.specs.Format.Parsed.{damaged}
-
-coordinates-length : (k : ℕ) (l : List Bool) → length (coordinates k l) ≡ k
-unfolding coordinates
-coordinates-length zero l = refl
-coordinates-length (suc k) l = ap suc (coordinates-length k (drop 32 l))
+use Rattle.bits.specs.Bits.{bits}
+use Rattle.setfile.specs.Entries.{Entry, contours-of, shapes-of, gather, gathered, Parsed, read-contours}
+use Rattle.setfile.specs.Layouts.{promised}
+use Rattle.setfile.specs.Format.{points-in, contour-size, contour-in, is-complete, Come, come-next, complete, come, parsed}
+use Rattle.bits.proofs.BitLaws.{value-below, bits-length}
+use Rattle.setfile.specs.Entries.Parsed.{carries, damaged}
+use Rattle.bits.specs.Signs.{numbers}
+use Rattle.bits.proofs.SignLaws.{numbers-length}
+use Rattle.setfile.proofs.RoundTrip.{read-whole}
 
 -- what has come of k contours, each with an even count of numbers, in n bits
 pub record Sized (n k : ℕ) (c : Come) : Type 0 where
@@ -36,16 +36,16 @@ complete-sized zero l = record { number = refl; room = omega arith; even = tt }
 complete-sized (suc k) l = go (is-complete l) refl (complete-sized k rest)
   where
     rest : List Bool
-    rest = drop (16 + 64 * points-in l) l
+    rest = drop (contour-size l) l
 
     go : (t : Bool) → is-complete l ≡ t → Sized (length rest) k (complete k rest) → Sized (length l) (suc k) (come-next t (contour-in l) k (complete k rest))
     go true t s =
-        let c : List ℤ = coordinates (2 * points-in l) (drop 16 l) in
-        let n : length c ≡ 2 * points-in l = coordinates-length (2 * points-in l) (drop 16 l) in
-        let h : 16 + 64 * points-in l ≤ length l = leb-true (16 + 64 * points-in l) (length l) (and-right (leb 16 (length l)) _ t) in
+        let c : List ℤ = numbers 32 (2 * points-in l) (drop 16 l) in
+        let n : length c ≡ 2 * points-in l = numbers-length 32 (2 * points-in l) (drop 16 l) in
+        let h : contour-size l ≤ length l = leb-true (contour-size l) (length l) (and-right (leb 16 (length l)) _ t) in
         record {
           number = omega (arith, s .number);
-          room = omega (arith, s .room, length-drop (16 + 64 * points-in l) l, length-append c (joined (contours-of (complete k rest .contours))));
+          room = omega (arith, s .room, length-drop (contour-size l) l, length-append c (joined (contours-of (complete k rest .contours))));
           even = (omega arith, s .even);
         }
     go false t s = record { number = omega arith; room = omega arith; even = tt }
@@ -95,30 +95,20 @@ pub come-carried : (f : List ℕ) → length f ≤ 65536 → Carried (come f .co
 come-carried f h =
     sized-carried (length (drop 16 (bits f))) (promised f) (come f) (complete-sized (promised f) (drop 16 (bits f))) (promised-few f) (omega (arith, length-drop 16 (bits f), bits-length f))
 
-pub carried : (f : List ℕ) → length f ≤ 65536 → Carried (read-contours (parsed f))
-unfolding parsed joined gathered
-carried f h = go (head-damage f)
+-- the contours that are read are those that have come, or none
+read-come : (P : List Entry → Type 0) (f : List ℕ) → P [] → P (come f .contours) → P (read-contours (parsed f))
+read-come P f none all = go (parsed f) refl
   where
-    none : Carried []
-    none = record { contours-few = omega arith; numbers-few = omega arith; shapes-few = omega arith; even = tt }
+    go : (w : Parsed) → parsed f ≡ w → P (read-contours w)
+    go (carries l) e = subst P (sym (read-whole f l e .is)) all
+    go (damaged r) e = none
 
-    found : (r : ℕ) → Carried (read-contours (unless r (come f .contours)))
-    found zero = come-carried f h
-    found (suc r) = none
-
-    go : (r : ℕ) → Carried (read-contours (elim r [ suc r ↦ damaged (suc r) | zero ↦ contours-in (promised f) (drop 16 (bits f)) ]))
-    go (suc r) = none
-    go zero = found (contours-damage (promised f) (drop 16 (bits f)))
+pub carried : (f : List ℕ) → length f ≤ 65536 → Carried (read-contours (parsed f))
+unfolding joined gathered
+carried f h =
+    read-come Carried f (record { contours-few = omega arith; numbers-few = omega arith; shapes-few = omega arith; even = tt }) (come-carried f h)
 
 -- and no more than are promised
 pub carried-promised : (f : List ℕ) → length (read-contours (parsed f)) ≤ promised f
-unfolding parsed
-carried-promised f = go (head-damage f)
-  where
-    found : (r : ℕ) → length (read-contours (unless r (come f .contours))) ≤ promised f
-    found zero = omega (arith, complete-sized (promised f) (drop 16 (bits f)) .number)
-    found (suc r) = omega arith
-
-    go : (r : ℕ) → length (read-contours (elim r [ suc r ↦ damaged (suc r) | zero ↦ contours-in (promised f) (drop 16 (bits f)) ])) ≤ promised f
-    go (suc r) = omega arith
-    go zero = found (contours-damage (promised f) (drop 16 (bits f)))
+carried-promised f =
+    read-come (λ (l : List Entry). length l ≤ promised f) f (omega arith) (omega (arith, complete-sized (promised f) (drop 16 (bits f)) .number))

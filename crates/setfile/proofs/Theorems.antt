@@ -1,6 +1,6 @@
 -- What a user may count on: a set that goes through a file comes back the same, and so does a file that goes through a set.
 use mathlib.Core.Path.{_≡_, refl, sym, _∙_, ap, ap₂}
-use mathlib.Core.Bool.{Bool, true, false, not, true≢false}
+use mathlib.Core.Bool.{Bool, true, false, not}
 use mathlib.Core.List.{List, [], _∷_, _++_, map}
 use mathlib.Core.Logic.{_↔_}
 use Prim.Native.Nat.{ℕ, zero, suc, _+_, _*_, _%_, _<_, _≤_}
@@ -22,13 +22,14 @@ use Rattle.buffer.specs.Sets.{joined, shapes, contour-spans, shape-spans, Even}
 use Rattle.buffer.specs.Answers.{Outcome, written-points, written-contours, written-shapes, enough, outcome, stored}
 use Rattle.buffer.proofs.WrittenLaws.{spans-rows}
 use Rattle.buffer.proofs.Theorems.{packing-then-unpacking-gives-back-every-shape, points-total, the-counts-add-up, what-is-packed-is-sound, packed-shapes-are-sound}
-use Rattle.setfile.specs.Format.{Entry, contours-of, entries, shapes-of, file-length, file, parsed, damage, read-contours}
-use Rattle.setfile.specs.Format.Parsed.{carries}
-use Rattle.setfile.specs.inside.Bytes.{Bytes}
+use Rattle.setfile.specs.Entries.{Entry, contours-of, entries, shapes-of, damage, read-contours}
+use Rattle.setfile.specs.Format.{file-length, file, parsed}
+use Rattle.setfile.specs.Entries.Parsed.{carries}
+use Rattle.bits.specs.Bits.{Bytes}
 use Rattle.setfile.specs.Reading as R
 use Rattle.setfile.specs.Writing as W
 use Rattle.setfile.specs.Promises.{Carried, Carriable, file-of, written-file, points-of, contour-ranges, shape-ranges}
-use Rattle.setfile.proofs.ByteLaws.{coded-length, file-by-bytes}
+use Rattle.setfile.proofs.CodedLaws.{coded-length, file-is-coded}
 use Rattle.setfile.proofs.RoundTrip.{read-back, written-back, read-carried, undamaged}
 use Rattle.setfile.proofs.GatherLaws.{entries-gathered, shapes-filled, contours-entries}
 use Rattle.buffer.proofs.SetLaws.{laid-length}
@@ -71,7 +72,7 @@ module _ (p : List ℤ) (cs ss : List (List ℕ)) (ok : first-of (W.refusals p c
 
   pub the-file-of-a-set-is-as-long-as-its-counts-say : length (file-of p cs ss) ≡ file-length (length cs) (count p)
   the-file-of-a-set-is-as-long-as-its-counts-say =
-      ap length (file-by-bytes carried (is-carried .small)) ∙ coded-length carried (is-carried .small .even)
+      ap length (file-is-coded carried (is-carried .small .few)) ∙ coded-length carried (is-carried .small .even)
       ∙ ap₂ file-length (carried-count p cs ss fit) (carried-total p cs ss fit)
 
   sound-file : Clear (R.refusals (file-of p cs ss))
@@ -142,7 +143,7 @@ module _ (f : List ℕ) (h : Bytes f) (ok : first-of (R.refusals f) ≡ 0) where
   what-is-read-can-be-carried =
       let even : Even (contours-of found) = held .small .even in
       let n : length f ≡ file-length (length found) (total (map count (contours-of found))) =
-      ap length (sym (written-back f h found whole) ∙ file-by-bytes found (held .small)) ∙ coded-length found even in
+      ap length (sym (written-back f h found whole) ∙ file-is-coded found (held .small .few)) ∙ coded-length found even in
       let l : length f ≤ R.most-bytes = ltb-false R.most-bytes (length f) (right .0) in
       let c = the-counts-add-up (contours-of found) even in
       record {

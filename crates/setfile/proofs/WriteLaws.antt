@@ -1,11 +1,14 @@
 -- Bytes that are written part by part, each behind the one before it.
 use mathlib.Core.Path.{_≡_, refl, sym, _∙_, ap}
 use mathlib.Core.List.{List, [], _∷_, _++_}
-use Prim.Native.Nat.{ℕ, suc, _+_}
+use Prim.Native.Nat.{ℕ, suc, _+_, _/_, _%_}
 use native.Mathlib.Omega.{arith}
 use lib.ListN.{length, set, length-append}
 use lib.Seq.{sets-eq}
 use Rattle.rows.specs.Rows.{placed}
+use Rattle.bits.specs.inside.Words.{spelled}
+use Rattle.bits.proofs.WordLaws.{spelled-length}
+use Rattle.bits.proofs.PenLaws.{four-stored as stored}
 use Rattle.rows.proofs.PlacedLaws.{placed-none, placed-long, placed-behind}
 use Rattle.setfile.specs.inside.Writing.{Put, Room}
 
@@ -59,16 +62,19 @@ both-put {at} {b} {c} {d} {e} {row} {mid} {exit} h p q = record {
   behind = omega (arith, p .behind, q .behind, length-append d e);
 }
 
--- bytes that are stored one by one
-pub two-stored : (row : List ℕ) (at x y : ℕ) → Room at (x ∷ y ∷ []) row → Put at (x ∷ y ∷ []) row (at + 2) (set (set row at x) (at + 1) y)
-two-stored row at x y h =
+-- a number that is stored byte by byte
+pub two-stored : (row : List ℕ) (at n : ℕ) → Room at (spelled 2 n) row → Put at (spelled 2 n) row (at + 2) (set (set row at (n / 256 % 256)) (at + 1) (n % 256))
+unfolding spelled
+two-stored row at n h =
     let a : at + 1 ≡ suc at = omega arith in
-    record { is = rw a (sets-eq (x ∷ y ∷ []) row at h); behind = refl }
+    let z : n ≡ n / 1 = omega arith in
+    record {
+      is = rw a (ap (λ (m : ℕ). set (set row at (n / 256 % 256)) (suc at) (m % 256)) z ∙ sets-eq (n / 256 % 256 ∷ n / 1 % 256 ∷ []) row at h);
+      behind = refl;
+    }
 
-pub four-stored : (row : List ℕ) (at x y u v : ℕ) → Room at (x ∷ y ∷ u ∷ v ∷ []) row
-    → Put at (x ∷ y ∷ u ∷ v ∷ []) row (at + 4) (set (set (set (set row at x) (at + 1) y) (at + 2) u) (at + 3) v)
-four-stored row at x y u v h =
-    let a : at + 1 ≡ suc at = omega arith in
-    let b : at + 2 ≡ suc (suc at) = omega arith in
-    let d : at + 3 ≡ suc (suc (suc at)) = omega arith in
-    record { is = rw (a, b, d) (sets-eq (x ∷ y ∷ u ∷ v ∷ []) row at h); behind = refl }
+pub four-stored : (row : List ℕ) (at n : ℕ) → Room at (spelled 4 n) row
+    → Put at (spelled 4 n) row (at + 4) (set (set (set (set row at (n / 16777216 % 256)) (at + 1) (n / 65536 % 256)) (at + 2) (n / 256 % 256)) (at + 3) (n % 256))
+four-stored row at n h =
+    let l : length (spelled 4 n) ≡ 4 = spelled-length 4 n in
+    record { is = stored row at n (omega arith); behind = omega arith }

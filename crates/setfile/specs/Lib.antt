@@ -1,6 +1,10 @@
-pub mod Bits
+pub mod Entries
+pub mod Layouts
 pub mod Format
+pub mod Steps
+pub mod Edition2
 pub mod Reading
 pub mod Writing
+pub mod Editions
 pub mod Promises
 pub mod inside

@@ -12,7 +12,8 @@ use Rattle.grid.specs.Domain.{count}
 use Rattle.buffer.specs.declared.ranges.Span.{Span}
 use Rattle.buffer.specs.Spans.{spans, rows, sound, size}
 use Rattle.buffer.specs.Sets.{joined, shapes, contour-spans, shape-spans, Even}
-use Rattle.setfile.specs.Format.{Entry, contours-of, entries, shapes-of, file-length, file, parsed, read-contours}
+use Rattle.setfile.specs.Entries.{Entry, contours-of, entries, shapes-of, read-contours}
+use Rattle.setfile.specs.Format.{file-length, file, parsed}
 use Rattle.setfile.specs.Reading.{most-bytes}
 use Rattle.setfile.specs.Writing.{most-contours, most-points, Outcome}
 

@@ -9,7 +9,8 @@ use Rattle.grid.specs.Domain.{off}
 use Rattle.buffer.specs.Sets.{joined, contour-spans, shape-spans}
 use Rattle.buffer.specs.Answers.{Outcome, stored}
 use lib.IntN.{ℤ}
-use Rattle.setfile.specs.Format.{Entry, contours-of, shapes-of, parsed, damage, read-contours}
+use Rattle.setfile.specs.Entries.{Entry, contours-of, shapes-of, damage, read-contours}
+use Rattle.setfile.specs.Format.{parsed}
 
 -- the most bytes of a file
 abbrev pub most-bytes : ℕ

@@ -14,7 +14,8 @@ use Rattle.buffer.specs.Spans.{spans, sound, size as span-size}
 use Rattle.buffer.specs.Sets.{shapes}
 use Rattle.buffer.specs.Refusals.{unsound}
 use Rattle.setfile.specs.declared.answer.Written.{Written}
-use Rattle.setfile.specs.Format.{entries, file, file-length}
+use Rattle.setfile.specs.Entries.{entries}
+use Rattle.setfile.specs.Format.{file, file-length}
 use Rattle.setfile.specs.Reading.{long}
 
 -- the most contours of a file

@@ -10,7 +10,7 @@ use Rattle.grid.specs.Domain.{count, Contour}
 use Rattle.clean.specs.declared.cleaning.Cleaned.{Cleaned}
 use Rattle.rows.specs.Rows.{placed}
 use Rattle.buffer.specs.Sets.{joined}
-use Rattle.setfile.specs.Format.{contours-of}
+use Rattle.setfile.specs.Entries.{contours-of}
 use Rattle.setfile.specs.Reading.{most-bytes}
 use Rattle.setfile.specs.inside.Reading.{contained, Readable}
 use Rattle.report.specs.Text.{decimal, dash, space, line-end}

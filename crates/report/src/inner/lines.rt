@@ -1,7 +1,7 @@
 // The lines of all contours.
 ghost use Prim.Native.Nat.{_+_, _≤_};
 ghost use lib.ListN.{length};
-ghost use Rattle.setfile.specs.Format.{contours-of};
+ghost use Rattle.setfile.specs.Entries.{contours-of};
 ghost use Rattle.setfile.specs.inside.Reading.{contained};
 ghost use Rattle.report.specs.Listing.{lines as lines-of};
 ghost use Rattle.report.specs.inside.Lines.{Put, Listable, Roomy};

@@ -2,7 +2,7 @@
 ghost use mathlib.Core.List.{_++_};
 ghost use Prim.Native.Nat.{_≤_};
 ghost use lib.ListN.{length};
-ghost use Rattle.setfile.specs.Format.{contours-of};
+ghost use Rattle.setfile.specs.Entries.{contours-of};
 ghost use Rattle.setfile.specs.inside.Reading.{contained};
 ghost use Rattle.report.specs.Text.{heading};
 ghost use Rattle.report.specs.Listing.{lines as lines-of};

@@ -1,8 +1,11 @@
 -- `salvage::mend` meets its contract: refused, or the sifted contours under their head.
 use borrow.Author.Needs.{needs}
-use Prim.Native.Nat.{ℕ, _%_}
+use Prim.Native.Nat.{ℕ}
 use mathlib.Core.Path.{_≡_, refl, sym, _∙_}
-use Rattle.setfile.specs.inside.Bytes.{Bytes, pair}
+use native.Mathlib.Omega.{arith}
+use Rattle.bits.specs.Bits.{Bytes}
+use Rattle.setfile.specs.Layouts.{promised}
+use Rattle.setfile.proofs.SizeLaws.{promised-few}
 use Rattle.salvage.proofs.MendLaws.{Accepted, mend-refused, roomy, missing-few, dropped-few, head-room, mend-done}
 use Rattle.salvage.proofs.mend.Statement.{statement}
 use Rattle.salvage.proofs.mend.Tie as tie
@@ -19,8 +22,8 @@ refused-requires-2 c κs = search needs
 -- nothing is refused, whatever number of contours n the head promises
 free : (c : tie.Else1) →
     let s = c .before .before .before .before .args in
-    (n : ℕ) → n ≡ pair (s .bytes .now) % 4096 → Accepted (s .bytes .now) (s .out .now) (s .dropped .now) n
-free c n e = record { bytes = bytes-of (c .before .before .before); free = sym (c .before .refused .ensures) ∙ c .if1 .left; promised = e }
+    (n : ℕ) → n ≡ promised (s .bytes .now) → Accepted (s .bytes .now) (s .out .now) (s .dropped .now) n
+free c n e = record { bytes = bytes-of (c .before .before .before); free = sym (c .before .refused .ensures) ∙ c .if1 .left; count = e }
 
 accepted : (c : tie.After-promised) →
     let s = c .before .before .before .before .before .args in
@@ -31,7 +34,7 @@ returns : tie.Need-returns
 returns c =
     let judged = c .before .before in
     let s = judged .before .before .before .args in
-    mend-refused (s .bytes .now) (bytes-of (judged .before .before)) (s .out .now) (s .dropped .now) _
+    mend-refused (s .bytes .now) (s .out .now) (s .dropped .now) _
     (judged .refused .ensures) (c .before .if1 .taken) (c .refused2 .ensures)
 
 promised-requires : tie.Need-promised-requires
@@ -51,7 +54,9 @@ sub-kept-2 c =
     dropped-few (accepted (sifted .before .before .before)) (sifted .contours .ensures)
 
 add-put-pair : tie.Need-add-put-pair
-add-put-pair c = search needs
+add-put-pair c =
+    let promise = c .before .before .before .before .before .before .before .before in
+    omega (arith, promise .promised .ensures, promised-few (promise .before .before .before .before .before .args .bytes .now))
 
 put-pair-requires : tie.Need-put-pair-requires
 put-pair-requires c κs =

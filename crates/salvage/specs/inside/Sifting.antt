@@ -2,21 +2,22 @@
 use mathlib.Core.Path.{_≡_}
 use mathlib.Core.Bool.{true, false, not, _&&_}
 use mathlib.Core.List.{List, [], _∷_, _++_}
-use Prim.Native.Nat.{ℕ, zero, suc, _+_, _*_, _%_, _≤_, _<_}
+use Prim.Native.Nat.{ℕ, zero, suc, _+_, _*_, _≤_, _<_}
 use lib.Dec.{leb}
 use lib.ListN.{length, take, drop, set}
 use Rattle.replies.specs.Ladder.{Rung, room}
 use Rattle.rows.specs.Rows.{placed}
+use Rattle.setfile.specs.Layouts.{promised}
 use Rattle.setfile.specs.Format.{Come}
-use Rattle.setfile.specs.inside.Bytes.{pair, starts, held, front-entry, arrived, coded-contours}
+use Rattle.setfile.specs.inside.Bytes.{starts, held, front-entry, arrived, coded-contours}
 use Rattle.setfile.specs.inside.Reading.{head-refusals}
 use Rattle.salvage.specs.declared.inner.sifting.Sifted.{Sifted}
 use Rattle.salvage.specs.Fates.{reason, fates, kept, dropped}
 use Rattle.salvage.specs.Outcome.{Outcome, leaving, salvaged}
 
--- the refusals of a file, by bytes, where the rows have so many entries
+-- the refusals of a file, where the rows have so many entries
 abbrev pub refusals : List ℕ → ℕ → ℕ → List Rung
-refusals f out list = head-refusals f ++ room (leb (length f) out && leb (pair f % 4096) list)
+refusals f out list = head-refusals f ++ room (leb (length f) out && leb (promised f) list)
 
 -- how many bytes the contour in front has
 abbrev pub size : List ℕ → ℕ

@@ -11,11 +11,12 @@ use Rattle.buffer.specs.Sets.{joined}
 use Rattle.setfile.specs.declared.inner.judging.Met.{Met}
 use Rattle.setfile.specs.declared.inner.judging.Judged.{Judged}
 use Rattle.setfile.specs.declared.inner.filling.Open.{Open}
-use Rattle.setfile.specs.Bits.{digit}
-use Rattle.setfile.specs.Format.{Entry, contours-of, shapes-of, Parsed, damage, read-contours}
-use Rattle.setfile.specs.Format.Parsed.{carries, damaged}
-use Rattle.setfile.specs.Reading.{long}
-use Rattle.setfile.specs.inside.Bytes.{decoded, starts, held, walk, head-faults, walked}
+use Rattle.bits.specs.Bits.{digit}
+use Rattle.setfile.specs.Entries.{Entry, contours-of, shapes-of, Parsed, damage, read-contours}
+use Rattle.setfile.specs.Format.{bad-head, parsed}
+use Rattle.setfile.specs.Entries.Parsed.{carries, damaged}
+use Rattle.setfile.specs.Reading.{long, refusals}
+use Rattle.setfile.specs.inside.Bytes.{decoded, starts, held, walk}
 
 -- before the first contour
 abbrev pub none-met : Met
@@ -53,19 +54,15 @@ summed m n (carries l) =
 
 -- the refusals of a file's length and head
 abbrev pub head-refusals : List ℕ → List Rung
-head-refusals f = long (length f) ++ head-faults f
+head-refusals f = long (length f) ++ bad-head f
 
--- the contours of a file, by bytes
+-- the contours of a file
 abbrev pub contained : List ℕ → List Entry
-contained f = read-contours (walked f)
+contained f = read-contours (parsed f)
 
 -- the refusals of a file of n bytes that is read so
 abbrev pub refusals-of : ℕ → Parsed → List Rung
 refusals-of n w = long n ++ so-far (damage w) ++ off narrow (joined (contours-of (read-contours w)))
-
--- the refusals of a file, by bytes
-abbrev pub refusals : List ℕ → List Rung
-refusals f = refusals-of (length f) (walked f)
 
 -- a file with n contours behind its head that can be read
 pub record Readable (f : List ℕ) (n : ℕ) : Type 0 where

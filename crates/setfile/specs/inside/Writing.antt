@@ -4,11 +4,13 @@ use mathlib.Core.List.{List, []}
 use Prim.Native.Nat.{ℕ, _+_, _≤_, _<_}
 use lib.ListN.{length, getD}
 use lib.IntN.{ℤ}
+use Rattle.grid.specs.Domain.{count}
 use Rattle.buffer.specs.Spans.{span, spans}
-use Rattle.buffer.specs.Sets.{cut, contours, shapes}
+use Rattle.buffer.specs.Sets.{cut, contour, contours, shapes}
 use Rattle.buffer.specs.inside.Ranges.{Names}
 use Rattle.rows.specs.Rows.{placed}
-use Rattle.setfile.specs.Format.{shape-entries, entries}
+use Rattle.setfile.specs.Entries.{shape-entries, entries}
+use Rattle.setfile.specs.Writing.{most-points}
 use Rattle.setfile.specs.inside.Bytes.{coded-contours}
 
 -- bytes were written to a row from a position on, and the position behind them is answered
@@ -32,9 +34,9 @@ coded-shape p cs from to = coded-contours (shape-entries (between p cs from to))
 abbrev pub coded-shapes : List ℤ → List (List ℕ) → List (List ℕ) → List ℕ
 coded-shapes p cs ss = coded-contours (entries (shapes p (spans cs) (spans ss)))
 
--- the ranges before a number name parts of the points
+-- the ranges before a number name parts of the points, none of more than a file can count
 abbrev pub Named : List ℤ → List (List ℕ) → ℕ → Type 0
-Named p cs n = (k : ℕ) → k < n → Names p cs k
+Named p cs n = (k : ℕ) → k < n → Names p cs k × (count (contour p (span (getD cs k []))) ≤ most-points)
 
 -- every shape ends within the contours
 abbrev pub Grouped : List (List ℕ) → ℕ → Type 0

@@ -2,11 +2,11 @@
 ghost use mathlib.Core.Path.{_≡_};
 ghost use mathlib.Core.Bool.{true};
 ghost use Prim.Native.Nat.{_+_, _*_, _%_, _<_, _≤_};
-ghost use lib.ListN.{length, drop};
-ghost use mir.Syntax.{w32};
-ghost use mir.Val.{toZ};
+ghost use lib.ListN.{length, take, drop};
+ghost use Rattle.bits.specs.Bits.{value, bits};
+ghost use Rattle.bits.specs.Signs.{signed};
 ghost use Rattle.grid.specs.Limits.{narrow, all-on-grid};
-ghost use Rattle.setfile.specs.inside.Bytes.{pair as pair-of, word as word-of, swapped as swapped-of, quad, decoded, starts as starts-of, held as held-of};
+ghost use Rattle.setfile.specs.inside.Bytes.{pair as pair-of, low-first, swapped as swapped-of, decoded, starts as starts-of, held as held-of};
 use grid::NARROW;
 use grid::inner::bounds;
 
@@ -21,7 +21,7 @@ pub fn pair(bytes: &[u8], at: usize) -> u32
 // The four bytes from `at` on as a number, the least significant first: LLVM makes one load of it.
 fn word(bytes: &[u8], at: usize) -> u32
     requires { ⌜ at + 3 < length (now bytes) ⌝ }
-    ensures { λ r. ⌜ r ≡ word-of (drop at (now (bytes .entry))) ⌝ }
+    ensures { λ r. ⌜ r ≡ low-first (drop at (now (bytes .entry))) ⌝ }
 {
     bytes[at] as u32
         + bytes[at + 1] as u32 * 256
@@ -39,7 +39,7 @@ fn swapped(n: u32) -> u32
 // The coordinate in the four bytes from `at` on.
 pub fn coordinate(bytes: &[u8], at: usize) -> i32
     requires { ⌜ at + 3 < length (now bytes) ⌝ }
-    ensures { λ r. ⌜ r ≡ toZ w32 (quad (drop at (now (bytes .entry)))) ⌝ }
+    ensures { λ r. ⌜ r ≡ signed 32 (value (take 32 (bits (drop at (now (bytes .entry)))))) ⌝ }
 {
     integers::signed_32(swapped(word(bytes, at)))
 }

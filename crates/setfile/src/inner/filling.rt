@@ -5,7 +5,7 @@ ghost use lib.ListN.{length, drop};
 ghost use Rattle.rows.specs.Rows.{front, placed};
 ghost use Rattle.buffer.specs.Spans.{rows};
 ghost use Rattle.buffer.specs.Sets.{joined, contour-spans, shape-spans};
-ghost use Rattle.setfile.specs.Format.{contours-of, shapes-of};
+ghost use Rattle.setfile.specs.Entries.{contours-of, shapes-of};
 ghost use Rattle.setfile.specs.inside.Bytes.{decoded};
 ghost use Rattle.setfile.specs.inside.Reading.{contained, Readable, next-open, closed};
 use crate::inner::fields;

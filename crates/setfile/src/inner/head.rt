@@ -1,9 +1,9 @@
 // The head of a file: its edition, and how many contours it promises.
 ghost use mathlib.Core.Path.{_≡_};
-ghost use Prim.Native.Nat.{_%_, _≤_};
+ghost use Prim.Native.Nat.{_≤_};
 ghost use lib.ListN.{length};
 ghost use Rattle.replies.specs.Ladder.{first-of};
-ghost use Rattle.setfile.specs.inside.Bytes.{pair};
+ghost use Rattle.setfile.specs.Layouts.{promised as promised-of};
 ghost use Rattle.setfile.specs.inside.Reading.{head-refusals};
 use crate::MOST_BYTES;
 use crate::inner::fields;
@@ -27,7 +27,7 @@ pub fn refused(bytes: &[u8]) -> u32
 // How many contours a file promises.
 pub fn promised(bytes: &[u8]) -> usize
     requires { ⌜ 2 ≤ length (now bytes) ⌝ }
-    ensures { λ r. ⌜ r ≡ pair (now (bytes .entry)) % 4096 ⌝ }
+    ensures { λ r. ⌜ r ≡ promised-of (now (bytes .entry)) ⌝ }
 {
     (fields::pair(bytes, 0) % 4096) as usize
 }

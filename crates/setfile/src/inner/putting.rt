@@ -1,13 +1,17 @@
 // Numbers, contours and shapes, written into the row of bytes; each function answers the position behind what it wrote.
+ghost use Prim.Native.Nat.{_≤_};
 ghost use lib.ListN.{length};
-ghost use Rattle.setfile.specs.Format.{entry};
-ghost use Rattle.setfile.specs.inside.Bytes.{two, four, coded-coordinates, coded-contour};
+ghost use Rattle.bits.specs.inside.Words.{spelled};
+ghost use Rattle.grid.specs.Domain.{count};
+ghost use Rattle.setfile.specs.Entries.{entry};
+ghost use Rattle.setfile.specs.Writing.{most-points};
+ghost use Rattle.setfile.specs.inside.Bytes.{coded-coordinates, coded-contour};
 ghost use Rattle.setfile.specs.inside.Writing.{Put, Room, Named, Grouped, coded-shape, coded-shapes};
 
 // A number in two bytes.
 pub fn put_pair(n: usize, bytes: &mut [u8], at: usize) -> usize
-    requires { ⌜ Room at (two n) (now bytes) ⌝ }
-    ensures { λ r. ⌜ Put at (two n) (now (bytes .entry)) r (now (bytes .exit)) ⌝ }
+    requires { ⌜ Room at (spelled 2 n) (now bytes) ⌝ }
+    ensures { λ r. ⌜ Put at (spelled 2 n) (now (bytes .entry)) r (now (bytes .exit)) ⌝ }
 {
     bytes[at] = (n / 256 % 256) as u8;
     bytes[at + 1] = (n % 256) as u8;
@@ -16,8 +20,8 @@ pub fn put_pair(n: usize, bytes: &mut [u8], at: usize) -> usize
 
 // A number in four bytes.
 fn put_quad(n: u32, bytes: &mut [u8], at: usize) -> usize
-    requires { ⌜ Room at (four n) (now bytes) ⌝ }
-    ensures { λ r. ⌜ Put at (four n) (now (bytes .entry)) r (now (bytes .exit)) ⌝ }
+    requires { ⌜ Room at (spelled 4 n) (now bytes) ⌝ }
+    ensures { λ r. ⌜ Put at (spelled 4 n) (now (bytes .entry)) r (now (bytes .exit)) ⌝ }
 {
     bytes[at] = (n / 16_777_216 % 256) as u8;
     bytes[at + 1] = (n / 65_536 % 256) as u8;
@@ -44,7 +48,10 @@ fn put_coordinates(contour: &[i32], bytes: &mut [u8], at: usize) -> usize
 
 // A contour, which begins a shape or not.
 fn put_contour(begins: bool, contour: &[i32], bytes: &mut [u8], at: usize) -> usize
-    requires { ⌜ Room at (coded-contour (entry begins (now contour))) (now bytes) ⌝ }
+    requires { ⌜
+        (count (now contour) ≤ most-points)
+        × Room at (coded-contour (entry begins (now contour))) (now bytes)
+        ⌝ }
     ensures { λ r. ⌜
         Put at (coded-contour (entry begins (now (contour .entry)))) (now (bytes .entry)) r
         (now (bytes .exit))

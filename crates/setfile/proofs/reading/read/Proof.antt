@@ -1,12 +1,8 @@
 -- `setfile::reading::read` meets its contract.
 use borrow.Author.Needs.{needs}
-use Rattle.setfile.specs.inside.Bytes.{Bytes}
 use Rattle.setfile.proofs.ReadingLaws.{Reading, Accepted, accepted, read-refused, read-done}
 use Rattle.setfile.proofs.reading.read.Statement.{statement}
 use Rattle.setfile.proofs.reading.read.Tie as tie
-
-bytes-of : (c : tie.After-shared-slice-known) → Bytes (c .before .args .bytes .now)
-bytes-of c = λ i h. c .shared-slice-known .given i .fits
 
 -- the file is judged, and the room for its set
 judged : (c : tie.After-or-room) →
@@ -15,7 +11,7 @@ judged : (c : tie.After-or-room) →
     Reading (s .bytes .now) (s .out .now) (s .records .now) (s .groups .now) (judging .judge .result) (c .or-room .result)
 judged c =
     let judging = c .before .before .before .before in
-    record { bytes = bytes-of (judging .before); judgement = judging .judge .ensures; with-room = c .or-room .ensures }
+    record { judgement = judging .judge .ensures; with-room = c .or-room .ensures }
 
 -- nothing is refused
 not-refused : (c : tie.Else1) →

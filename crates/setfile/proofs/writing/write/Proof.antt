@@ -1,7 +1,7 @@
 -- `setfile::writing::write` meets its contract: refused, no room, or the file in front of the row.
 use mathlib.Core.Path.{_≡_, sym, _∙_}
 use borrow.Author.Needs.{needs}
-use Rattle.setfile.proofs.OutcomeLaws.{Writable, all-named, all-grouped, accepted-set, shapes-room, write-refused, write-full, write-done}
+use Rattle.setfile.proofs.OutcomeLaws.{Writable, all-named, all-grouped, accepted-set, head-room, shapes-room, write-refused, write-full, write-done}
 use Rattle.replies.specs.Ladder.{first-of}
 use Rattle.setfile.specs.Writing.{refusals}
 use Rattle.setfile.proofs.writing.write.Statement.{statement}
@@ -42,7 +42,7 @@ add-put-pair : tie.Need-add-put-pair
 add-put-pair c = search needs
 
 put-pair-requires : tie.Need-put-pair-requires
-put-pair-requires c κs = search needs
+put-pair-requires c κs = head-room (roomy (c .before))
 
 put-shapes-requires : tie.Need-put-shapes-requires
 put-shapes-requires c κs =

@@ -1,14 +1,10 @@
 -- `report::inner::listing::list` meets its contract: how the file was judged says which listing it has.
 use borrow.Author.Needs.{needs}
 use native.Mathlib.Omega.{arith}
-use Rattle.setfile.specs.inside.Bytes.{Bytes}
 use Rattle.report.proofs.PutLaws.{put-front}
 use Rattle.report.proofs.ReportLaws.{judged-refused, judged-listed, judged-listable}
 use Rattle.report.proofs.inner.listing.list.Statement.{statement}
 use Rattle.report.proofs.inner.listing.list.Tie as tie
-
-bytes-of : (c : tie.After-shared-slice-known) → Bytes (c .before .args .bytes .now)
-bytes-of c = λ i h. c .shared-slice-known .given i .fits
 
 judge-requires : tie.Need-judge-requires
 judge-requires c κs = search needs
@@ -24,7 +20,7 @@ put-line-requires c κs =
     let then = c .before .before .before in
     let file = then .before .before in
     let start = file .before .before .before in
-    omega (arith, rw (judged-refused (start .args .bytes .now) (bytes-of (file .before .before)) (file .judge .result) (file .judge .ensures) (then .if1 .taken)) at (start .pre))
+    omega (arith, rw (judged-refused (start .args .bytes .now) (file .judge .result) (file .judge .ensures) (then .if1 .taken)) at (start .pre))
 
 same-length : tie.Need-same-length
 same-length c = search needs
@@ -35,17 +31,16 @@ returns c =
     let then = call .before .before .before .before in
     let file = then .before .before in
     let start = file .before .before .before in
-    rw (judged-refused (start .args .bytes .now) (bytes-of (file .before .before)) (file .judge .result) (file .judge .ensures) (then .if1 .taken)) (put-front (call .put-line .ensures))
+    rw (judged-refused (start .args .bytes .now) (file .judge .result) (file .judge .ensures) (then .if1 .taken)) (put-front (call .put-line .ensures))
 
 put-requires : tie.Need-put-requires
 put-requires c κs =
     let else = c .before in
     let file = else .before .before in
     let start = file .before .before .before in
-    let f = start .args .bytes .now in
-    let b = bytes-of (file .before .before) in (
-      judged-listable f b (file .judge .result) (file .judge .ensures) (else .if1 .left),
-      rw (judged-listed f b (file .judge .result) (file .judge .ensures) (else .if1 .left)) at (start .pre),
+    let f = start .args .bytes .now in (
+      judged-listable f (file .judge .result) (file .judge .ensures) (else .if1 .left),
+      rw (judged-listed f (file .judge .result) (file .judge .ensures) (else .if1 .left)) at (start .pre),
     )
 
 same-length-2 : tie.Need-same-length-2
@@ -57,7 +52,7 @@ returns-2 c =
     let else = call .before .before in
     let file = else .before .before in
     let start = file .before .before .before in
-    rw (judged-listed (start .args .bytes .now) (bytes-of (file .before .before)) (file .judge .result) (file .judge .ensures) (else .if1 .left)) (put-front (call .put .ensures))
+    rw (judged-listed (start .args .bytes .now) (file .judge .result) (file .judge .ensures) (else .if1 .left)) (put-front (call .put .ensures))
 
 pub list-spec : {M : Type 1} → statement M
 list-spec =

@@ -1,17 +1,16 @@
 -- `report::inner::listing::longest` meets its contract: by what the head of the file promises.
-use borrow.Author.Needs.{needs}
 use native.Mathlib.Omega.{arith}
 use Prim.Native.Nat.{_+_, _*_, _≤_}
 use lib.ListN.{length}
 use Rattle.setfile.proofs.SizeLaws.{promised-fewer}
 use Rattle.report.specs.Listing.{listing}
-use Rattle.report.proofs.ReportLaws.{listing-promised, listing-by-bytes}
+use Rattle.report.proofs.ReportLaws.{listing-promised, listing-by-count}
 use Rattle.report.proofs.inner.listing.longest.Statement.{statement}
 use Rattle.report.proofs.inner.listing.longest.Tie as tie
 
 -- the promise bounds the listing, and is itself bounded
 bounded : (c : tie.After-promised) → (length (listing (c .before .before .before .args .bytes .now)) ≤ 37 + 45 * c .promised .result) × (c .promised .result ≤ 4095)
-bounded c = let known = c .before .before in listing-by-bytes (known .before .args .bytes .now) (λ i h. known .shared-slice-known .given i .fits) (c .before .if1 .left) (c .promised .result) (c .promised .ensures)
+bounded c = listing-by-count (c .before .before .before .args .bytes .now) (c .promised .result) (c .promised .ensures)
 
 returns : tie.Need-returns
 returns c =

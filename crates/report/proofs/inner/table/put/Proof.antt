@@ -2,7 +2,7 @@
 use mathlib.Core.List.{[], _∷_, _++_}
 use native.Mathlib.Omega.{arith}
 use borrow.Author.Needs.{needs}
-use Rattle.setfile.specs.Format.{contours-of}
+use Rattle.setfile.specs.Entries.{contours-of}
 use Rattle.setfile.specs.inside.Reading.{contained}
 use Rattle.report.specs.Text.{heading}
 use Rattle.report.specs.Listing.{lines}

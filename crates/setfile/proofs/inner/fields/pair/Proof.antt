@@ -1,7 +1,7 @@
 -- `setfile::inner::fields::pair` meets its contract: two bytes make a number below 65,536.
 use borrow.Author.Needs.{needs}
 use native.Mathlib.Omega.{arith}
-use Prim.Native.Nat.{_+_}
+use Prim.Native.Nat.{ℕ, _+_}
 use Rattle.setfile.proofs.FieldLaws.{pair-at}
 use Rattle.setfile.proofs.inner.fields.pair.Statement.{statement}
 use Rattle.setfile.proofs.inner.fields.pair.Tie as tie
@@ -30,7 +30,9 @@ add-result-2 c =
     omega (arith, c .shared-slice-known2 .given at, c .shared-slice-known2 .given (at + 1))
 
 returns : tie.Need-returns
-returns c = let s = c .before .before .args in pair-at (s .bytes .now) (s .at)
+returns c =
+    let s = c .before .before in
+    pair-at (s .args .bytes .now) (s .args .at) (λ (i : ℕ). c .shared-slice-known2 .given i .fits) (s .pre)
 
 pub pair-spec : {M : Type 1} → statement M
 pair-spec =

@@ -6,11 +6,12 @@ use mathlib.Core.List.{List, [], _∷_}
 use Prim.Native.Nat.{ℕ, _+_, _*_, _-_, _%_, _^_, _≤_, _<_}
 use native.Mathlib.Omega.{arith}
 use lib.Bits.{bitOr, or-mod, or-add-and, and-le-l, and-le-r}
-use lib.ListN.{drop}
+use lib.ListN.{length, drop, length-drop}
 use lib.IntN.{ℤ}
+use Rattle.bits.proofs.WordLaws.{byte-drop}
 use Rattle.grid.specs.Limits.{narrow, on-grid, all-on-grid}
-use Rattle.setfile.specs.inside.Bytes.{word, decoded}
-use Rattle.setfile.proofs.FieldLaws.{bytes-at, first-byte-on-grid}
+use Rattle.setfile.specs.inside.Bytes.{low-first, decoded}
+use Rattle.setfile.proofs.FieldLaws.{first-byte-on-grid}
 use Rattle.setfile.proofs.ReadLaws.{decoded-more, decoded-none}
 use Rattle.setfile.proofs.inner.fields.raised_bits.Statement.{statement}
 use Rattle.setfile.proofs.inner.fields.raised_bits.Tie as tie
@@ -68,16 +69,17 @@ loop-again c =
     let i = l .loop .i in
     let any = l .loop .any in
     let more = c .wrapping-add-u32 .result in
-    let is : more ≡ (word (drop (s .at + 4 * i) f) + 32) % 2 ^ 32 =
+    let is : more ≡ (low-first (drop (s .at + 4 * i) f) + 32) % 2 ^ 32 =
     c .wrapping-add-u32 .ensures ∙ ap (λ (n : ℕ). (n + 32) % 2 ^ 32) (c .before .word .ensures) in
-    let bytes = bytes-at f (s .at + 4 * i) (λ (j : ℕ). known .shared-slice-known .given j .fits) in (
+    let small-bytes = byte-drop (s .at + 4 * i) f (λ (j : ℕ). known .shared-slice-known .given j .fits) in
+    let four : 4 ≤ length (drop (s .at + 4 * i) f) = omega (arith, length-drop (s .at + 4 * i) f) in (
       omega arith,
       λ h.
           let both : bitOr any more % 2 ^ 8 ≡ bitOr (any % 2 ^ 8) (more % 2 ^ 8) = or-mod any more 8 in
           let small : any % 256 < 64 = omega (arith, h, both, or-add-and (any % 2 ^ 8) (more % 2 ^ 8), and-le-r (any % 2 ^ 8) (more % 2 ^ 8)) in
           let low : more % 2 ^ 8 < 64 = omega (arith, h, both, or-add-and (any % 2 ^ 8) (more % 2 ^ 8), and-le-l (any % 2 ^ 8) (more % 2 ^ 8)) in
           l .loop .inv .1 small ∙ ap (all-on-grid narrow) (decoded-more f (s .at) (s .k) i (test .loop-test .taken))
-          ∙ first-on _ (decoded (s .k - (i + 1)) (drop (s .at + 4 * (i + 1)) f)) (first-byte-on-grid bytes (rw is at low)),
+          ∙ first-on _ (decoded (s .k - (i + 1)) (drop (s .at + 4 * (i + 1)) f)) (first-byte-on-grid (drop (s .at + 4 * i) f) small-bytes four (rw is at low)),
     )
 
 returns : tie.Need-returns Inv-loop μ-loop

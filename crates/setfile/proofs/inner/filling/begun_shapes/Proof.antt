@@ -6,7 +6,7 @@ use lib.ListN.{length, drop, length-set}
 use Rattle.rows.specs.Rows.{front}
 use Rattle.buffer.specs.Spans.{rows}
 use Rattle.buffer.specs.Sets.{shape-spans}
-use Rattle.setfile.specs.Format.{shapes-of}
+use Rattle.setfile.specs.Entries.{shapes-of}
 use Rattle.setfile.specs.inside.Bytes.{held}
 use Rattle.setfile.specs.inside.Reading.{contained}
 use Rattle.setfile.proofs.RestLaws.{first-in}

@@ -6,7 +6,7 @@ use lib.ListN.{length, drop}
 use Rattle.rows.specs.Rows.{front}
 use Rattle.buffer.specs.Spans.{rows, laid}
 use Rattle.buffer.specs.Sets.{contour-spans}
-use Rattle.setfile.specs.Format.{contours-of}
+use Rattle.setfile.specs.Entries.{contours-of}
 use Rattle.setfile.specs.inside.Bytes.{held}
 use Rattle.setfile.specs.inside.Reading.{contained}
 use Rattle.setfile.proofs.FillLaws.{Filling, filling-all, filling-done, contours-made, contours-made-length, contour-in, contours-room, contours-more}

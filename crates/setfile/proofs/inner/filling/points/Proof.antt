@@ -5,7 +5,7 @@ use native.Mathlib.Omega.{arith}
 use lib.ListN.{length, drop}
 use Rattle.rows.specs.Rows.{front}
 use Rattle.buffer.specs.Sets.{joined}
-use Rattle.setfile.specs.Format.{contours-of}
+use Rattle.setfile.specs.Entries.{contours-of}
 use Rattle.setfile.specs.inside.Bytes.{held}
 use Rattle.setfile.specs.inside.Reading.{contained}
 use Rattle.setfile.proofs.FillLaws.{Filling, filling-all, filling-done, points-made, contour-in, points-room, points-more}

@@ -1,5 +1,9 @@
 -- `setfile::inner::judging::contour_fault` meets its contract.
 use borrow.Author.Needs.{needs}
+use Prim.Native.Nat.{_≤_}
+use native.Mathlib.Omega.{arith}
+use lib.ListN.{drop, length-drop}
+use Rattle.setfile.proofs.ByteLaws.{held-few}
 use Rattle.setfile.proofs.FaultLaws.{no-header, no-shape, no-points, no-fault}
 use Rattle.setfile.proofs.inner.judging.contour_fault.Statement.{statement}
 use Rattle.setfile.proofs.inner.judging.contour_fault.Tie as tie
@@ -23,11 +27,17 @@ returns-2 c =
 held-requires : tie.Need-held-requires
 held-requires c κs = search needs
 
+few : (c : tie.After-held) → c .held .result ≤ 32767
+few c =
+    let headed = c .before .before .before in
+    let s = headed .before .before .args in
+    omega (arith, c .held .ensures, held-few (drop (s .at) (s .bytes .now)) (omega (arith, length-drop (s .at) (s .bytes .now), headed .if1 .left)))
+
 mul-if3 : tie.Need-mul-if3
-mul-if3 c = search needs
+mul-if3 c = omega (arith, few c)
 
 add-if3 : tie.Need-add-if3
-add-if3 c = search needs
+add-if3 c = omega (arith, few c)
 
 returns-3 : tie.Need-returns-3
 returns-3 c =

@@ -7,7 +7,7 @@ use native.Mathlib.Omega.{arith}
 use lib.Dec.{eqb}
 use lib.ListN.{length, drop}
 use Rattle.setfile.specs.declared.inner.judging.Met.{Met}
-use Rattle.setfile.specs.Format.{Parsed}
+use Rattle.setfile.specs.Entries.{Parsed}
 use Rattle.setfile.specs.inside.Bytes.{walk, fault, held}
 use Rattle.setfile.specs.inside.Reading.{none-met, Within, summed}
 use Rattle.setfile.proofs.ReadLaws.{walk-faulty, walk-ends, contour-within}

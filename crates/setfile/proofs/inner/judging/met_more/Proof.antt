@@ -1,7 +1,7 @@
 -- `setfile::inner::judging::met_more` meets its contract.
 use borrow.Author.Needs.{needs}
 use native.Mathlib.Omega.{arith}
-use Rattle.setfile.proofs.BitLaws.{byte-below}
+use Rattle.bits.proofs.BitLaws.{byte-below}
 use Rattle.setfile.proofs.JudgeLaws.{met-is}
 use Rattle.setfile.proofs.inner.judging.met_more.Statement.{statement}
 use Rattle.setfile.proofs.inner.judging.met_more.Tie as tie

@@ -2,8 +2,9 @@
 use borrow.Author.Needs.{needs}
 use native.Mathlib.Omega.{arith}
 use mir.Facts.{fits-of-lt}
-use Rattle.setfile.proofs.WriteLaws.{both-put}
-use Rattle.setfile.proofs.BitLaws.{byte-digit, byte-below}
+use Rattle.setfile.specs.Entries.{entry}
+use Rattle.setfile.proofs.CodedLaws.{header-room, coordinates-room, contour-put}
+use Rattle.bits.proofs.BitLaws.{byte-digit, byte-below}
 use Rattle.setfile.proofs.inner.putting.put_contour.Statement.{statement}
 use Rattle.setfile.proofs.inner.putting.put_contour.Tie as tie
 
@@ -17,10 +18,15 @@ add-head : tie.Need-add-head
 add-head c = fits-of-lt (omega (arith, byte-below (c .before .args .begins)))
 
 put-pair-requires : tie.Need-put-pair-requires
-put-pair-requires c κs = search needs
+put-pair-requires c κs =
+    let s = c .before .before in
+    rw (byte-digit (s .args .begins)) (header-room (entry (s .args .begins) (s .args .contour .now)) (s .args .at) (s .args .bytes .now) (s .pre .0) (s .pre .1))
 
 put-coordinates-requires : tie.Need-put-coordinates-requires
-put-coordinates-requires c κs = search needs
+put-coordinates-requires c κs =
+    let headed = c .before .before .before in
+    let s = headed .before .before .before in
+    coordinates-room (entry (s .args .begins) (s .args .contour .now)) (s .args .at) (s .args .bytes .now) (s .pre .0) (s .pre .1) (rw (byte-digit (s .args .begins)) at (headed .put-pair .ensures))
 
 same-length : tie.Need-same-length
 same-length c = search needs
@@ -30,8 +36,7 @@ returns c =
     let put = c .before .before in
     let headed = put .before .before .before .before in
     let s = headed .before .before .before in
-    let e = byte-digit (s .args .begins) in
-    both-put (s .pre) (rw e at (headed .put-pair .ensures)) (put .put-coordinates .ensures)
+    contour-put (entry (s .args .begins) (s .args .contour .now)) (s .args .at) (s .args .bytes .now) (s .pre .0) (s .pre .1) (rw (byte-digit (s .args .begins)) at (headed .put-pair .ensures)) (put .put-coordinates .ensures)
 
 pub put-contour-spec : {M : Type 1} → statement M
 put-contour-spec =

@@ -1,6 +1,7 @@
 -- `setfile::inner::putting::put_pair` meets its contract.
 use native.Mathlib.Omega.{arith}
 use lib.ListN.{length-set}
+use Rattle.bits.proofs.WordLaws.{spelled-length}
 use Rattle.setfile.proofs.WriteLaws.{two-stored}
 use borrow.Author.Needs.{needs}
 use Rattle.setfile.proofs.inner.putting.put_pair.Statement.{statement}
@@ -10,25 +11,25 @@ cast-bytes : tie.Need-cast-bytes
 cast-bytes c = search needs
 
 slice-write-bytes : tie.Need-slice-write-bytes
-slice-write-bytes c = search needs
+slice-write-bytes c = omega (arith, c .pre, spelled-length 2 (c .args .n))
 
 cast-bytes-2 : tie.Need-cast-bytes-2
 cast-bytes-2 c = search needs
 
 add-bytes : tie.Need-add-bytes
-add-bytes c = search needs
+add-bytes c = omega (arith, c .pre, spelled-length 2 (c .args .n))
 
 slice-write-bytes-2 : tie.Need-slice-write-bytes-2
-slice-write-bytes-2 c = simp length-set (omega arith)
+slice-write-bytes-2 c = simp length-set (omega (arith, c .pre, spelled-length 2 (c .args .n)))
 
 add-result : tie.Need-add-result
-add-result c = search needs
+add-result c = omega (arith, c .pre, spelled-length 2 (c .args .n))
 
 same-length : tie.Need-same-length
 same-length c = search needs
 
 returns : tie.Need-returns
-returns c = two-stored _ _ _ _ (c .pre)
+returns c = two-stored _ _ _ (c .pre)
 
 pub put-pair-spec : {M : Type 1} → statement M
 put-pair-spec =

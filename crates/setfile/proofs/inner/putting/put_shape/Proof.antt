@@ -25,7 +25,7 @@ loop-holds c =
     (rw (first-contour (s .points .now) (s .ranges .now) (s .from) (s .to)) (none-written _ _ _ (c .before .pre .1)), omega arith)
 
 named-requires : tie.Need-named-requires Inv-loop μ-loop
-named-requires c κs = c .before .before .before .pre .0 _ (c .loop-test .taken)
+named-requires c κs = c .before .before .before .pre .0 _ (c .loop-test .taken) .0
 
 put-contour-requires : tie.Need-put-contour-requires Inv-loop μ-loop
 put-contour-requires c κs =
@@ -34,9 +34,12 @@ put-contour-requires c κs =
     let s = pass .before .before in
     let v = pass .loop .inv in
     let h = named .before .loop-test .taken in
-    part-room (v .0)
-    (next-contour (s .args .points .now) (s .args .ranges .now) (s .args .from) (pass .loop .k) (s .args .to) (v .1) h
-    (s .pre .0 _ h .there) _ (same-numbers (named .named .ensures)))
+    let part = same-numbers (named .named .ensures) in (
+      rw part (s .pre .0 _ h .1),
+      part-room (v .0)
+          (next-contour (s .args .points .now) (s .args .ranges .now) (s .args .from) (pass .loop .k) (s .args .to) (v .1) h
+          (s .pre .0 _ h .0 .there) _ part),
+    )
 
 add-k : tie.Need-add-k Inv-loop μ-loop
 add-k c = search needs
@@ -54,7 +57,7 @@ loop-again c =
     let h = named .before .loop-test .taken in (
       part-written (v .0)
           (next-contour (s .args .points .now) (s .args .ranges .now) (s .args .from) (pass .loop .k) (s .args .to) (v .1) h
-          (s .pre .0 _ h .there) _ (same-numbers (named .named .ensures)))
+          (s .pre .0 _ h .0 .there) _ (same-numbers (named .named .ensures)))
           (put .put-contour .ensures),
       omega (arith, v .1),
     )

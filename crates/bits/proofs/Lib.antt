@@ -1,0 +1,7 @@
+pub mod BitLaws
+pub mod WordLaws
+pub mod SignLaws
+pub mod WidthLaws
+pub mod CodeLaws
+pub mod PenLaws
+pub mod Cases

@@ -1,0 +1,4 @@
+pub mod Bits
+pub mod Signs
+pub mod Widths
+pub mod inside
