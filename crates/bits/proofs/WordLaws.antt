@@ -1,16 +1,16 @@
 -- Bytes gathered into a word, and a field cut out of it by two shifts.
-use mathlib.Core.Path.{_≡_, refl, sym, _∙_, ap, ap₂}
+use mathlib.Core.Path.{_≡_, refl, sym, _∙_, ap, ap₂, subst}
 use mathlib.Core.Bool.{Bool}
 use mathlib.Core.List.{List, [], _∷_, _++_}
 use Prim.Native.Nat.{ℕ, zero, suc, _+_, _-_, _*_, _/_, _%_, _^_, _<_, _≤_}
-use native.Mathlib.Nat.{mod-lt, mul-le-mul-right, add-zero, lt-of-lt-of-le}
+use native.Mathlib.Nat.{mod-lt, mul-le-mul-right, add-zero, lt-of-lt-of-le, div-add-mod', div-lt-iff-lt-mul, add-mul-mod-self-right}
 use native.Mathlib.Omega.{arith}
 use lib.ListN.{length, take, drop, getD, length-take, length-drop}
 use lib.Seq.{take-append-add, take-nil, take-add, take-take, drop-drop, drop-at, length-take-le, getD-drop}
 use lib.Bits.{bitOr, or-shifted}
-use lib.Pow.{pow-add, pow-mono, shl-exact, field as shifted-field, shr-shr, shl-shr}
+use lib.Pow.{pow-add, pow-pos, pow-mono, shl-exact, field as shifted-field, shr-shr, shl-shr}
 use Rattle.bits.specs.Bits.{value, field, Bytes, bits, padded}
-use Rattle.bits.specs.inside.Words.{word, spelled}
+use Rattle.bits.specs.inside.Words.{word, spelled, leading, Ahead}
 use Rattle.bits.proofs.BitLaws.{value-append, value-of, value-front, value-back, field-length, field-low, field-append, bits-length, bits-dropped, padded-bits}
 
 -- every element is a byte, and so is what is missing
@@ -138,6 +138,37 @@ number-is f i at w h a b e =
     let n : 8 * i + s ≡ at = omega arith in
     let there : drop s (bits (drop i f)) ≡ drop at (bits f) = ap (drop s) (sym (bits-dropped i f)) ∙ drop-drop s (8 * i) (bits f) ∙ ap (λ (k : ℕ). drop k (bits f)) n in
     number-in-front (drop i f) s w (byte-drop i f h) (omega arith) (omega (arith, length-drop i f)) ∙ ap (λ (k : List Bool). value (take w k)) there
+
+-- a shift after a shift
+shifted-again : (v s j : ℕ) → v * 2 ^ s % 2 ^ 64 * 2 ^ j % 2 ^ 64 ≡ v * 2 ^ (s + j) % 2 ^ 64
+shifted-again v s j =
+    let a : ℕ = v * 2 ^ s in
+    sym
+    (ap (λ (n : ℕ). v * n % 2 ^ 64) (pow-add 2 s j)
+    ∙ ap (λ (n : ℕ). n % 2 ^ 64) (whole v (2 ^ s) (2 ^ j) (a / 2 ^ 64) (2 ^ 64) (a % 2 ^ 64) (div-add-mod' a (2 ^ 64)))
+    ∙ add-mul-mod-self-right (a % 2 ^ 64 * 2 ^ j) (a / 2 ^ 64 * 2 ^ j) (2 ^ 64))
+  where
+    whole : (v b p q m r : ℕ) → q * m + r ≡ v * b → v * (b * p) ≡ r * p + q * p * m
+    whole v b p q m r e =
+        let n : (q * m + r) * p ≡ v * b * p = ap (λ (k : ℕ). k * p) e in
+        omega (arith, n)
+
+-- each field of the w bits from bit `at` on, within the eight bytes from i on
+pub ahead-is : (f : List ℕ) (i at w : ℕ) → EachByte f → 8 * i ≤ at → at + w ≤ 64 + 8 * i → at + w ≤ 8 * length f → Ahead f at w (word 8 (drop i f) * 2 ^ (at - 8 * i) % 2 ^ 64)
+ahead-is f i at w h a b e = record {
+  below = mod-lt (word 8 (drop i f) * 2 ^ (at - 8 * i)) (pow-pos 64);
+  is =
+      λ j v l.
+      let n : at - 8 * i + j ≡ at + j - 8 * i = omega arith in
+      ap (λ (m : ℕ). m / 2 ^ (64 - v)) (shifted-again (word 8 (drop i f)) (at - 8 * i) j ∙ ap (λ (k : ℕ). word 8 (drop i f) * 2 ^ k % 2 ^ 64) n)
+      ∙ number-is f i (at + j) v h (omega arith) (omega arith) (omega arith);
+}
+
+-- the first bits of a word are a number of their width
+pub leading-below : (r v : ℕ) → v ≤ 64 → r < 2 ^ 64 → leading r v < 2 ^ v
+leading-below r v h l =
+    let e : 64 ≡ v + (64 - v) = omega arith in
+    div-lt-iff-lt-mul (pow-pos (64 - v)) .1 (subst (λ (m : ℕ). r < m) (ap (λ (n : ℕ). 2 ^ n) e ∙ pow-add 2 v (64 - v)) l)
 
 -- a number in k bytes, by its bits
 pub spelled-length : (k n : ℕ) → length (spelled k n) ≡ k

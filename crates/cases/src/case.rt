@@ -14,7 +14,6 @@ use crate::records::RECORDS;
 use crate::room::LONG;
 use crate::room::LONG_NUMBERS;
 use crate::room::READ;
-use crate::room::READ_NUMBERS;
 use crate::room::SET;
 use crate::room::SET_NUMBERS;
 
@@ -80,7 +79,7 @@ fn lists(kind: u8) -> usize {
     match kind {
         b'c' | b'l' | b'w' | b'k' | b'r' | b'm' | b'i' => 0,
         b'e' => 1,
-        b's' | b'q' | b'W' | b'f' => 2,
+        b's' | b'q' | b'W' | b'f' | b'F' => 2,
         b'p' => 3,
         _ => 4,
     }
@@ -116,8 +115,8 @@ fn limits(kind: u8) -> [usize; HEAD] {
         b'k' => [2147483648, 2147483648, NUMBERS, 0, 0, 0, 0],
         b'p' => [7, SET_NUMBERS, SET, SET, NUMBERS, 0, 0],
         b'W' => [3, SET, SET, SET, SET_NUMBERS, SET, SET],
-        b'r' => [READ_NUMBERS, READ, READ, 0, 0, 0, 0],
-        b'f' => [LONG, 0, 0, 0, 0, 0, 0],
+        b'r' => [LONG_NUMBERS, READ, READ, 0, 0, 0, 0],
+        b'f' | b'F' => [LONG, 0, 0, 0, 0, 0, 0],
         b'm' => [LONG, READ, 0, 0, 0, 0, 0],
         b'i' => [NUMBERS, RECORDS, 0, 0, 0, 0, 0],
         b'e' => [MARKS, FLOATS, 0, 0, 0, 0, 0],

@@ -2,14 +2,12 @@
 ghost use mathlib.Core.Path.{_≡_};
 ghost use Prim.Native.Nat.{_-_, _≤_};
 
-// The longest rows that can be lent: to a set, to what is read of a file, and to anything else.
+// The longest rows that can be lent: to a set, to the records of what is read of a file, and to anything else.
 pub const SET: usize = 550;
 
 pub const SET_NUMBERS: usize = 1100;
 
 pub const READ: usize = 4100;
-
-pub const READ_NUMBERS: usize = 16400;
 
 pub const LONG: usize = 65600;
 

@@ -22,13 +22,14 @@ use Rattle.path.proofs as path
 use Rattle.clean.proofs as clean
 use Rattle.buffer.proofs as buffer
 use Rattle.sets.proofs as sets
+use denote.Ref.{now}
 use Rattle.setfile.proofs as setfile
 use Rattle.salvage.proofs as salvage
 use Rattle.drawing.proofs as drawing
 use Rattle.promises.specs.Calls.{numbers, _and_}
 use Rattle.promises.specs.Demand1.{NothingTraps, TheOrderOfTheNumbers, EveryBadInputGetsItsNumber, OutputAndScratchAreThenUntouched, ACollapsedContourLeavesOutputUntouchedAndItsScratchZeroed, Demand1}
 use Rattle.promises.proofs.Calls.{numbered, verdict-numbered, area-numbered, location-numbered, count-numbered}
-use Rattle.promises.proofs.Refusals.{handed-none, first-none, packing-numbered, packing-untouched, cleaning-numbered, cleaning-collapsed, shape-numbered, shape-collapsed, shapes-numbered, writing-numbered, writing-untouched, salvage-numbered, salvage-untouched, export-numbered, export-untouched}
+use Rattle.promises.proofs.Refusals.{handed-none, first-none, packing-numbered, packing-untouched, reading-numbered, reading-untouched, cleaning-numbered, cleaning-collapsed, shape-numbered, shape-collapsed, shapes-numbered, writing-numbered, writing-untouched, writing-2-numbered, writing-2-untouched, salvage-numbered, salvage-untouched, export-numbered, export-untouched}
 
 nothing-traps : NothingTraps
 nothing-traps = record {
@@ -81,6 +82,7 @@ nothing-traps = record {
   sets·despike·despiked-shapes = record { is-proved = sets.despike.despiked_shapes.Met.met; asks-nothing = λ κs a. tt };
   setfile·read = record { is-proved = setfile.read.Met.met; asks-nothing = λ κs a. tt };
   setfile·write = record { is-proved = setfile.write.Met.met; asks-nothing = λ κs a. tt };
+  setfile·write-2 = record { is-proved = setfile.write_2.Met.met; asks-nothing = λ κs a. tt };
   salvage·mend = record { is-proved = salvage.mend.Met.met; asks-nothing = λ κs a. tt };
   drawing·import = record { is-proved = drawing.import.Met.met; asks-nothing = λ κs a. tt };
   drawing·export = record { is-proved = drawing.export.Met.met; asks-nothing = λ κs a. tt };
@@ -103,6 +105,7 @@ the-order-of-the-numbers = record {
   packing = λ refusals points contours shapes out records groups. map-append (λ (rung : Rung). rung .1) refusals _;
   a-file-to-be-read = λ f. refl;
   a-file-to-be-written = λ points contours shapes bytes. refl;
+  a-file-of-edition-2-to-be-written = λ points contours shapes bytes. refl;
   a-file-to-be-salvaged = λ f out dropped. refl;
   a-drawing-to-be-brought-in = λ kinds floats. refl;
   a-set-to-be-drawn = λ points ranges kinds floats. refl;
@@ -154,8 +157,9 @@ every-bad-input-gets-its-number = record {
   sets·despike·despiked-shape = λ κs a x e h. shape-numbered Spike _ _ _ _ h;
   sets·simple·simplified-shapes = λ κs a x e h. shapes-numbered Collinear _ _ _ _ _ h;
   sets·despike·despiked-shapes = λ κs a x e h. shapes-numbered Spike _ _ _ _ _ h;
-  setfile·read = λ κs a x e h. packing-numbered _ _ _ _ _ _ _ _ h;
+  setfile·read = λ κs a x e h. reading-numbered (now (a .0)) (now (a .1 .0)) (now (a .1 .1 .0)) (now (a .1 .1 .1 .0)) _ h;
   setfile·write = λ κs a x e h. writing-numbered _ _ _ _ _ h;
+  setfile·write-2 = λ κs a x e h. writing-2-numbered _ _ _ _ _ h;
   path·locate = λ κs a x e h. location-numbered _ h;
   sets·in-shape = λ κs a x e h. verdict-numbered _ h;
   salvage·mend = λ κs a x e h. salvage-numbered _ _ _ _ h;
@@ -183,8 +187,9 @@ output-and-scratch-are-then-untouched = record {
   sets·despike·despiked-shape = λ κs a x e h. sets.Untouched.a-refused-shape-leaves-every-row-as-it-was Spike _ _ _ _ h;
   sets·simple·simplified-shapes = λ κs a x e h not-0 not-7. sets.Untouched.refused-shapes-leave-every-row-as-it-was Collinear _ _ _ _ _ h not-0;
   sets·despike·despiked-shapes = λ κs a x e h not-0 not-7. sets.Untouched.refused-shapes-leave-every-row-as-it-was Spike _ _ _ _ _ h not-0;
-  setfile·read = λ κs a x e h not-0 not-7. packing-untouched _ _ _ _ _ _ _ _ h not-0;
+  setfile·read = λ κs a x e h not-0 not-7. reading-untouched (now (a .0)) (now (a .1 .0)) (now (a .1 .1 .0)) (now (a .1 .1 .1 .0)) _ h not-0;
   setfile·write = λ κs a x e h not-0 not-7. writing-untouched _ _ _ _ _ h not-0;
+  setfile·write-2 = λ κs a x e h not-0 not-7. writing-2-untouched _ _ _ _ _ h not-0;
   salvage·mend = λ κs a x e h not-0 not-7. salvage-untouched _ _ _ _ h not-0;
   drawing·import = λ κs a x e h not-0 not-7. points-and-contours (packing-untouched _ _ _ _ _ _ _ _ h not-0);
   drawing·export = λ κs a x e h not-0 not-7. export-untouched _ _ _ _ _ h not-0;

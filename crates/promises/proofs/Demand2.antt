@@ -2,7 +2,7 @@
 use mathlib.Core.Path.{refl}
 use Rattle.buffer.proofs.ranges.sound_spans.Met as sound_spans
 use Rattle.ukmerelt.proofs.contour_sets.ukm_ranges_sound.Met as ukm_ranges_sound
-use Rattle.setfile.proofs.Theorems.{a-file-can-carry}
+use Rattle.setfile.proofs.Theorems.{an-edition-can-carry, what-is-written-fits}
 use Rattle.promises.specs.Demand2.{EveryAnswerEqualsTheRules, ReaderAndWriterUndoEachOther, RangesThatAreStructs, Demand2}
 use Rattle.promises.proofs.Calls.{follows}
 use Rattle.promises.proofs.BothWays as both
@@ -56,6 +56,7 @@ every-answer-equals-the-rules = record {
   sets·despike·despiked-shapes = follows (λ κs a x e h. h);
   setfile·read = follows (λ κs a x e h. h);
   setfile·write = follows (λ κs a x e h. h);
+  setfile·write-2 = follows (λ κs a x e h. h);
   path·locate = follows (λ κs a x e h. h);
   sets·in-shape = follows (λ κs a x e h. h);
   salvage·mend = follows (λ κs a x e h. h);
@@ -65,12 +66,13 @@ every-answer-equals-the-rules = record {
 
 reader-and-writer-undo-each-other : ReaderAndWriterUndoEachOther
 reader-and-writer-undo-each-other = record {
-  a-file-can-carry-what-the-writer-refuses-at-most-for-room = a-file-can-carry;
-  every-set-a-file-can-carry-is-written = λ p cs ss fits bytes enough w is. both.a-set-that-fits-is-written p cs ss bytes w is fits enough;
-  what-is-written-is-read-back = λ p cs ss bytes w is done out records groups points-in contours-in shapes-in r back.
-      let same = both.the-set-that-was-written-is-read p cs ss bytes w is done out records groups r back points-in contours-in shapes-in in
-      let even = both.what-is-written-fits p cs ss bytes w is done .even in (
-        both.what-was-written-is-not-refused p cs ss bytes w is done out records groups r back points-in contours-in shapes-in,
+  a-file-can-carry-what-the-writer-refuses-at-most-for-room = λ second p cs ss. an-edition-can-carry p cs ss second;
+  every-set-a-file-can-carry-is-written = λ second p cs ss fits bytes enough w is. both.a-set-that-fits-is-written second p cs ss bytes w is fits enough;
+  what-is-written-is-read-back = λ second p cs ss bytes w is done out records groups points-in contours-in shapes-in r back.
+      let same = both.the-set-that-was-written-is-read second p cs ss bytes w is done out records groups r back points-in contours-in shapes-in in
+      let even = what-is-written-fits second p cs ss bytes w is done .regular .even in (
+        both.what-was-written-is-not-refused second p cs ss bytes w is done out records groups r back points-in contours-in shapes-in,
+        both.its-edition-is-told second p cs ss bytes w is done out records groups r back points-in contours-in shapes-in,
         record { points-are = same .points even; contours-are = same .contours; shapes-are = same .shapes },
       );
   what-is-read-is-written-again = λ f h out records groups r is done bytes enough w again.

@@ -34,6 +34,7 @@ no-export-traps = record {
   ukm-add-shape = record { is-proved = ukmerelt.packing.ukm_add_shape.Met.met; asks-nothing = λ κs a. tt };
   ukm-read-set = record { is-proved = ukmerelt.files.ukm_read_set.Met.met; asks-nothing = λ κs a. tt };
   ukm-write-set = record { is-proved = ukmerelt.files.ukm_write_set.Met.met; asks-nothing = λ κs a. tt };
+  ukm-write-set-2 = record { is-proved = ukmerelt.files.ukm_write_set_2.Met.met; asks-nothing = λ κs a. tt };
   ukm-salvage = record { is-proved = ukmerelt.files.ukm_salvage.Met.met; asks-nothing = λ κs a. tt };
   ukm-import-mm = record { is-proved = ukmerelt.drawings.ukm_import_mm.Met.met; asks-nothing = λ κs a. tt };
   ukm-export-mm = record { is-proved = ukmerelt.drawings.ukm_export_mm.Met.met; asks-nothing = λ κs a. tt };
@@ -71,6 +72,7 @@ every-export-hands-on = record {
   ukm-add-shape = λ κs a x e h. h;
   ukm-read-set = λ κs a x e h. h;
   ukm-write-set = λ κs a x e h. h;
+  ukm-write-set-2 = λ κs a x e h. h;
   ukm-salvage = λ κs a x e h. h;
   ukm-import-mm = λ κs a x e h. h;
   ukm-export-mm = λ κs a x e h. h;

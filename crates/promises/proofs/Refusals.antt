@@ -16,7 +16,7 @@ use Rattle.clean.proofs.OutcomeLaws.{outcome-refused, outcome-done}
 use Rattle.clean.proofs.Demand as clean
 use Rattle.buffer.specs.declared.ranges.Span.{Span}
 use Rattle.buffer.specs.Spans.{spans}
-use Rattle.buffer.specs.Sets.{contours, shapes}
+use Rattle.buffer.specs.Sets.{joined, contours, shapes, contour-spans, shape-spans}
 use Rattle.rows.specs.Parts.{Part, none}
 use Rattle.buffer.specs.Parts.{handed}
 use Rattle.buffer.specs.Answers as Packing
@@ -26,14 +26,16 @@ use Rattle.sets.specs.Fates.{ShapeFate, shape-fate, shapes-fate}
 use Rattle.sets.specs.Fates.ShapeFate.{stands, fallen}
 use Rattle.sets.specs.Outcome as SetCleaning
 use Rattle.sets.proofs.Untouched as sets
-use Rattle.setfile.specs.Entries.{entries}
-use Rattle.setfile.specs.Format.{file}
+use Rattle.setfile.specs.Entries.{Entry, contours-of, shapes-of, read-contours}
+use Rattle.setfile.specs.Editions.{is-second, parsed}
+use Rattle.setfile.specs.Reading as Reading
 use Rattle.setfile.specs.Writing as Writing
+use Rattle.setfile.specs.Writing2 as Writing2
 use Rattle.salvage.specs.Outcome as Salvage
 use Rattle.drawing.specs.declared.command.Command.{Command}
 use Rattle.drawing.specs.Exporting as Exporting
-use Rattle.promises.specs.Calls.{cleanings, packings, set-cleanings, writings, salvagings, drawings, Numbered, _and_, OnlyZeroed, ShapeOnlyZeroed}
-use Rattle.promises.specs.Demand1.{first-refusals, cleaning-refusals, shape-refusals, shapes-refusals, packed, write-refusals, export-refusals}
+use Rattle.promises.specs.Calls.{cleanings, packings, readings, set-cleanings, writings, salvagings, drawings, Numbered, _and_, OnlyZeroed, ShapeOnlyZeroed}
+use Rattle.promises.specs.Demand1.{first-refusals, cleaning-refusals, shape-refusals, shapes-refusals, packed, read-refusals, write-refusals, write-2-refusals, export-refusals}
 use Rattle.promises.proofs.Calls.{numbered}
 
 -- A part that is handed out.
@@ -54,6 +56,27 @@ module _ (refusals : List Rung) (p : List ℤ) (cs ss : List Span) (out : List �
 
   pub packing-untouched : (o .answer .reply ≡ 0 → ⊥) → (o .points and o .contours and o .shapes) ≡ (out and records and groups)
   packing-untouched bad = let u = buffer.a-refusal-leaves-every-row-as-it-was refusals p cs ss out records groups o is bad in rw (u .0, u .1, u .2)
+
+-- A set that is read of a file.
+module _ (f : List ℕ) (out : List ℤ) (records groups : List (List ℕ)) (o : Reading.Outcome) (is : o ≡ Reading.outcome f out records groups) where
+  abbrev found : List Entry
+  found = read-contours (parsed f)
+
+  abbrev set-found : ℕ → Packing.Outcome
+  set-found k = Packing.outcome k (joined (contours-of found)) (contour-spans (contours-of found)) (shape-spans (shapes-of found)) out records groups
+
+  pub reading-numbered : Numbered readings (read-refusals f out records groups) (o .answer)
+  unfolding Packing.stored
+  reading-numbered =
+      numbered readings _ (λ k. Reading.with-edition (is-second f) (set-found k) .answer) (λ k. refl) (inl refl) (ap (λ (w : Reading.Outcome). w .answer) is)
+
+  pub reading-untouched : (o .answer .reply ≡ 0 → ⊥) → (o .points and o .contours and o .shapes) ≡ (out and records and groups)
+  unfolding Packing.stored
+  reading-untouched bad = go (first-of (read-refusals f out records groups)) is
+    where
+      go : (k : ℕ) → o ≡ Reading.with-edition (is-second f) (set-found k) → (o .points and o .contours and o .shapes) ≡ (out and records and groups)
+      go zero e = absurd (bad (rw e))
+      go (suc k) e = rw e
 
 -- A contour that is cleaned.
 finished-done : (row : List ℤ) (e : End) (t : Tally) (l : Cleaning.Lent) → (Cleaning.finished row e t l .answer .reply ≡ 0) ⊎ (Cleaning.finished row e t l .answer .reply ≡ 7)
@@ -98,22 +121,34 @@ module _ (rule : Rule) (p : List ℤ) (cs ss : List (List ℕ)) (l : SetCleaning
       numbered set-cleanings _ (λ k. SetCleaning.outcome k l (SetCleaning.cleaned-shapes (count p) (shapes-fate rule (shapes p (spans cs) (spans ss))) l) .answer) (λ k. refl) (inl refl)
       (ap (λ (w : SetCleaning.Outcome). w .answer) is)
 
--- A file that is written.
-module _ (p : List ℤ) (cs ss : List (List ℕ)) (row : List ℕ) (o : Writing.Outcome) (is : o ≡ Writing.outcome p cs ss row) where
-  abbrev carried : List ℕ
-  carried = file (entries (shapes p (spans cs) (spans ss)))
+-- A file that is written, in whichever edition.
+module _ (ladder : List Rung) (f row : List ℕ) (o : Writing.Outcome) (is : o ≡ Writing.written (first-of ladder) f row) where
+  written-numbered : Numbered writings ladder (o .answer)
+  written-numbered = numbered writings ladder (λ k. Writing.written k f row .answer) (λ k. refl) (inl refl) (ap (λ (w : Writing.Outcome). w .answer) is)
 
-  pub writing-numbered : Numbered writings (write-refusals p cs ss row) (o .answer)
-  unfolding Writing.outcome
-  writing-numbered = numbered writings (write-refusals p cs ss row) (λ k. Writing.written k carried row .answer) (λ k. refl) (inl refl) (ap (λ (w : Writing.Outcome). w .answer) is)
-
-  pub writing-untouched : (o .answer .reply ≡ 0 → ⊥) → o .bytes ≡ row
-  unfolding Writing.outcome
-  writing-untouched bad = go (first-of (write-refusals p cs ss row)) is
+  written-untouched : (o .answer .reply ≡ 0 → ⊥) → o .bytes ≡ row
+  written-untouched bad = go (first-of ladder) is
     where
-      go : (k : ℕ) → o ≡ Writing.written k carried row → o .bytes ≡ row
+      go : (k : ℕ) → o ≡ Writing.written k f row → o .bytes ≡ row
       go zero e = absurd (bad (rw e))
       go (suc k) e = rw e
+
+module _ (p : List ℤ) (cs ss : List (List ℕ)) (row : List ℕ) (o : Writing.Outcome) where
+  pub writing-numbered : o ≡ Writing.outcome p cs ss row → Numbered writings (write-refusals p cs ss row) (o .answer)
+  unfolding Writing.outcome
+  writing-numbered is = written-numbered (write-refusals p cs ss row) _ row o is
+
+  pub writing-untouched : o ≡ Writing.outcome p cs ss row → (o .answer .reply ≡ 0 → ⊥) → o .bytes ≡ row
+  unfolding Writing.outcome
+  writing-untouched is = written-untouched (write-refusals p cs ss row) _ row o is
+
+  pub writing-2-numbered : o ≡ Writing2.outcome p cs ss row → Numbered writings (write-2-refusals p cs ss row) (o .answer)
+  unfolding Writing2.outcome
+  writing-2-numbered is = written-numbered (write-2-refusals p cs ss row) _ row o is
+
+  pub writing-2-untouched : o ≡ Writing2.outcome p cs ss row → (o .answer .reply ≡ 0 → ⊥) → o .bytes ≡ row
+  unfolding Writing2.outcome
+  writing-2-untouched is = written-untouched (write-2-refusals p cs ss row) _ row o is
 
 -- A file that is salvaged.
 module _ (f out : List ℕ) (list : List (List ℕ)) (o : Salvage.Outcome) (is : o ≡ Salvage.outcome f out list) where

@@ -19,6 +19,7 @@ use Rattle.clean.specs.Outcome as Cleaning
 use Rattle.clean.specs.Promises.{Zeroed}
 use Rattle.sets.specs.declared.cleaning.CleanedSet.{CleanedSet}
 use Rattle.sets.specs.Outcome as SetCleaning
+use Rattle.setfile.specs.declared.answer.Read.{Read}
 use Rattle.setfile.specs.declared.answer.Written.{Written}
 use Rattle.salvage.specs.declared.answer.Salvaged.{Salvaged}
 use Rattle.drawing.specs.declared.answer.Drawn.{Drawn}
@@ -95,6 +96,10 @@ cleanings = record { Answer = Cleaned; reply = λ x. x .reply; only = λ k. reco
 -- how much of a shape, or of shapes, was kept
 abbrev pub set-cleanings : Kind
 set-cleanings = record { Answer = CleanedSet; reply = λ x. x .reply; only = λ k. record { reply = k; points = 0; contours = 0; shapes = 0; decisions = 0; turns = 0 } }
+
+-- how much of a set was read, and of which edition
+abbrev pub readings : Kind
+readings = record { Answer = Read; reply = λ x. x .reply; only = λ k. record { reply = k; edition = 0; points = 0; contours = 0; shapes = 0 } }
 
 -- how long a file is
 abbrev pub writings : Kind

@@ -28,9 +28,11 @@ use Rattle.sets.specs.Area.{area-refusals}
 use Rattle.sets.specs.Contains as SetContains
 use Rattle.sets.specs.Outcome as SetCleaning
 use Rattle.setfile.specs.Entries.{contours-of, shapes-of, damage, read-contours}
-use Rattle.setfile.specs.Format.{parsed, file-length}
+use Rattle.setfile.specs.Format.{file-length}
+use Rattle.setfile.specs.Editions.{parsed}
 use Rattle.setfile.specs.Reading as Reading
 use Rattle.setfile.specs.Writing as Writing
+use Rattle.setfile.specs.Writing2 as Writing2
 use Rattle.salvage.specs.Outcome as Salvage
 use Rattle.drawing.specs.Commands.{items}
 use Rattle.drawing.specs.Faults.{first-fault}
@@ -44,7 +46,7 @@ use Rattle.sets.proofs as sets
 use Rattle.setfile.proofs as setfile
 use Rattle.salvage.proofs as salvage
 use Rattle.drawing.proofs as drawing
-use Rattle.promises.specs.Calls.{of-contour, of-set, of-shapes, Always, NeverTraps, numbers, verdicts, areas, locations, counts, packings, cleanings, set-cleanings, writings, salvagings, drawings, Refuses, HandsNothing, _and_, contour-lent, shape-lent, shapes-lent, OnlyZeroed, ShapeOnlyZeroed, Untouched, Collapses}
+use Rattle.promises.specs.Calls.{of-contour, of-set, of-shapes, Always, NeverTraps, numbers, verdicts, areas, locations, counts, packings, readings, cleanings, set-cleanings, writings, salvagings, drawings, Refuses, HandsNothing, _and_, contour-lent, shape-lent, shapes-lent, OnlyZeroed, ShapeOnlyZeroed, Untouched, Collapses}
 
 -- no function asks anything, and each is proved
 pub record NothingTraps : Type 2 where
@@ -97,6 +99,7 @@ pub record NothingTraps : Type 2 where
   pub sets·despike·despiked-shapes : NeverTraps sets.despike.despiked_shapes.Statement.statement sets.despike.despiked_shapes.Reads.Asked
   pub setfile·read : NeverTraps setfile.read.Statement.statement setfile.read.Reads.Asked
   pub setfile·write : NeverTraps setfile.write.Statement.statement setfile.write.Reads.Asked
+  pub setfile·write-2 : NeverTraps setfile.write_2.Statement.statement setfile.write_2.Reads.Asked
   pub salvage·mend : NeverTraps salvage.mend.Statement.statement salvage.mend.Reads.Asked
   pub drawing·import : NeverTraps drawing.import.Statement.statement drawing.import.Reads.Asked
   pub drawing·export : NeverTraps drawing.export.Statement.statement drawing.export.Reads.Asked
@@ -144,6 +147,11 @@ abbrev pub write-refusals : List ℤ → List (List ℕ) → List (List ℕ) →
 write-refusals points contours shapes bytes =
     Writing.refusals points contours shapes ++ room (leb (file-length (length contours) (count points)) (length bytes))
 
+-- and of one of edition 2
+abbrev pub write-2-refusals : List ℤ → List (List ℕ) → List (List ℕ) → List ℕ → List Rung
+write-2-refusals points contours shapes bytes =
+    Writing2.refusals points contours shapes ++ room (leb (length (Writing2.file-of points contours shapes)) (length bytes))
+
 -- the refusals of a set that is drawn into rows
 abbrev pub export-refusals : List ℤ → List (List ℕ) → List ℕ → List Float → List Rung
 export-refusals points ranges kinds floats =
@@ -172,6 +180,8 @@ pub record TheOrderOfTheNumbers : Type 0 where
   pub a-file-to-be-read : (f : List ℕ) → order (Reading.refusals f) ≡ 2 ∷ damage (parsed f) ∷ 3 ∷ []
   pub a-file-to-be-written : (points : List ℤ) (contours shapes : List (List ℕ)) (bytes : List ℕ) → order (write-refusals points contours shapes bytes) ≡ 1 ∷ 2 ∷ 2 ∷ 6 ∷ 3 ∷ 12 ∷ 5 ∷ []
   -- beyond 01
+  pub a-file-of-edition-2-to-be-written : (points : List ℤ) (contours shapes : List (List ℕ)) (bytes : List ℕ)
+      → order (write-2-refusals points contours shapes bytes) ≡ 1 ∷ 2 ∷ 6 ∷ 3 ∷ 12 ∷ 2 ∷ 5 ∷ []
   pub a-file-to-be-salvaged : (f out : List ℕ) (dropped : List (List ℕ)) → order (Salvage.refusals f out dropped) ≡ 2 ∷ 10 ∷ 9 ∷ 5 ∷ []
   pub a-drawing-to-be-brought-in : (kinds : List ℕ) (floats : List Float) → order (Importing.refusals kinds floats) ≡ 13 ∷ first-fault false (items kinds floats) ∷ 2 ∷ []
   pub a-set-to-be-drawn : (points : List ℤ) (ranges : List (List ℕ)) (kinds : List ℕ) (floats : List Float) → order (export-refusals points ranges kinds floats) ≡ 1 ∷ 2 ∷ 6 ∷ 3 ∷ 5 ∷ []
@@ -243,8 +253,9 @@ pub record EveryBadInputGetsItsNumber : Type 0 where
   pub sets·simple·simplified-shapes : Refuses set-cleanings sets.simple.simplified_shapes.Reads.Learnt λ a. of-shapes shapes-refusals a (shapes-lent a)
   pub sets·despike·despiked-shapes : Refuses set-cleanings sets.despike.despiked_shapes.Reads.Learnt λ a. of-shapes shapes-refusals a (shapes-lent a)
   -- The set file.
-  pub setfile·read : Refuses packings setfile.read.Reads.Learnt λ a. four a λ bytes out records groups. read-refusals (now bytes) (now out) (now records) (now groups)
+  pub setfile·read : Refuses readings setfile.read.Reads.Learnt λ a. four a λ bytes out records groups. read-refusals (now bytes) (now out) (now records) (now groups)
   pub setfile·write : Refuses writings setfile.write.Reads.Learnt λ a. four a λ points contours shapes bytes. write-refusals (now points) (now contours) (now shapes) (now bytes)
+  pub setfile·write-2 : Refuses writings setfile.write_2.Reads.Learnt λ a. four a λ points contours shapes bytes. write-2-refusals (now points) (now contours) (now shapes) (now bytes)
   -- Beyond 01: where a point lies, and whether a shape has it; salvage of a file, and drawings in millimetres.
   pub path·locate : Refuses locations path.locate.Reads.Learnt λ a. three a λ points x y. Contains.refusals (record { x = x; y = y }) (now points)
   pub sets·in-shape : Refuses verdicts sets.in_shape.Reads.Learnt λ a. four a λ points ranges x y. SetContains.shape-refusals (record { x = x; y = y }) (now points) (now ranges)
@@ -268,8 +279,9 @@ pub record OutputAndScratchAreThenUntouched : Type 0 where
   pub sets·despike·despiked-shape : Untouched set-cleanings sets.despike.despiked_shape.Reads.Learnt shape-lent
   pub sets·simple·simplified-shapes : Untouched set-cleanings sets.simple.simplified_shapes.Reads.Learnt shapes-lent
   pub sets·despike·despiked-shapes : Untouched set-cleanings sets.despike.despiked_shapes.Reads.Learnt shapes-lent
-  pub setfile·read : Untouched packings setfile.read.Reads.Learnt λ a. four a λ bytes out records groups. now out and now records and now groups
+  pub setfile·read : Untouched readings setfile.read.Reads.Learnt λ a. four a λ bytes out records groups. now out and now records and now groups
   pub setfile·write : Untouched writings setfile.write.Reads.Learnt λ a. four a λ points contours shapes bytes. now bytes
+  pub setfile·write-2 : Untouched writings setfile.write_2.Reads.Learnt λ a. four a λ points contours shapes bytes. now bytes
   pub salvage·mend : Untouched salvagings salvage.mend.Reads.Learnt λ a. three a λ bytes out dropped. now out and now dropped
   pub drawing·import : Untouched packings drawing.import.Reads.Learnt λ a. four a λ kinds floats points ranges. now points and now ranges
   pub drawing·export : Untouched drawings drawing.export.Reads.Learnt λ a. four a λ points ranges kinds floats. now kinds and now floats

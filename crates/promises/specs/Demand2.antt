@@ -38,10 +38,11 @@ use Rattle.sets.specs.Verdicts as SetVerdicts
 use Rattle.sets.specs.Area as SetAreas
 use Rattle.sets.specs.Contains.{in-shape}
 use Rattle.sets.specs.Outcome as SetCleaning
-use Rattle.setfile.specs.Format.{file-length}
 use Rattle.setfile.specs.Reading as Reading
+use Rattle.setfile.specs.Editions.{number, is-second}
 use Rattle.setfile.specs.Writing as Writing
-use Rattle.setfile.specs.Promises.{Carriable, written-file}
+use Rattle.setfile.specs.Writing2 as Writing2
+use Rattle.setfile.specs.Promises.{Fit, edition-file, write-refusals, write-outcome, written-file}
 use Rattle.salvage.specs.Outcome as Salvage
 use Rattle.drawing.specs.Importing as Importing
 use Rattle.drawing.specs.Exporting as Exporting
@@ -138,12 +139,15 @@ pub record EveryAnswerEqualsTheRules : Type 0 where
       (λ x e. SetCleaning.leaving x (shapes-lent e)) (λ a. of-shapes (SetCleaning.shapes-outcome Spike) a (shapes-lent a))
   -- The set file.
   pub setfile·read : Follows setfile.read.Reads.Learnt
-      (λ x e. four e λ bytes out records groups. Packing.leaving x (now out) (now records) (now groups))
+      (λ x e. four e λ bytes out records groups. Reading.leaving x (now out) (now records) (now groups))
       (λ a. four a λ bytes out records groups. Reading.outcome (now bytes) (now out) (now records) (now groups))
   pub setfile·write : Follows setfile.write.Reads.Learnt
       (λ x e. four e λ points contours shapes bytes. Writing.leaving (x .reply) (x .bytes) (now bytes))
       (λ a. four a λ points contours shapes bytes. Writing.outcome (now points) (now contours) (now shapes) (now bytes))
-  -- Beyond 01: where a point lies, and whether a shape has it, which 02 says in place of 01; salvage of a file, and drawings in millimetres.
+  -- Beyond 01: where a point lies, and whether a shape has it, which 02 says in place of 01; a file of edition 2 written, salvage of a file, and drawings in millimetres.
+  pub setfile·write-2 : Follows setfile.write_2.Reads.Learnt
+      (λ x e. four e λ points contours shapes bytes. Writing.leaving (x .reply) (x .bytes) (now bytes))
+      (λ a. four a λ points contours shapes bytes. Writing2.outcome (now points) (now contours) (now shapes) (now bytes))
   pub path·locate : Answers path.locate.Reads.Learnt λ a. three a λ points x y. located (now points) x y
   pub sets·in-shape : Answers sets.in_shape.Reads.Learnt λ a. four a λ points ranges x y. in-shape (now points) (now ranges) x y
   pub salvage·mend : Follows salvage.mend.Reads.Learnt
@@ -166,18 +170,21 @@ pub record IsTheSet (p : List ℤ) (cs ss : List (List ℕ)) (o : Packing.Outcom
   pub contours-are : spans (Packing.written-contours o) ≡ spans cs
   pub shapes-are : spans (Packing.written-shapes o) ≡ spans ss
 
--- "on every set the file can carry"; w is what the writer's contract allows, and r what the reader's does
+-- "on every set the file can carry", in either edition; w is what the writer's contract allows, and r what the reader's does
 pub record ReaderAndWriterUndoEachOther : Type 0 where
-  pub a-file-can-carry-what-the-writer-refuses-at-most-for-room : (p : List ℤ) (cs ss : List (List ℕ)) → (first-of (Writing.refusals p cs ss) ≡ 0) ↔ Carriable p cs ss
-  pub every-set-a-file-can-carry-is-written : (p : List ℤ) (cs ss : List (List ℕ)) → Carriable p cs ss
-      → (bytes : List ℕ) → file-length (length cs) (count p) ≤ length bytes
-      → (w : Writing.Outcome) → w ≡ Writing.outcome p cs ss bytes → w .answer .reply ≡ 0
-  pub what-is-written-is-read-back : (p : List ℤ) (cs ss : List (List ℕ)) (bytes : List ℕ) (w : Writing.Outcome) → w ≡ Writing.outcome p cs ss bytes → w .answer .reply ≡ 0
+  pub a-file-can-carry-what-the-writer-refuses-at-most-for-room : (second : Bool) (p : List ℤ) (cs ss : List (List ℕ)) → (first-of (write-refusals second p cs ss) ≡ 0) ↔ Fit second p cs ss
+  pub every-set-a-file-can-carry-is-written : (second : Bool) (p : List ℤ) (cs ss : List (List ℕ)) → Fit second p cs ss
+      → (bytes : List ℕ) → length (edition-file second p cs ss) ≤ length bytes
+      → (w : Writing.Outcome) → w ≡ write-outcome second p cs ss bytes → w .answer .reply ≡ 0
+  pub what-is-written-is-read-back : (second : Bool) (p : List ℤ) (cs ss : List (List ℕ)) (bytes : List ℕ) (w : Writing.Outcome) → w ≡ write-outcome second p cs ss bytes → w .answer .reply ≡ 0
       → (out : List ℤ) (records groups : List (List ℕ)) → length p ≤ length out → length cs ≤ length records → length ss ≤ length groups
-      → (r : Packing.Outcome) → r ≡ Reading.outcome (written-file w) out records groups → (r .answer .reply ≡ 0) × IsTheSet p cs ss r
-  pub what-is-read-is-written-again : (f : List ℕ) → Bytes f → (out : List ℤ) (records groups : List (List ℕ)) (r : Packing.Outcome) → r ≡ Reading.outcome f out records groups → r .answer .reply ≡ 0
+      → (r : Reading.Outcome) → r ≡ Reading.outcome (written-file w) out records groups
+      → (r .answer .reply ≡ 0) × (r .answer .edition ≡ number second) × IsTheSet p cs ss (Reading.as-packed r)
+  pub what-is-read-is-written-again : (f : List ℕ) → Bytes f → (out : List ℤ) (records groups : List (List ℕ)) (r : Reading.Outcome) → r ≡ Reading.outcome f out records groups → r .answer .reply ≡ 0
       → (bytes : List ℕ) → length f ≤ length bytes
-      → (w : Writing.Outcome) → w ≡ Writing.outcome (Packing.written-points r) (Packing.written-contours r) (Packing.written-shapes r) bytes → (w .answer .reply ≡ 0) × (written-file w ≡ f)
+      → (w : Writing.Outcome)
+      → w ≡ write-outcome (is-second f) (Packing.written-points (Reading.as-packed r)) (Packing.written-contours (Reading.as-packed r)) (Packing.written-shapes (Reading.as-packed r)) bytes
+      → (w .answer .reply ≡ 0) × (written-file w ≡ f)
 
 -- whether ranges that are structs are sound, as both functions ensure it that take a slice of them
 abbrev pub SoundSpans : (κs : Lfts 1) → Args buffer.ranges.sound_spans.signature κs → Bool → AtExit buffer.ranges.sound_spans.ended κs → Type 0

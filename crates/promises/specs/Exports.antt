@@ -42,6 +42,7 @@ pub record NoExportTraps : Type 2 where
   pub ukm-add-shape : NeverTraps ukmerelt.packing.ukm_add_shape.Statement.statement ukmerelt.packing.ukm_add_shape.Reads.Asked
   pub ukm-read-set : NeverTraps ukmerelt.files.ukm_read_set.Statement.statement ukmerelt.files.ukm_read_set.Reads.Asked
   pub ukm-write-set : NeverTraps ukmerelt.files.ukm_write_set.Statement.statement ukmerelt.files.ukm_write_set.Reads.Asked
+  pub ukm-write-set-2 : NeverTraps ukmerelt.files.ukm_write_set_2.Statement.statement ukmerelt.files.ukm_write_set_2.Reads.Asked
   pub ukm-salvage : NeverTraps ukmerelt.files.ukm_salvage.Statement.statement ukmerelt.files.ukm_salvage.Reads.Asked
   pub ukm-import-mm : NeverTraps ukmerelt.drawings.ukm_import_mm.Statement.statement ukmerelt.drawings.ukm_import_mm.Reads.Asked
   pub ukm-export-mm : NeverTraps ukmerelt.drawings.ukm_export_mm.Statement.statement ukmerelt.drawings.ukm_export_mm.Reads.Asked
@@ -78,6 +79,7 @@ pub record EveryExportHandsOn : Type 0 where
   pub ukm-add-shape : HandsOn ukmerelt.packing.ukm_add_shape.Reads.Learnt buffer.shapes.add_shape.Reads.Learnt
   pub ukm-read-set : HandsOn ukmerelt.files.ukm_read_set.Reads.Learnt setfile.read.Reads.Learnt
   pub ukm-write-set : HandsOn ukmerelt.files.ukm_write_set.Reads.Learnt setfile.write.Reads.Learnt
+  pub ukm-write-set-2 : HandsOn ukmerelt.files.ukm_write_set_2.Reads.Learnt setfile.write_2.Reads.Learnt
   pub ukm-salvage : HandsOn ukmerelt.files.ukm_salvage.Reads.Learnt salvage.mend.Reads.Learnt
   pub ukm-import-mm : HandsOn ukmerelt.drawings.ukm_import_mm.Reads.Learnt drawing.import.Reads.Learnt
   pub ukm-export-mm : HandsOn ukmerelt.drawings.ukm_export_mm.Reads.Learnt drawing.export.Reads.Learnt

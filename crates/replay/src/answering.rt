@@ -61,6 +61,7 @@ fn of_parts(
         b'W' => cleaning_answers::lent(head, points, contours, shapes),
         b'r' => files::read(head, file),
         b'm' => files::mended(head, file),
+        b'F' => files::written_2(head, points, contours, shapes),
         _ => files::written(head, points, contours, shapes),
     }
 }

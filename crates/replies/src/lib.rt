@@ -11,12 +11,14 @@
 // | 6 | ranges not sound | all unchanged |
 // | 7 | collapsed | output unchanged, scratch zeroed |
 // | 8 | area or winding of an empty contour, or area of a set that has one | all unchanged |
-// | 9 | file edition not 1 | all unchanged |
+// | 9 | file edition neither 1 nor 2; for salvaging, not 1 | all unchanged |
 // | 10 | file short or with bytes left over | all unchanged |
 // | 11 | first contour doesn't begin a shape | all unchanged |
 // | 12 | file can't carry it: over 4,095 contours, over 32,767 points in one, or an empty shape | all unchanged |
 // | 13 | rows of kinds and floats whose lengths don't match, a kind that is none, or a Line or Close with nothing open | all unchanged |
 // | 14 | a place that is a NaN or an infinity | all unchanged |
+// | 15 | a contour of a file whose width is not the smallest, 1 to 32 | all unchanged |
+// | 16 | a fill bit of a file that is set | all unchanged |
 ghost use mathlib.Core.Path.{_≡_};
 ghost use mathlib.Core.List.{_++_};
 ghost use Rattle.replies.specs.Ladder.{first-of, so-far, room as room-for};
@@ -51,6 +53,10 @@ pub const CANT_CARRY: u32 = 12;
 pub const NO_DRAWING: u32 = 13;
 
 pub const NOT_FINITE: u32 = 14;
+
+pub const WIDTH: u32 = 15;
+
+pub const FILL: u32 = 16;
 
 // The answer to a question of yes or no: its reply number, and no where it is refused.
 #[repr(C)]

@@ -39,5 +39,5 @@ counted-all {mark} {kept} {i} x h =
     omega (arith, x .is, none)
 
 -- no more are unmarked than there are
-pub few-unmarked : (mark : List ℕ) → length mark ≤ 8191 → occurrences unmarked mark < 2 ^ 16
+pub few-unmarked : (mark : List ℕ) → length mark ≤ 8192 → occurrences unmarked mark < 2 ^ 16
 few-unmarked mark h = omega (arith, survivor-count 0 mark, rising-few 0 (length mark) (survivors mark) (survivors-rise 0 (length mark) mark (omega arith)))

@@ -22,27 +22,28 @@ use Rattle.ring.specs.Rule.{goes}
 use Rattle.ring.proofs.Listed.{rising-few}
 use Rattle.ring.proofs.Theorems.{ends-in-4n-9, kept-rising}
 use Rattle.report.specs.Text.{decimal, signed, dash}
-use Rattle.report.specs.Listing.{after, area2, cleaned, line, lines}
+use Rattle.clean.specs.Outcome.{walked}
+use Rattle.report.specs.Listing.{after, area2, line, lines}
 use Rattle.report.specs.inside.Lines.{Contours}
 use Rattle.report.proofs.TextLaws.{decimal-length, signed-length}
 
-module _ (c : List ℤ) (x : Contour c (count c)) where
+module _ (rule : R.Rule) (c : List ℤ) (x : Contour c (count c)) where
   few : count c < 65537
   unfolding most
   few = omega (arith, x .few)
 
-  after-length : length (after (cleaned c .end)) ≤ 5
-  after-length = go (cleaned c .end) refl
+  after-length : length (after (walked rule c .end)) ≤ 5
+  after-length = go (walked rule c .end) refl
     where
-      go : (w : End) → cleaned c .end ≡ w → length (after w) ≤ 5
+      go : (w : End) → walked rule c .end ≡ w → length (after w) ≤ 5
       go (kept s) e =
-          let r = rising-few 0 (count c) s (kept-rising (goes R.Rule.Collinear c) (count c) e) in
+          let r = rising-few 0 (count c) s (kept-rising (goes rule c) (count c) e) in
           decimal-length (length s) 5 (omega arith) (omega arith) (omega (arith, few))
       go collapsed e = omega arith
 
-  decisions-length : length (decimal (cleaned c .tally .decisions)) ≤ 6
+  decisions-length : length (decimal (walked rule c .tally .decisions)) ≤ 6
   decisions-length =
-      let h : cleaned c .tally .decisions < 10 ^ 6 = omega (arith, few, ends-in-4n-9 (goes R.Rule.Collinear c) (count c)) in
+      let h : walked rule c .tally .decisions < 10 ^ 6 = omega (arith, few, ends-in-4n-9 (goes rule c) (count c)) in
       decimal-length _ 6 (omega arith) (omega arith) h
 
   reported-fits : SFits w64 (reported (points c))
@@ -57,13 +58,13 @@ module _ (c : List ℤ) (x : Contour c (count c)) where
       go false = signed-length (reported (points c)) reported-fits
 
   -- a line has at most 45 characters
-  pub line-length : (k : ℕ) → k < 10 ^ 4 → length (line k c) ≤ 45
+  pub line-length : (k : ℕ) → k < 10 ^ 4 → length (line rule k c) ≤ 45
   unfolding line
   line-length k h = simp length-append
       (omega (arith, decimal-length k 4 (omega arith) (omega arith) h, decimal-length (count c) 5 (omega arith) (omega arith) (omega (arith, few)), after-length, decisions-length, area-length))
 
-pub lines-length : (k : ℕ) (l : List (List ℤ)) → Contours l → k + length l ≤ 10 ^ 4 → length (lines k l) ≤ 45 * length l
+pub lines-length : (rule : R.Rule) (k : ℕ) (l : List (List ℤ)) → Contours l → k + length l ≤ 10 ^ 4 → length (lines rule k l) ≤ 45 * length l
 unfolding lines
-lines-length k [] x h = omega arith
-lines-length k (c ∷ l) x h =
-    omega (arith, length-append (line k c) (lines (suc k) l), line-length c (x .0) k (omega arith), lines-length (suc k) l (x .1) (omega arith))
+lines-length rule k [] x h = omega arith
+lines-length rule k (c ∷ l) x h =
+    omega (arith, length-append (line rule k c) (lines rule (suc k) l), line-length rule c (x .0) k (omega arith), lines-length rule (suc k) l (x .1) (omega arith))

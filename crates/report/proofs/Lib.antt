@@ -4,6 +4,7 @@ pub mod PutLaws
 pub mod CountLaws
 pub mod LineLaws
 pub mod LinesLaws
+pub mod JobLaws
 pub mod LengthLaws
 pub mod ReportLaws
 pub mod Theorems

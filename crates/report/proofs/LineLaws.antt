@@ -17,11 +17,11 @@ use Rattle.ring.specs.Walk.End.{kept, collapsed}
 use Rattle.area.specs.Answers.{refusals}
 use Rattle.area.proofs.AnswerLaws.{refused-none}
 use Rattle.clean.specs.declared.cleaning.Cleaned.{Cleaned}
-use Rattle.clean.specs.Outcome.{Lent, lent, finished}
+use Rattle.clean.specs.Outcome.{Lent, lent, walked, finished}
 use Rattle.clean.specs.inside.Settling.{alone}
 use Rattle.buffer.specs.Sets.{joined}
 use Rattle.report.specs.Text.{decimal, signed, dash, space, line-end}
-use Rattle.report.specs.Listing.{after, area2, cleaned, line}
+use Rattle.report.specs.Listing.{after, area2, line}
 use Rattle.report.specs.inside.Lines.{Cleanable, cell, kept-text, figures}
 
 module _ (r : Cleaned) where
@@ -65,17 +65,17 @@ finished-decisions c (kept s) t l = refl
 finished-decisions c collapsed t l = refl
 
 -- what was answered of a contour makes its line
-pub line-is : (k : ℕ) (c out : List ℤ) (r : Cleaned) → r ≡ alone R.Rule.Collinear c out .answer → figures k c r ≡ line k c
+pub line-is : (rule : R.Rule) (k : ℕ) (c out : List ℤ) (r : Cleaned) → r ≡ alone rule c out .answer → figures k c r ≡ line rule k c
 unfolding figures joined line
-line-is k c out r e =
-    let w = cleaned c in
+line-is rule k c out r e =
+    let w = walked rule c in
     let l : Lent = lent [] [] [] out in
     rw (e, finished-text c (w .end) (w .tally) l, finished-decisions c (w .end) (w .tally) l) (simp (append-assoc, append-nil))
 
 -- the parts of the scratch that are lent on are as long as the contour
 pub lent-parts : (c : List ℤ) (next prev mark : List ℕ) → Cleanable c next prev mark
     → Contour c (length (take (count c) mark))
-    × (((length (take (count c) next) ≡ length (take (count c) mark)) × (length (take (count c) prev) ≡ length (take (count c) mark))) × (length (take (count c) mark) ≤ 8191))
+    × (((length (take (count c) next) ≡ length (take (count c) mark)) × (length (take (count c) prev) ≡ length (take (count c) mark))) × (length (take (count c) mark) ≤ 8192))
 lent-parts c next prev mark x =
     let m = length-take-le (count c) mark (x .in-mark) in
     (rw m (x .contour), ((length-take-le (count c) next (x .in-next) ∙ sym m, length-take-le (count c) prev (x .in-prev) ∙ sym m), rw m (x .few)))

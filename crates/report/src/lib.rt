@@ -7,8 +7,8 @@ pub const TEXT: usize = 184312;
 // Room for the listing of a file of at most 500 contours.
 pub const SHORT: usize = 22537;
 
-// The most points that a file can carry.
-const POINTS: usize = 8191;
+// The most points of a file that there is room for.
+const POINTS: usize = 8192;
 
 // The numbers of so many points.
-const NUMBERS: usize = 16382;
+const NUMBERS: usize = 16384;

@@ -1,5 +1,5 @@
 -- What a user may count on.
-use mathlib.Core.Path.{_≡_, refl, sym, _∙_, ap}
+use mathlib.Core.Path.{_≡_, refl, sym, _∙_, ap, ap₂}
 use mathlib.Core.Bool.{Bool, true, false, not, _&&_, _||_, true≢false}
 use mathlib.Core.List.{List, [], _∷_, _++_, map}
 use Prim.Native.Nat.{ℕ, zero, suc, _+_, _-_, _/_, _≤_}
@@ -15,7 +15,7 @@ use Rattle.rows.specs.Rows.{front}
 use Rattle.replies.proofs.LadderLaws.{Clear, clear, first-is}
 use Rattle.replies.proofs.LadderLaws.First.{past, foot}
 use Rattle.buffer.specs.Sets.{joined}
-use Rattle.setfile.specs.Entries.{Entry, contours-of, shapes-of, damage, read-contours}
+use Rattle.setfile.specs.Entries.{Entry, contours-of, shapes-of, Parsed, damage, read-contours}
 use Rattle.setfile.specs.Layouts.{promised}
 use Rattle.setfile.specs.Format.{file, bad-head, come, parsed}
 use Rattle.setfile.specs.Entries.Parsed.{carries}
@@ -23,6 +23,8 @@ use Rattle.bits.specs.Bits.{Bytes}
 use Rattle.bits.specs.inside.Words.{spelled}
 use Rattle.bits.proofs.WordLaws.{spelled-length}
 use Rattle.setfile.specs.inside.Bytes.{in-bytes, coded-contour, coded}
+use Rattle.setfile.specs.Editions as Either
+use Rattle.setfile.specs.Editions.{bound, is-second}
 use Rattle.setfile.specs.Reading as R
 use Rattle.setfile.specs.Promises.{Started}
 use Rattle.grid.proofs.LimitLaws.{on-joined}
@@ -30,6 +32,7 @@ use Rattle.bits.proofs.BitLaws.{bytes-are}
 use Rattle.setfile.proofs.ByteLaws.{come-by-bytes}
 use Rattle.setfile.proofs.CodedLaws.{contours-joined}
 use Rattle.setfile.proofs.RoundTrip.{come-matched, Whole, read-whole, read-carried, read-back, written-back}
+use Rattle.setfile.proofs.EitherLaws.{first-parsed, first-taken}
 use Rattle.setfile.proofs.Theorems.{right, whole}
 use Rattle.salvage.specs.Fates.{reason, open-behind, fates, keep, kept, note, dropped}
 use Rattle.salvage.specs.Outcome.{fates-of, kept-of, dropped-of, mended, refusals, Outcome, leaving, salvaged, answered, outcome}
@@ -121,13 +124,19 @@ parted b k (e ∷ l) = go (reason b e) (parted (open-behind (e .begins) (all-on-
     go zero p = one-kept p
     go (suc r) p = one-dropped (suc r) p
 
--- a file that the reader takes
-module _ (f : List ℕ) (h : Bytes f) (ok : first-of (R.refusals f) ≡ 0) where
+-- a file of edition 1 that the reader takes
+module _ (f : List ℕ) (h : Bytes f) (ok : first-of (R.refusals f) ≡ 0) (first : is-second f ≡ false) where
   abbrev read : List Entry
   read = read-contours (parsed f)
 
+  same : Either.parsed f ≡ parsed f
+  same = first-parsed f first
+
+  reads-so : parsed f ≡ carries read
+  reads-so = sym same ∙ whole f h ok ∙ ap (λ (w : Parsed). carries (read-contours w)) same
+
   taken : Whole f read
-  taken = read-whole f read (whole f h ok)
+  taken = read-whole f read reads-so
 
   short : length f ≤ R.most-bytes
   short = ltb-false R.most-bytes (length f) (right f h ok .0)
@@ -139,7 +148,9 @@ module _ (f : List ℕ) (h : Bytes f) (ok : first-of (R.refusals f) ≡ 0) where
   headed = ltb-false (length f) 2 (head-clear .0)
 
   each-kept : AllKept false read
-  each-kept = sound-kept false read (λ z. read-carried f h read (whole f h ok) .started) (not-false _ (right f h ok .1 .1 .0))
+  each-kept =
+      sound-kept false read (λ z. read-carried f h read reads-so .started)
+      (ap₂ (λ (b : Bool) (w : Parsed). all-on-grid (bound b) (joined (contours-of (read-contours w)))) (sym first) (sym same) ∙ not-false _ (right f h ok .1 .1 .0))
 
   pub a-sound-file-comes-back-byte-for-byte : (out : List ℕ) (list : List (List ℕ)) → length f ≤ length out → promised f ≤ length list
       → outcome f out list ≡ leaving (salvaged 0 (length f) 0 0 0) (front f out) list
@@ -147,7 +158,7 @@ module _ (f : List ℕ) (h : Bytes f) (ok : first-of (R.refusals f) ≡ 0) where
       let e : come f .contours ≡ read = sym (taken .is) in
       not-refused f out list (le-ltb R.most-bytes (length f) short, (head-clear .0, (head-clear .1 .0, (room-enough (length f) (length out) (promised f) (length list) p q, tt))))
       ∙ answered-so f out list
-      (ap (λ (l : List Entry). file (kept (fates false l) l)) e ∙ ap file (all-kept false read each-kept) ∙ written-back f h read (whole f h ok))
+      (ap (λ (l : List Entry). file (kept (fates false l) l)) e ∙ ap file (all-kept false read each-kept) ∙ written-back f h read reads-so)
       (ap (λ (l : List Entry). dropped 0 (fates false l)) e ∙ none-dropped false 0 read each-kept)
       (taken .none-missing) (omega (arith, taken .none-past))
 
@@ -185,11 +196,16 @@ module _ (f : List ℕ) (h : Bytes f) (out : List ℕ) (list : List (List ℕ)) 
   no-longer : length (written-file o) ≤ length f
   no-longer = omega (arith, ap length in-bytes-is ∙ length-append (spelled 2 (4096 + length (kept-of f))) _, spelled-length 2 (4096 + length (kept-of f)), kept-within f h with-head)
 
+  pub what-is-written-is-of-edition-1 : is-second (written-file o) ≡ false
+  what-is-written-is-of-edition-1 = first-taken (written-file o) (kept-of f) reads
+
   pub what-is-written-is-always-taken-by-the-reader : first-of (R.refusals (written-file o)) ≡ 0
   what-is-written-is-always-taken-by-the-reader =
       let a : ltb R.most-bytes (length (written-file o)) ≡ false = le-ltb R.most-bytes (length (written-file o)) (omega (arith, no-longer, ltb-false R.most-bytes (length f) (pass .0))) in
-      let b : not (eqb (damage (parsed (written-file o))) 0) ≡ false = rw reads in
-      let c : not (all-on-grid narrow (joined (contours-of (read-contours (parsed (written-file o)))))) ≡ false = ap (λ (l : List Entry). not (all-on-grid narrow (joined (contours-of l)))) kept-is ∙ ap not (kept-on false (come f .contours)) in
+      let so : Either.parsed (written-file o) ≡ carries (kept-of f) = first-parsed (written-file o) what-is-written-is-of-edition-1 ∙ reads in
+      let b : not (eqb (damage (Either.parsed (written-file o))) 0) ≡ false = rw so in
+      let c : not (all-on-grid (bound (is-second (written-file o))) (joined (contours-of (read-contours (Either.parsed (written-file o)))))) ≡ false =
+      ap₂ (λ (b : Bool) (w : Parsed). not (all-on-grid (bound b) (joined (contours-of (read-contours w))))) what-is-written-is-of-edition-1 so ∙ ap not (kept-on false (come f .contours)) in
       sym (first-is (R.refusals (written-file o)) 0 (past a (past b (past c foot))))
 
   pub every-contour-is-kept-or-dropped-once-and-in-order : Parted 0 (come f .contours) (read-contours (parsed (written-file o))) (written-list o)
@@ -223,7 +239,7 @@ module _ (f : List ℕ) (h : Bytes f) (out : List ℕ) (list : List (List ℕ)) 
 
   pub salvaging-what-was-salvaged-changes-nothing : (out′ : List ℕ) (list′ : List (List ℕ)) → length (written-file o) ≤ length out′ → promised (written-file o) ≤ length list′
       → outcome (written-file o) out′ list′ ≡ leaving (salvaged 0 (length (written-file o)) 0 0 0) (front (written-file o) out′) list′
-  salvaging-what-was-salvaged-changes-nothing = a-sound-file-comes-back-byte-for-byte (written-file o) bytes-written what-is-written-is-always-taken-by-the-reader
+  salvaging-what-was-salvaged-changes-nothing = a-sound-file-comes-back-byte-for-byte (written-file o) bytes-written what-is-written-is-always-taken-by-the-reader what-is-written-is-of-edition-1
 
 -- a file that is cut off behind its head
 module _ (f : List ℕ) (h : Bytes f) (e : 2 ≤ length f) (n : ℕ) (m : 2 ≤ n) where
@@ -245,27 +261,27 @@ module _ (f : List ℕ) (h : Bytes f) (e : 2 ≤ length f) (n : ℕ) (m : 2 ≤ 
   pub a-file-that-is-cut-off-yields-the-contours-whose-bytes-are-all-there : come (take n f) .contours ≡ all-within (n - 2) (come f .contours)
   a-file-that-is-cut-off-yields-the-contours-whose-bytes-are-all-there = cut-off .contours
 
--- a file that the reader takes, and that is cut off
-module _ (f : List ℕ) (h : Bytes f) (ok : first-of (R.refusals f) ≡ 0) (n : ℕ) (m : 2 ≤ n) where
+-- a file of edition 1 that the reader takes, and that is cut off
+module _ (f : List ℕ) (h : Bytes f) (ok : first-of (R.refusals f) ≡ 0) (first : is-second f ≡ false) (n : ℕ) (m : 2 ≤ n) where
   abbrev there : List Entry
-  there = all-within (n - 2) (read f h ok)
+  there = all-within (n - 2) (read f h ok first)
 
   pub a-sound-file-that-is-cut-off-loses-no-other-contour : (out : List ℕ) (list : List (List ℕ)) → length f ≤ length out → promised f ≤ length list
-      → outcome (take n f) out list ≡ leaving (salvaged 0 (length (file there)) 0 (length (read f h ok) - length there) 0) (front (file there) out) list
+      → outcome (take n f) out list ≡ leaving (salvaged 0 (length (file there)) 0 (length (read f h ok first) - length there) 0) (front (file there) out) list
   a-sound-file-that-is-cut-off-loses-no-other-contour out list p q =
-      let x = headed f h ok in
-      let t = taken f h ok in
+      let x = headed f h ok first in
+      let t = taken f h ok first in
       let g : List ℕ = take n f in
       let b = bytes-cut f h x n m in
       let hl = head-cut f h x n m in
       let c = cut-off f h x n m in
       let is : come g .contours ≡ there = c .contours ∙ ap (all-within (n - 2)) (sym (t .is)) in
-      let all = within-kept false (n - 2) (read f h ok) (each-kept f h ok) in
+      let all = within-kept false (n - 2) (read f h ok first) (each-kept f h ok first) in
       let number = come-matched g b .number in
       let all-came = come-matched f h .number in
       let l : length g ≤ length f = omega (arith, length-take n f) in
-      let a : ltb R.most-bytes (length g) ≡ false = le-ltb R.most-bytes (length g) (omega (arith, short f h ok)) in
-      let hd : Clear (bad-head g) = (le-ltb (length g) 2 hl, (ap (λ (k : ℕ). not (eqb k 1)) (edition-cut f n m) ∙ head-clear f h ok .1 .0, tt)) in
+      let a : ltb R.most-bytes (length g) ≡ false = le-ltb R.most-bytes (length g) (omega (arith, short f h ok first)) in
+      let hd : Clear (bad-head g) = (le-ltb (length g) 2 hl, (ap (λ (k : ℕ). not (eqb k 1)) (edition-cut f n m) ∙ head-clear f h ok first .1 .0, tt)) in
       not-refused g out list (a, (hd .0, (hd .1 .0, (room-enough (length g) (length out) (promised g) (length list) (omega arith) (omega (arith, same-promise f h x n m)), tt))))
       ∙ answered-so g out list
       (ap (λ (l : List Entry). file (kept (fates false l) l)) is ∙ ap file (all-kept false there all))

@@ -2,10 +2,10 @@
 use mathlib.Core.Path.{_≡_, refl, sym, _∙_, ap, ap₂, subst}
 use mathlib.Core.Bool.{Bool, true, false, not, _&&_, _||_, true≢false}
 use mathlib.Core.List.{List, [], _∷_, map}
-use Prim.Native.Nat.{ℕ, _+_, _-_, _*_, _%_, _<_, _≤_}
+use Prim.Native.Nat.{ℕ, zero, suc, _+_, _-_, _*_, _%_, _<_, _≤_}
 use native.Mathlib.Omega.{arith}
 use lib.Dec.{eqb, ltb}
-use lib.ListN.{length, drop, length-drop, length-map}
+use lib.ListN.{length, getD, drop, length-drop, length-map}
 use lib.Seq.{length-take-le}
 use lib.IntN.{ℤ}
 use mir.Syntax.{w32}
@@ -13,24 +13,26 @@ use mir.Val.{SFits}
 use borrow.Author.Tests.{ltb-true, ltb-false, le-ltb, eqb-false, ne-eqb, not-false}
 use Rattle.integers.proofs.Logic.{and-left, and-right, or-left, or-right}
 use Rattle.integers.proofs.Bound.{in-fits}
-use Rattle.grid.specs.Limits.{narrow, most, on-grid, all-on-grid}
+use Rattle.grid.specs.Limits.{limit, narrow, most, on-grid, all-on-grid}
 use Rattle.replies.specs.Ladder.{first-of}
-use Rattle.grid.specs.Domain.{count}
+use Rattle.grid.specs.Domain.{Contour, count}
 use Rattle.replies.proofs.LadderLaws.{clear, first-is}
 use Rattle.replies.proofs.LadderLaws.First.{past, foot}
-use Rattle.grid.proofs.LimitLaws.{on-grid-in, on-dropped, on-taken}
+use Rattle.grid.proofs.LimitLaws.{all-on-wider, on-grid-in, on-dropped, on-taken}
 use Rattle.buffer.specs.declared.ranges.Span.{Span}
-use Rattle.buffer.specs.Spans.{spans, sound, sound-from, size, total, laid}
+use Rattle.buffer.specs.Spans.{span, spans, sound, sound-from, size, total, laid}
 use Rattle.buffer.specs.Sets.{cut, joined, contour, contours, shapes, contour-spans, shape-spans, Even}
-use Rattle.buffer.proofs.SpanLaws.{first-starts, first-forward, others-sound, rises}
+use Rattle.buffer.proofs.SpanLaws.{range-within, first-starts, first-forward, others-sound, rises}
 use Rattle.buffer.proofs.SetLaws.{contours-even, sizes-are, sound-laid}
 use Rattle.buffer.proofs.RowLaws.{spans-length}
+use Rattle.buffer.proofs.PartLaws.{names-of, part-contour, contours-at}
 use Rattle.buffer.proofs.Theorems.{a-sound-set's-contours-laid-end-to-end-are-its-points, and-its-ranges-are-theirs, a-sound-set's-shapes-laid-end-to-end-are-its-contours, the-counts-add-up}
 use Rattle.setfile.specs.Entries.{Entry, contours-of, entries, Gathered, shapes-of}
 use Rattle.setfile.specs.Format.{file-length}
 use Rattle.setfile.specs.Reading.{most-bytes}
 use Rattle.setfile.specs.Writing.{most-contours, most-points, some-over, some-empty, refusals}
-use Rattle.setfile.specs.Promises.{Each, Filled, Carried, Carriable}
+use Rattle.setfile.specs.Promises.{Each, Short, Filled, Started, Carriable, Regular}
+use Rattle.setfile.specs.inside.Writing.{Named, Grouped}
 use Rattle.setfile.proofs.GatherLaws.{gathered-entries, contours-entries, entries-started}
 
 -- what holds of each image, and of each element
@@ -49,24 +51,24 @@ pub each-like : {A B C : Type 0} (f : A → B) (g : C → B) (P : B → Type 0) 
 each-like f g P k l e h = each-of f P l (subst (Each P) e (of-each g P k h))
 
 -- the tests over spans
-none-over : (n : ℕ) (l : List Span) → some-over n l ≡ false → Each (λ (s : Span). size s ≤ n) l
+pub none-over : (n : ℕ) (l : List Span) → some-over n l ≡ false → Each (λ (s : Span). size s ≤ n) l
 unfolding some-over
 none-over n [] e = tt
 none-over n (s ∷ l) e = (ltb-false n (size s) (or-left (ltb n (size s)) _ e), none-over n l (or-right (ltb n (size s)) _ e))
 
-over-none : (n : ℕ) (l : List Span) → Each (λ (s : Span). size s ≤ n) l → some-over n l ≡ false
+pub over-none : (n : ℕ) (l : List Span) → Each (λ (s : Span). size s ≤ n) l → some-over n l ≡ false
 unfolding some-over
 over-none n [] h = refl
 over-none n (s ∷ l) h = rw (le-ltb n (size s) (h .0)) (over-none n l (h .1))
 
-none-empty : (l : List Span) → some-empty l ≡ false → Each (λ (s : Span). 0 < size s) l
+pub none-empty : (l : List Span) → some-empty l ≡ false → Each (λ (s : Span). 0 < size s) l
 unfolding some-empty
 none-empty [] e = tt
 none-empty (s ∷ l) e =
     let n = eqb-false (size s) 0 (or-left (eqb (size s) 0) _ e) in
     (omega (arith, n), none-empty l (or-right (eqb (size s) 0) _ e))
 
-empty-none : (l : List Span) → Each (λ (s : Span). 0 < size s) l → some-empty l ≡ false
+pub empty-none : (l : List Span) → Each (λ (s : Span). 0 < size s) l → some-empty l ≡ false
 unfolding some-empty
 empty-none [] h = refl
 empty-none (s ∷ l) h = rw (ne-eqb (size s) 0 (λ z. omega (arith, h .0))) (empty-none l (h .1))
@@ -144,55 +146,85 @@ module _ (p : List ℤ) (cs ss : List (List ℕ)) where
       (past (rw (le-ltb most-contours (length (spans cs)) (omega (arith, h .few, spans-length cs)), over-none most-points (spans cs) (h .short), empty-none (spans ss) (h .filled)))
       foot)))))))
 
+-- which have a file in either edition
+pub regular : (p : List ℤ) (cs ss : List (List ℕ)) → Carriable p cs ss → Regular narrow p cs ss
+unfolding most
+regular p cs ss h = record {
+  even = h .even;
+  within = omega (arith, h .fits);
+  contours = h .contours;
+  shapes = h .shapes;
+  on = h .on;
+  few = h .few;
+  short = h .short;
+  filled = h .filled;
+}
+
+each-at : {A : Type 0} (P : A → Type 0) (l : List A) → Each P l → (k : ℕ) (d : A) → k < length l → P (getD l k d)
+each-at P [] h k d g = absurd (omega arith)
+each-at P (a ∷ l) h zero d g = h .0
+each-at P (a ∷ l) h (suc k) d g = each-at P l (h .1) k d (omega arith)
+
 -- the contours of such a set, as a file carries them
-module _ (p : List ℤ) (cs ss : List (List ℕ)) (h : Carriable p cs ss) where
-  abbrev set : List (List (List ℤ))
-  set = shapes p (spans cs) (spans ss)
+module _ (bound : ℕ) (p : List ℤ) (cs ss : List (List ℕ)) (h : Regular bound p cs ss) where
+  abbrev all-entries : List Entry
+  all-entries = entries (shapes p (spans cs) (spans ss))
+
+  pub regular-contours : contours-of all-entries ≡ contours p (spans cs)
+  regular-contours =
+      contours-entries (shapes p (spans cs) (spans ss))
+      ∙ a-sound-set's-shapes-laid-end-to-end-are-its-contours p (spans cs) (spans ss) (h .even) (h .contours) (rw (spans-length cs) (h .shapes))
+
+  pub regular-even : Even (contours p (spans cs))
+  regular-even = contours-even p 0 (spans cs) (h .even) (h .contours)
+
+  pub regular-short : Short (contours p (spans cs))
+  regular-short =
+      each-like count size (λ (n : ℕ). n ≤ most-points) (spans cs) (contours p (spans cs)) (sym (sizes-are p 0 (spans cs) (h .even) (h .contours))) (h .short)
+
+  pub regular-count : length all-entries ≡ length cs
+  regular-count =
+      sym (length-map all-entries (λ (e : Entry). e .points)) ∙ ap length regular-contours ∙ length-map (spans cs) (contour p) ∙ spans-length cs
+
+  pub regular-total : total (map count (contours p (spans cs))) ≡ count p
+  regular-total =
+      sym (the-counts-add-up (contours p (spans cs)) regular-even)
+      ∙ ap count (a-sound-set's-contours-laid-end-to-end-are-its-points p (spans cs) (h .even) (h .contours))
 
   grouped : sound (spans ss) (length (spans cs)) ≡ true
   grouped = rw (spans-length cs) (h .shapes)
 
-  carried-contours : contours-of (entries set) ≡ contours p (spans cs)
-  carried-contours =
-      contours-entries set ∙ a-sound-set's-shapes-laid-end-to-end-are-its-contours p (spans cs) (spans ss) (h .even) (h .contours) grouped
-
-  pub carried-points : joined (contours-of (entries set)) ≡ p
-  carried-points = ap joined carried-contours ∙ a-sound-set's-contours-laid-end-to-end-are-its-points p (spans cs) (h .even) (h .contours)
-
-  pub carried-ranges : contour-spans (contours-of (entries set)) ≡ spans cs
-  carried-ranges = ap contour-spans carried-contours ∙ and-its-ranges-are-theirs p (spans cs) (h .even) (h .contours)
-
-  all-even : Even (contours p (spans cs))
-  all-even = contours-even p 0 (spans cs) (h .even) (h .contours)
-
-  pub carried-count : length (entries set) ≡ length cs
-  carried-count =
-      sym (length-map (entries set) (λ (e : Entry). e .points)) ∙ ap length carried-contours ∙ length-map (spans cs) (contour p) ∙ spans-length cs
-
-  pub carried-total : total (map count (contours-of (entries set))) ≡ count p
-  carried-total =
-      ap (λ (l : List (List ℤ)). total (map count l)) carried-contours ∙ sym (the-counts-add-up (contours p (spans cs)) all-even)
-      ∙ ap count (a-sound-set's-contours-laid-end-to-end-are-its-points p (spans cs) (h .even) (h .contours))
-
-  shape-sizes : map length set ≡ map size (spans ss)
+  shape-sizes : map length (shapes p (spans cs) (spans ss)) ≡ map size (spans ss)
   shape-sizes = cut-sizes (contours p (spans cs)) 0 (spans ss) (rw (length-map (spans cs) (contour p)) grouped)
 
-  filled-shapes : Filled set
-  filled-shapes = each-like length size (λ (n : ℕ). 0 < n) (spans ss) set (sym shape-sizes) (h .filled)
+  filled-shapes : Filled (shapes p (spans cs) (spans ss))
+  filled-shapes = each-like length size (λ (n : ℕ). 0 < n) (spans ss) (shapes p (spans cs) (spans ss)) (sym shape-sizes) (h .filled)
 
-  carried-shapes : shapes-of (entries set) ≡ set
-  carried-shapes = ap (λ (g : Gathered). g .shapes) (gathered-entries set filled-shapes)
+  pub regular-started : Started all-entries
+  regular-started = entries-started (shapes p (spans cs) (spans ss)) filled-shapes
 
-  pub carried-groups : shape-spans (shapes-of (entries set)) ≡ spans ss
-  carried-groups = ap shape-spans carried-shapes ∙ ap (laid 0) shape-sizes ∙ sound-laid 0 (length (spans cs)) (spans ss) grouped
+  -- its points and its ranges
+  pub regular-points : joined (contours-of all-entries) ≡ p
+  regular-points = ap joined regular-contours ∙ a-sound-set's-contours-laid-end-to-end-are-its-points p (spans cs) (h .even) (h .contours)
 
-  pub set-carried : Carried (entries set)
-  set-carried = record {
-    small = record {
-      few = omega (arith, carried-count, h .few);
-      even = rw carried-contours all-even;
-      short = rw carried-contours (each-like count size (λ (n : ℕ). n ≤ most-points) (spans cs) (contours p (spans cs)) (sym (sizes-are p 0 (spans cs) (h .even) (h .contours))) (h .short));
-    };
-    started = entries-started set filled-shapes;
-    fitting = rw carried-contours (contours-fit p (spans cs) (h .on));
-  }
+  pub regular-ranges : contour-spans (contours-of all-entries) ≡ spans cs
+  regular-ranges = ap contour-spans regular-contours ∙ and-its-ranges-are-theirs p (spans cs) (h .even) (h .contours)
+
+  pub regular-groups : shape-spans (shapes-of all-entries) ≡ spans ss
+  regular-groups =
+      ap (λ (g : Gathered). shape-spans (g .shapes)) (gathered-entries (shapes p (spans cs) (spans ss)) filled-shapes)
+      ∙ ap (laid 0) shape-sizes ∙ sound-laid 0 (length (spans cs)) (spans ss) grouped
+
+  -- its ranges name contours that a file can count, and its shapes end within them
+  module _ (within : bound ≤ limit) where
+    pub all-named : Named p cs (length cs)
+    all-named k l =
+        let n = names-of p cs k (h .even) (h .contours) l in
+        let d : Contour p (count p) = record { even = h .even; few = h .within; on = all-on-wider bound limit p within (h .on) } in
+        let c = part-contour p cs k d n in
+        let m : length (contours p (spans cs)) ≡ length cs = length-map (spans cs) (contour p) ∙ spans-length cs in
+        let s : count (contour p (span (getD cs k []))) ≤ most-points = rw (contours-at p cs k l) at (each-at (λ (c : List ℤ). count c ≤ most-points) (contours p (spans cs)) regular-short k [] (omega arith)) in
+        (n, record { even = c .even; short = s; on = c .on })
+
+    pub all-grouped : Grouped ss (length cs)
+    all-grouped i l = range-within ss (length cs) i (h .shapes) l .ends

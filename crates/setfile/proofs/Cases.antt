@@ -14,6 +14,7 @@ use Rattle.setfile.specs.Entries.{entry}
 use Rattle.setfile.specs.Layouts.{some-set, contours-in}
 use Rattle.setfile.specs.Format.{file, parsed}
 use Rattle.setfile.specs.Entries.Parsed.{carries, damaged}
+use Rattle.setfile.specs.Editions as Editions
 use Rattle.setfile.specs.Reading.{refusals}
 
 -- 1001 8005 in hex, then the points of W4
@@ -66,9 +67,9 @@ left-over = refl
 
 -- 536,870,912 is on the narrow grid, and 536,870,913 gets 3
 the-last : first-of (refusals (16 ∷ 1 ∷ 128 ∷ 1 ∷ 32 ∷ 0 ∷ 0 ∷ 0 ∷ 224 ∷ 0 ∷ 0 ∷ 0 ∷ [])) ≡ 0
-unfolding parsed contours-in numbers some-set bits field value first-of narrow on-grid all-on-grid joined
+unfolding Editions.parsed contours-in numbers some-set bits field value first-of narrow on-grid all-on-grid joined
 the-last = refl
 
 past-the-last : first-of (refusals (16 ∷ 1 ∷ 128 ∷ 1 ∷ 32 ∷ 0 ∷ 0 ∷ 1 ∷ 0 ∷ 0 ∷ 0 ∷ 0 ∷ [])) ≡ 3
-unfolding parsed contours-in numbers some-set bits field value first-of narrow on-grid all-on-grid joined
+unfolding Editions.parsed contours-in numbers some-set bits field value first-of narrow on-grid all-on-grid joined
 past-the-last = refl

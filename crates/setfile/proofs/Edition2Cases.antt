@@ -8,15 +8,14 @@ use Rattle.grid.specs.Limits.{limit, most, on-grid, all-on-grid}
 use Rattle.bits.specs.Bits.{value, field, bits, bytes}
 use Rattle.bits.specs.Signs.{all-fit, fields, numbers}
 use Rattle.bits.specs.Widths.{smallest}
-use Rattle.buffer.specs.Spans.{sound-from}
 use Rattle.buffer.specs.Sets.{joined}
 use Rattle.setfile.specs.Entries.{entry}
 use Rattle.setfile.specs.Entries.Parsed.{carries, damaged}
 use Rattle.setfile.specs.Layouts.{file-in, some-set, contours-in}
-use Rattle.setfile.specs.Steps.{steps, sums}
+use Rattle.steps.specs.Steps.{steps, sums}
 use Rattle.setfile.specs.Edition2.{edition-2}
-use Rattle.setfile.specs.Writing.{some-over, some-empty, leaving}
-use Rattle.setfile.specs.Editions.{parsed, read-refusals, write-outcome}
+use Rattle.setfile.specs.Editions.{parsed}
+use Rattle.setfile.specs.Reading.{refusals}
 
 -- an empty contour, in hex 2001 8000 04: its width is 1
 an-empty-contour : file-in 2 edition-2 (entry true [] ∷ []) ≡ 32 ∷ 1 ∷ 128 ∷ 0 ∷ 4 ∷ []
@@ -86,28 +85,15 @@ past-the-largest : parsed (32 ∷ 1 ∷ 128 ∷ 2 ∷ 9 ∷ 255 ∷ 255 ∷ 255 
 unfolding parsed contours-in numbers some-set bits field value first-of most smallest all-fit sums
 past-the-largest = refl
 
-off-the-grid : first-of (read-refusals (32 ∷ 1 ∷ 128 ∷ 2 ∷ 9 ∷ 255 ∷ 255 ∷ 255 ∷ 252 ∷ 0 ∷ 0 ∷ 0 ∷ 1 ∷ 0 ∷ [])) ≡ 3
+off-the-grid : first-of (refusals (32 ∷ 1 ∷ 128 ∷ 2 ∷ 9 ∷ 255 ∷ 255 ∷ 255 ∷ 252 ∷ 0 ∷ 0 ∷ 0 ∷ 1 ∷ 0 ∷ [])) ≡ 3
 unfolding parsed contours-in numbers some-set bits field value first-of most smallest all-fit sums joined limit on-grid all-on-grid
 off-the-grid = refl
 
 -- coordinates go to those of the wider grid: 1,073,741,823 is on it, and 1,073,741,824 gets 3
-the-last : first-of (read-refusals (32 ∷ 1 ∷ 128 ∷ 1 ∷ 4 ∷ 255 ∷ 255 ∷ 255 ∷ 255 ∷ 0 ∷ 0 ∷ 0 ∷ 4 ∷ [])) ≡ 0
+the-last : first-of (refusals (32 ∷ 1 ∷ 128 ∷ 1 ∷ 4 ∷ 255 ∷ 255 ∷ 255 ∷ 255 ∷ 0 ∷ 0 ∷ 0 ∷ 4 ∷ [])) ≡ 0
 unfolding parsed contours-in numbers some-set bits field value first-of most smallest all-fit sums joined limit on-grid all-on-grid
 the-last = refl
 
-past-the-last : first-of (read-refusals (32 ∷ 1 ∷ 128 ∷ 1 ∷ 5 ∷ 0 ∷ 0 ∷ 0 ∷ 0 ∷ 0 ∷ 0 ∷ 0 ∷ 0 ∷ [])) ≡ 3
+past-the-last : first-of (refusals (32 ∷ 1 ∷ 128 ∷ 1 ∷ 5 ∷ 0 ∷ 0 ∷ 0 ∷ 0 ∷ 0 ∷ 0 ∷ 0 ∷ 0 ∷ [])) ≡ 3
 unfolding parsed contours-in numbers some-set bits field value first-of most smallest all-fit sums joined limit on-grid all-on-grid
 past-the-last = refl
-
--- sets that are written
-nothing : write-outcome [] [] [] (7 ∷ 7 ∷ 7 ∷ []) ≡ leaving 0 2 (32 ∷ 0 ∷ 7 ∷ [])
-unfolding write-outcome first-of most limit on-grid all-on-grid sound-from some-over some-empty joined fields value field bytes
-nothing = refl
-
-one-empty : write-outcome [] ((0 ∷ 0 ∷ []) ∷ []) ((0 ∷ 1 ∷ []) ∷ []) (7 ∷ 7 ∷ 7 ∷ 7 ∷ 7 ∷ []) ≡ leaving 0 5 (32 ∷ 1 ∷ 128 ∷ 0 ∷ 4 ∷ [])
-unfolding write-outcome first-of most limit on-grid all-on-grid sound-from some-over some-empty joined fields value field bytes smallest all-fit steps
-one-empty = refl
-
-one-byte-short : write-outcome [] ((0 ∷ 0 ∷ []) ∷ []) ((0 ∷ 1 ∷ []) ∷ []) (7 ∷ 7 ∷ 7 ∷ 7 ∷ []) ≡ leaving 5 0 (7 ∷ 7 ∷ 7 ∷ 7 ∷ [])
-unfolding write-outcome first-of most limit on-grid all-on-grid sound-from some-over some-empty joined fields value field bytes smallest all-fit steps
-one-byte-short = refl

@@ -1,12 +1,12 @@
 -- A contour of edition 2 is read as it was written, and written as it was read.
-use mathlib.Core.Path.{_≡_, refl, sym, _∙_, ap, ap₂}
+use mathlib.Core.Path.{_≡_, sym, _∙_, ap, ap₂}
 use mathlib.Core.Bool.{Bool, true, not}
-use mathlib.Core.List.{List, [], _∷_, _++_, append-assoc}
-use Prim.Native.Nat.{ℕ, zero, suc, _+_, _*_, _<_, _≤_}
+use mathlib.Core.List.{List, _++_, append-assoc}
+use Prim.Native.Nat.{ℕ, _+_, _*_, _<_, _≤_}
 use native.Mathlib.Omega.{arith}
 use lib.Dec.{eqb}
 use lib.ListN.{length, take, drop, length-append, length-drop}
-use lib.Seq.{drop-at, take-add, drop-drop}
+use lib.Seq.{take-add, drop-drop}
 use lib.IntN.{ℤ}
 use borrow.Author.Tests.{ltb-false, le-ltb, eqb-true, eq-eqb, not-false}
 use Rattle.replies.proofs.LadderLaws.{first-is, clear}
@@ -14,93 +14,18 @@ use Rattle.replies.proofs.LadderLaws.First.{past, foot}
 use Rattle.grid.specs.Limits.{most}
 use Rattle.grid.specs.Domain.{count}
 use Rattle.bits.specs.Bits.{digit, value, field}
-use Rattle.bits.specs.Signs.{signed, all-fit, fields, numbers}
+use Rattle.bits.specs.Signs.{all-fit, fields}
 use Rattle.bits.specs.Widths.{width-of}
 use Rattle.bits.proofs.BitLaws.{field-length, front-value, front-gone, field-back}
-use Rattle.bits.proofs.SignLaws.{all-fit-wider, fields-length, numbers-length, numbers-fields, fields-numbers, numbers-fit}
-use Rattle.bits.proofs.WidthLaws.{smallest-some, smallest-few, smallest-passes}
+use Rattle.steps.specs.Steps.{differences}
+use Rattle.steps.specs.Bodies.{contour-width, body, body-size, steps-in, points-of-width}
+use Rattle.steps.proofs.BodyLaws.{body-length, steps-back, points-back, points-length, points-steps, body-back, point-fits, steps-fit, width-some, width-within-32, width-fitting}
 use Rattle.setfile.specs.Entries.{Entry, entry}
 use Rattle.setfile.specs.Format.{begins, points-in}
-use Rattle.setfile.specs.Steps.{steps, differences, from-point}
-use Rattle.setfile.specs.Edition2.{contour-width, body, contour-bits, width-in, body-size, contour-size, steps-in, points-of-width, edition-2}
+use Rattle.setfile.specs.Edition2.{contour-bits, width-in, contour-size, edition-2}
 use Rattle.setfile.specs.Writing.{most-points}
 use Rattle.setfile.proofs.LayoutLaws.{Back, Forth, Faithful}
 use Rattle.setfile.proofs.EditionLaws.{begun-clear, clear-begun, begins-back, count-back, head-gone, count-short, head-back}
-use Rattle.setfile.proofs.StepLaws.{sums-steps, steps-sums, steps-length, sums-length}
-
--- what is written of n points, in any width
-body-length : (p : List ℤ) (n w : ℕ) → length p ≡ 2 * n → length (fields 32 (take 2 p) ++ fields w (differences p)) ≡ body-size n w
-unfolding fields
-body-length [] zero w e = refl
-body-length [] (suc n) w e = absurd (omega arith)
-body-length (x ∷ []) n w e = absurd (omega arith)
-body-length (x ∷ y ∷ l) zero w e = absurd (omega arith)
-body-length (x ∷ y ∷ l) (suc k) w e =
-    let s : length (steps x y l) ≡ 2 * k = steps-length x y l ∙ omega arith in
-    length-append (fields 32 (x ∷ y ∷ [])) (fields w (steps x y l))
-    ∙ omega (arith, fields-length 32 (x ∷ y ∷ []), fields-length w (steps x y l) ∙ ap (λ (m : ℕ). w * m) s)
-
--- and read of it, whatever stands behind it
-module _ (w : ℕ) (more : List Bool) where
-  behind-point : (x y : ℤ) (ds : List ℤ) → drop 64 ((fields 32 (x ∷ y ∷ []) ++ fields w ds) ++ more) ≡ fields w ds ++ more
-  behind-point x y ds =
-      ap (drop 64) (append-assoc (fields 32 (x ∷ y ∷ [])) (fields w ds) more) ∙ drop-at (fields 32 (x ∷ y ∷ [])) (fields w ds ++ more) 64 (fields-length 32 (x ∷ y ∷ []))
-
-  steps-back : (p : List ℤ) (n : ℕ) → length p ≡ 2 * n → 0 < w → all-fit w (differences p) ≡ true → steps-in n w ((fields 32 (take 2 p) ++ fields w (differences p)) ++ more) ≡ differences p
-  steps-back [] zero e h c = refl
-  steps-back [] (suc n) e h c = absurd (omega arith)
-  steps-back (x ∷ []) n e h c = absurd (omega arith)
-  steps-back (x ∷ y ∷ l) zero e h c = absurd (omega arith)
-  steps-back (x ∷ y ∷ l) (suc k) e h c =
-      let s : 2 * k ≡ length (steps x y l) = sym (steps-length x y l ∙ omega arith) in
-      ap₂ (numbers w) s (behind-point x y (steps x y l)) ∙ numbers-fields w h (steps x y l) more c
-
-  points-back : (p : List ℤ) (n : ℕ) → length p ≡ 2 * n → 0 < w → all-fit w (differences p) ≡ true → all-fit 32 (take 2 p) ≡ true
-      → points-of-width n w ((fields 32 (take 2 p) ++ fields w (differences p)) ++ more) ≡ p
-  points-back [] zero e h c d = refl
-  points-back [] (suc n) e h c d = absurd (omega arith)
-  points-back (x ∷ []) n e h c d = absurd (omega arith)
-  points-back (x ∷ y ∷ l) zero e h c d = absurd (omega arith)
-  points-back (x ∷ y ∷ l) (suc k) e h c d =
-      let a = append-assoc (fields 32 (x ∷ y ∷ [])) (fields w (steps x y l)) more in
-      ap₂ from-point (ap (numbers 32 2) a ∙ numbers-fields 32 (omega arith) (x ∷ y ∷ []) (fields w (steps x y l) ++ more) d) (steps-back (x ∷ y ∷ l) (suc k) e h c)
-      ∙ ap (λ (q : List ℤ). x ∷ y ∷ q) (sums-steps x y l)
-
--- what is read of n points
-module _ (w : ℕ) (t : List Bool) where
-  points-length : (n : ℕ) → length (points-of-width n w t) ≡ 2 * n
-  unfolding numbers
-  points-length zero = refl
-  points-length (suc k) =
-      omega (
-        arith,
-        sums-length (signed 32 (value (take 32 t))) (signed 32 (value (take 32 (drop 32 t)))) (numbers w (2 * k) (drop 64 t)),
-        numbers-length w (2 * k) (drop 64 t),
-      )
-
-  points-steps : (n : ℕ) → differences (points-of-width n w t) ≡ steps-in n w t
-  unfolding numbers
-  points-steps zero = refl
-  points-steps (suc k) = steps-sums _ _ (numbers w (2 * k) (drop 64 t))
-
-  body-back : (n : ℕ) → 0 < w → body-size n w ≤ length t → fields 32 (take 2 (points-of-width n w t)) ++ fields w (steps-in n w t) ≡ take (body-size n w) t
-  unfolding numbers fields
-  body-back zero h e = refl
-  body-back (suc k) h e =
-      ap₂ (λ (a b : List Bool). a ++ b)
-      (fields-numbers 32 (omega arith) 2 t (omega arith))
-      (fields-numbers w h (2 * k) (drop 64 t) (omega (arith, length-drop 64 t)))
-      ∙ sym (take-add 64 (w * (2 * k)) t)
-
-  point-fits : (n : ℕ) → body-size n w ≤ length t → all-fit 32 (take 2 (points-of-width n w t)) ≡ true
-  unfolding numbers all-fit
-  point-fits zero e = refl
-  point-fits (suc k) e = numbers-fit 32 (omega arith) 2 t (omega arith)
-
-  steps-fit : (n : ℕ) → 0 < w → w ≤ 32 → body-size n w ≤ length t → all-fit 32 (steps-in n w t) ≡ true
-  unfolding all-fit
-  steps-fit zero h s e = refl
-  steps-fit (suc k) h s e = all-fit-wider (numbers w (2 * k) (drop 64 t)) w 32 s (numbers-fit w h (2 * k) (drop 64 t) (omega (arith, length-drop 64 t)))
 
 -- a contour that edition 2 can hold, behind n points
 pub record Held (first : Bool) (n : ℕ) (e : Entry) : Type 0 where
@@ -111,16 +36,20 @@ pub record Held (first : Bool) (n : ℕ) (e : Entry) : Type 0 where
   pub point : all-fit 32 (take 2 (e .points)) ≡ true
   pub near : all-fit 32 (differences (e .points)) ≡ true
 
--- the width of differences that fit 32 bits
-module _ (ds : List ℤ) where
-  width-some : 0 < width-of ds
-  width-some = smallest-some (λ (v : ℕ). all-fit v ds) 31
-
-  width-within-32 : width-of ds ≤ 32
-  width-within-32 = smallest-few (λ (v : ℕ). all-fit v ds) 31
-
-  width-fitting : all-fit 32 ds ≡ true → all-fit (width-of ds) ds ≡ true
-  width-fitting h = smallest-passes (λ (v : ℕ). all-fit v ds) 31 h
+pub contour-bits-length : (e : Entry) → length (e .points) ≡ 2 * count (e .points) → length (contour-bits e) ≡ 22 + body-size (count (e .points)) (contour-width (e .points))
+contour-bits-length e h =
+    let p : List ℤ = e .points in
+    let w : ℕ = contour-width p in
+    length-append (field 1 (digit (e .begins))) (field 15 (count p) ++ (field 6 w ++ body p))
+    ∙ omega (
+      arith,
+      field-length 1 (digit (e .begins)),
+      length-append (field 15 (count p)) (field 6 w ++ body p),
+      field-length 15 (count p),
+      length-append (field 6 w) (body p),
+      field-length 6 w,
+      body-length p (count p) w h,
+    )
 
 back : (first : Bool) (n : ℕ) (e : Entry) (more : List Bool) → Held first n e → Back edition-2 first n e more
 back first n e more g =
@@ -140,17 +69,7 @@ back first n e more g =
     let d : drop 16 whole ≡ field 6 w ++ rest = ap (drop 16) a ∙ head-gone (e .begins) (count p) (field 6 w ++ rest) (g .short) in
     let v : width-in whole ≡ w = ap (λ (l : List Bool). value (take 6 l)) d ∙ front-value 6 w rest (omega arith) in
     let z : drop 22 whole ≡ rest = sym (drop-drop 6 16 whole) ∙ ap (drop 6) d ∙ front-gone 6 w rest in
-    let own : length (contour-bits e) ≡ 22 + body-size (count p) w =
-    length-append (field 1 (digit (e .begins))) (field 15 (count p) ++ (field 6 w ++ body p))
-    ∙ omega (
-      arith,
-      field-length 1 (digit (e .begins)),
-      length-append (field 15 (count p)) (field 6 w ++ body p),
-      field-length 15 (count p),
-      length-append (field 6 w) (body p),
-      field-length 6 w,
-      body-length p (count p) w (g .even),
-    ) in
+    let own : length (contour-bits e) ≡ 22 + body-size (count p) w = contour-bits-length e (g .even) in
     let long : length whole ≡ length (contour-bits e) + length more = length-append (contour-bits e) more in
     let s : contour-size whole ≡ 22 + body-size (count p) w = ap₂ (λ (m k : ℕ). 22 + body-size m k) h v in
     let ds : steps-in (points-in whole) (width-in whole) (drop 22 whole) ≡ differences p =

@@ -1,8 +1,11 @@
 pub mod LayoutLaws
 pub mod EditionLaws
-pub mod StepLaws
 pub mod Edition2Laws
+pub mod ContourLaws
+pub mod HeaderLaws
+pub mod EitherLaws
 pub mod EditionsLaws
+pub mod HoldLaws
 pub mod ByteLaws
 pub mod RoundTrip
 pub mod GatherLaws
@@ -19,9 +22,14 @@ pub mod ShapeFillLaws
 pub mod ReadingLaws
 pub mod WriteLaws
 pub mod CodedLaws
+pub mod MeasureLaws
+pub mod PutLaws
 pub mod RefusedLaws
 pub mod OutcomeLaws
+pub mod Outcome2Laws
 pub mod Cases
 pub mod WriteCases
+pub mod Writing2Cases
 pub mod Edition2Cases
+pub mod Edition2Theorems
 pub mod Theorems

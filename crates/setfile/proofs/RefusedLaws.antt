@@ -1,23 +1,20 @@
 -- Where the refusals of a set stop, as the writer asks for them.
 use mathlib.Core.Path.{_≡_, refl, sym, _∙_, ap}
-use mathlib.Core.Bool.{Bool, true, false, _&&_, _||_, or-assoc, or-false}
-use mathlib.Core.List.{List, [], _++_}
-use Prim.Native.Nat.{ℕ, suc, _+_, _-_, _%_, _<_, _≤_}
+use mathlib.Core.Bool.{Bool, true, false, _&&_, _||_}
+use mathlib.Core.List.{List, _++_}
+use Prim.Native.Nat.{ℕ, _%_, _<_, _≤_}
 use native.Mathlib.Omega.{arith}
-use native.Mathlib.Numerals.{add-one}
-use lib.Dec.{eqb, ltb, leb}
-use lib.ListN.{length, getD, drop, drop-of-length-le}
-use lib.Seq.{drop-cons}
+use lib.Dec.{eqb, ltb}
+use lib.ListN.{length}
 use lib.IntN.{ℤ}
-use borrow.Author.Tests.{eq-eqb, ne-eqb, lt-ltb, le-ltb, leb-true, leb-false}
+use borrow.Author.Tests.{eq-eqb, ne-eqb, lt-ltb, le-ltb}
 use Rattle.integers.proofs.Logic.{and-left}
 use Rattle.grid.specs.Limits.{narrow, most}
 use Rattle.replies.specs.Ladder.{Rung, first-of}
 use Rattle.grid.specs.Domain.{count, off}
 use Rattle.replies.proofs.LadderLaws.{First, first-is, stopped, onward, found}
 use Rattle.replies.proofs.LadderLaws.First.{here, past, foot}
-use Rattle.buffer.specs.declared.ranges.Span.{Span}
-use Rattle.buffer.specs.Spans.{span, spans, sound, size}
+use Rattle.buffer.specs.Spans.{spans, sound}
 use Rattle.buffer.specs.Refusals.{unsound, set}
 use Rattle.buffer.proofs.RefusalLaws.{accepted}
 use Rattle.buffer.proofs.RowLaws.{spans-length}
@@ -25,27 +22,6 @@ use Rattle.setfile.specs.Format.{file-length}
 use Rattle.setfile.specs.Reading.{most-bytes}
 use Rattle.setfile.specs.Writing.{most-contours, most-points, some-over, some-empty, uncarried, refusals}
 use Rattle.setfile.proofs.CarryLaws.{over-in}
-
--- a span that does not run forward is empty
-empty-is : (s : Span) → leb (s .end) (s .start) ≡ eqb (size s) 0
-empty-is s = go (leb (s .end) (s .start)) refl
-  where
-    go : (b : Bool) → leb (s .end) (s .start) ≡ b → b ≡ eqb (size s) 0
-    go true e = sym (eq-eqb (size s) 0 (omega (arith, leb-true (s .end) (s .start) e)))
-    go false e = sym (ne-eqb (size s) 0 (λ z. omega (arith, leb-false (s .end) (s .start) e)))
-
--- a row of ranges read from its front: so far, and what is left
-module _ (rows : List (List ℕ)) (i : ℕ) (some : Bool) where
-  pub empty-more : i < length rows
-      → (some || some-empty (spans (drop i rows))) ≡ ((some || leb (getD (getD rows i []) 1 0) (getD (getD rows i []) 0 0)) || some-empty (spans (drop (i + 1) rows)))
-  unfolding some-empty
-  empty-more h =
-      rw (drop-cons rows i [] h, add-one i, empty-is (span (getD rows i [])))
-      (sym (or-assoc some (eqb (size (span (getD rows i []))) 0) (some-empty (spans (drop (suc i) rows)))))
-
-  pub empty-done : length rows ≤ i → (some || some-empty (spans (drop i rows))) ≡ some
-  unfolding some-empty
-  empty-done h = rw (drop-of-length-le rows {i = i} h) (or-false some)
 
 without : (a b c : Bool) → b ≡ false → (a || b || c) ≡ (a || c)
 without true b c e = refl

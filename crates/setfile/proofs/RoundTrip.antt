@@ -33,6 +33,7 @@ use Rattle.setfile.proofs.EditionLaws.{Held, edition-1-is-faithful, eve
 use Rattle.setfile.proofs.ByteLaws.{dropped, front-is, size-in-bytes, none-arrived, next-arrived, come-by-bytes}
 use Rattle.setfile.proofs.ReadLaws.{Right, parsed-right, parsed-numbered}
 use Rattle.setfile.proofs.CodedLaws.{none-coded, coded-next}
+use Rattle.setfile.proofs.HoldLaws.{all-even, all-short, first-started}
 
 -- a coordinate fits 32 bits
 each-fits : (c : List ℤ) → Each (SFits w32) c → all-fit 32 c ≡ true
@@ -56,21 +57,9 @@ all-held (e ∷ l) first n a b s h = (
   all-held l false (n + count (e .points)) (a .1) (b .1) never-first (h .1),
 )
 
-all-even : (l : List Entry) (first : Bool) (n : ℕ) → All Held first n l → Even (contours-of l)
-all-even [] first n h = tt
-all-even (e ∷ l) first n h = (h .0 .even, all-even l false (n + count (e .points)) (h .1))
-
-all-short : (l : List Entry) (first : Bool) (n : ℕ) → All Held first n l → Short (contours-of l)
-all-short [] first n h = tt
-all-short (e ∷ l) first n h = (h .0 .short, all-short l false (n + count (e .points)) (h .1))
-
 all-fitting : (l : List Entry) (first : Bool) (n : ℕ) → All Held first n l → Each (Each (SFits w32)) (contours-of l)
 all-fitting [] first n h = tt
 all-fitting (e ∷ l) first n h = (fits-each (e .points) (h .0 .fitting), all-fitting l false (n + count (e .points)) (h .1))
-
-first-started : (l : List Entry) (n : ℕ) → All Held true n l → Started l
-first-started [] n h = tt
-first-started (e ∷ l) n h = h .0 .begun refl
 
 pub read-back : (l : List Entry) → Carried l → parsed (file l) ≡ carries l
 unfolding file parsed
@@ -96,10 +85,10 @@ module _ (f : List ℕ) (h : Bytes f) (l : List Entry) (e : parsed f ≡ carries
   read-carried = record {
     small = record {
       few = what-is-read-is-few edition-1 Held edition-1-is-faithful f h (right .long) l (right .reads);
-      even = all-even l true 0 all;
-      short = all-short l true 0 all;
+      even = all-even false l true 0 all;
+      short = all-short false l true 0 all;
     };
-    started = first-started l 0 all;
+    started = first-started false l 0 all;
     fitting = all-fitting l true 0 all;
   }
 

@@ -11,8 +11,11 @@ use Rattle.buffer.specs.Spans.{row, rows, laid}
 use Rattle.buffer.specs.Sets.{shape-spans}
 use Rattle.setfile.specs.declared.inner.filling.Open.{Open}
 use Rattle.setfile.specs.Entries.{Entry, entry, shapes-of, gathered}
-use Rattle.setfile.specs.inside.Bytes.{decoded, starts, held}
-use Rattle.setfile.specs.inside.Reading.{contained, Readable, next-open, closed}
+use Rattle.setfile.specs.Editions.{layout}
+use Rattle.setfile.specs.Format.{begins}
+use Rattle.setfile.specs.declared.inner.headers.Header.{Header}
+use Rattle.setfile.specs.inside.Reading.{contained, from-bit, header-in, size-of, front-points, Readable, next-open, closed}
+use Rattle.setfile.proofs.ContourLaws.{size-is, front-is}
 use Rattle.setfile.proofs.RestLaws.{Rest, Next, next, done, rest-all}
 use Rattle.setfile.proofs.AheadLaws.{Ahead, ahead-one, ahead-none}
 use Rattle.buffer.proofs.SetLaws.{laid-length}
@@ -49,7 +52,7 @@ first-shape c l =
     ap (λ (k : ℕ). rows (laid 0 (k ∷ map length (shapes-of l)))) a
 
 -- one contour more
-module _ {f : List ℕ} {n i at : ℕ} (s : Open) {row₀ wanted now : List (List ℕ)} (x : Filling f n row₀ wanted (shapes-made (s .from) i) i at (s .number) now) (h : s .from ≤ i) where
+module _ {second : Bool} {f : List ℕ} {n i at : ℕ} (s : Open) {row₀ wanted now : List (List ℕ)} (x : Filling second f n row₀ wanted (shapes-made (s .from) i) i at (s .number) now) (h : s .from ≤ i) where
   pub shapes-room : s .number < length now
   unfolding laid
   shapes-room = omega (arith, x .ahead .room)
@@ -60,32 +63,33 @@ module _ {f : List ℕ} {n i at : ℕ} (s : Open) {row₀ wanted now : List (Lis
 
   -- as a contour that begins a shape or not leaves it
   abbrev Met : Open → ℕ → List (List ℕ) → Type 0
-  Met t k new = Filling f n row₀ wanted (shapes-made (t .from) (i + 1)) (i + 1) (at + (2 + 8 * k)) (t .number) new
+  Met t z new = Filling second f n row₀ wanted (shapes-made (t .from) (i + 1)) (i + 1) (at + z) (t .number) new
 
-  shapes-more : i < n → (b : Bool) → b ≡ starts (drop at f) → (k : ℕ) → k ≡ held (drop at f) → Met (next-open b s i) k (closed b s i now)
-  shapes-more l b e k q = go b (subst (λ (t : Bool). From-here (shapes-made (s .from) i (entry t c ∷ rest))) (sym e) (to-come x l))
-    where
-      c : List ℤ
-      c = decoded (2 * held (drop at f)) (drop 2 (drop at f))
+  module _ (l : i < n) (k : Header) (q : k ≡ header-in second (from-bit f at)) (z : ℕ) (g : z ≡ size-of second k) where
+    shapes-more : Met (next-open (k .begins) s i) z (closed (k .begins) s i now)
+    shapes-more = go (k .begins) (subst (λ (e : Entry). From-here (shapes-made (s .from) i (e ∷ rest))) (front-is second (from-bit f at) ∙ ap (λ (b : Bool). entry b c) (sym (ap (λ (k : Header). k .begins) q))) (to-come x l))
+      where
+        c : List ℤ
+        c = front-points second (from-bit f at)
 
-      rest : List Entry
-      rest = coming x l .rest
+        rest : List Entry
+        rest = coming x l .rest
 
-      go : (b : Bool) → From-here (shapes-made (s .from) i (entry b c ∷ rest)) → Met (next-open b s i) k (closed b s i now)
-      go true a =
-          let d : From-here ((s .from ∷ i ∷ []) ∷ shapes-made i (i + 1) rest) = subst From-here (shape-ends (s .from) i c rest h) a in
-          filled x l (shapes-made i (i + 1)) (s .number + 1) _ (ahead-one (s .from ∷ i ∷ []) (s .from ∷ i ∷ []) (shapes-made i (i + 1) rest) (s .number + 1) refl refl d) k q
-      go false a = filled x l (shapes-made (s .from) (i + 1)) (s .number) now (subst From-here (shape-goes-on (s .from) i c rest h) a) k q
+        go : (b : Bool) → From-here (shapes-made (s .from) i (entry b c ∷ rest)) → Met (next-open b s i) z (closed b s i now)
+        go true a =
+            let d : From-here ((s .from ∷ i ∷ []) ∷ shapes-made i (i + 1) rest) = subst From-here (shape-ends (s .from) i c rest h) a in
+            filled x l (shapes-made i (i + 1)) (s .number + 1) _ (ahead-one (s .from ∷ i ∷ []) (s .from ∷ i ∷ []) (shapes-made i (i + 1) rest) (s .number + 1) refl refl d) k q z g
+        go false a = filled x l (shapes-made (s .from) (i + 1)) (s .number) now (subst From-here (shape-goes-on (s .from) i c rest h) a) k q z g
 
-  -- the same, as the code leaves it
-  pub shapes-next : i < n → (b : Bool) → b ≡ starts (drop at f) → (k : ℕ) → k ≡ held (drop at f) → (t : Open) (new : List (List ℕ)) → t ≡ next-open b s i → new ≡ closed b s i now
-      → (t .from ≤ i + 1) × Filling f n row₀ wanted (shapes-made (t .from) (i + 1)) (i + 1) (at + (2 + 8 * k)) (t .number) new
-  shapes-next l b e k q t new u v =
-      subst (λ (t : Open). (t .from ≤ i + 1) × Met t k new) (sym u) (from-there b, subst (Met (next-open b s i) k) (sym v) (shapes-more l b e k q))
-    where
-      from-there : (b : Bool) → next-open b s i .from ≤ i + 1
-      from-there true = omega arith
-      from-there false = omega arith
+    -- the same, as the code leaves it
+    pub shapes-next : (t : Open) (new : List (List ℕ)) → t ≡ next-open (k .begins) s i → new ≡ closed (k .begins) s i now
+        → (t .from ≤ i + 1) × Filling second f n row₀ wanted (shapes-made (t .from) (i + 1)) (i + 1) (at + z) (t .number) new
+    shapes-next t new u v =
+        subst (λ (t : Open). (t .from ≤ i + 1) × Met t z new) (sym u) (from-there (k .begins), subst (Met (next-open (k .begins) s i) z) (sym v) shapes-more)
+      where
+        from-there : (b : Bool) → next-open b s i .from ≤ i + 1
+        from-there true = omega arith
+        from-there false = omega arith
 
   pub shapes-done : i ≡ n → set now (s .number) (s .from ∷ n ∷ []) ≡ wanted
   shapes-done e =
@@ -96,22 +100,22 @@ pub shapes-laid : (l : List Entry) → length (shape-spans (shapes-of l)) ≡ le
 shapes-laid l = laid-length 0 (map length (shapes-of l)) ∙ length-map (shapes-of l) length
 
 -- behind the first contour
-pub shapes-first : (f : List ℕ) (n : ℕ) (row₀ : List (List ℕ)) → Readable f n → 0 < n → length (shapes-of (contained f)) ≤ length row₀ → (k : ℕ) → k ≡ held (drop 2 f)
-    → Filling f n row₀ (front (rows (shape-spans (shapes-of (contained f)))) row₀) (shapes-made 0 1) 1 (2 + (2 + 8 * k)) 0 row₀
-shapes-first f n row₀ r h room k q =
-    let x : Next f n 0 2 (contained f) = next (rest-all r) h in
-    let c : List ℤ = decoded (2 * held (drop 2 f)) (drop 2 (drop 2 f)) in
+pub shapes-first : (s : Bool) (f : List ℕ) (n : ℕ) (row₀ : List (List ℕ)) → Readable s f n → 0 < n → length (shapes-of (contained f)) ≤ length row₀ → (k : Header) → k ≡ header-in s (from-bit f 16) → (z : ℕ) → z ≡ size-of s k
+    → Filling s f n row₀ (front (rows (shape-spans (shapes-of (contained f)))) row₀) (shapes-made 0 1) 1 (16 + z) 0 row₀
+shapes-first s f n row₀ r h room k q z g =
+    let x : Next s f n 0 16 (contained f) = next (rest-all r) h in
+    let c : List ℤ = front-points s (from-bit f 16) in
     let all : List (List ℕ) = rows (shape-spans (shapes-of (contained f))) in
-    let e : contained f ≡ entry true c ∷ x .rest = x .is ∙ ap (λ (b : Bool). entry b c ∷ x .rest) (x .begun refl) in
+    let e : contained f ≡ entry true c ∷ x .rest = x .is ∙ ap (λ (e : Entry). e ∷ x .rest) (front-is s (from-bit f 16) ∙ ap (λ (b : Bool). entry b c) (x .begun refl)) in
     let d : all ≡ shapes-made 0 1 (x .rest) = ap (λ (l : List Entry). rows (shape-spans (shapes-of l))) e ∙ first-shape c (x .rest) in
     let m : length all ≡ length (shapes-of (contained f)) = length-map (shape-spans (shapes-of (contained f))) row ∙ shapes-laid (contained f) in
     record {
       rest = x .rest;
-      due = subst (λ (k : ℕ). Rest f n 1 (2 + (2 + 8 * k)) (x .rest)) (sym q) (x .due);
+      due = subst (λ (y : ℕ). Rest s f n 1 (16 + y) (x .rest)) (size-is s (from-bit f 16) ∙ ap (size-of s) (sym q) ∙ sym g) (x .due);
       ahead = subst (λ (l : List (List ℕ)). Ahead row₀ (front all row₀) 0 l row₀) d (ahead-front row₀ all (omega arith));
     }
 
 -- no contours
-pub no-shapes : {f : List ℕ} (row : List (List ℕ)) → Readable f 0 → row ≡ front (rows (shape-spans (shapes-of (contained f)))) row
+pub no-shapes : {s : Bool} {f : List ℕ} (row : List (List ℕ)) → Readable s f 0 → row ≡ front (rows (shape-spans (shapes-of (contained f)))) row
 unfolding gathered laid
 no-shapes row r = sym (ap (λ (l : List Entry). front (rows (shape-spans (shapes-of l))) row) (done (rest-all r) refl))

@@ -1,10 +1,10 @@
 pub mod Entries
 pub mod Layouts
 pub mod Format
-pub mod Steps
 pub mod Edition2
+pub mod Editions
 pub mod Reading
 pub mod Writing
-pub mod Editions
+pub mod Writing2
 pub mod Promises
 pub mod inside

@@ -1,38 +1,53 @@
 // Reading a file into the rows of a set.
 ghost use mathlib.Core.Path.{_≡_};
-ghost use Rattle.buffer.specs.Answers.{leaving};
-ghost use Rattle.setfile.specs.Reading.{outcome};
+ghost use Rattle.setfile.specs.Reading.{leaving, outcome};
+use crate::answer::Read;
 use crate::inner::filling;
+use crate::inner::head;
 use crate::inner::judging;
-use buffer::Packed;
 
-// Reads the set that a file carries to the front of the rows, or refuses it and leaves them.
+// Nothing was read.
+fn refused(reply: u32) -> Read
+    ensures { λ r. ⌜ r ≡ record { reply = reply; edition = 0; points = 0; contours = 0; shapes = 0 } ⌝ }
+{
+    Read {
+        reply,
+        edition: 0,
+        points: 0,
+        contours: 0,
+        shapes: 0,
+    }
+}
+
+// Reads the set that a file of either edition carries to the front of the rows, or refuses it and leaves them.
 pub fn read(
     bytes: &[u8],
     out: &mut [i32],
     records: &mut [[usize; 2]],
     groups: &mut [[usize; 2]],
-) -> Packed
+) -> Read
     ensures { λ r. ⌜
         leaving r (now (out .exit)) (now (records .exit)) (now (groups .exit))
         ≡ outcome (now (bytes .entry)) (now (out .entry)) (now (records .entry)) (now (groups .entry))
         ⌝ }
 {
-    let file = judging::judge(bytes);
-    let room = (file.numbers <= out.len())
+    let second = head::is_second(bytes);
+    let file = judging::judge(second, bytes);
+    let room = (file.points <= out.len() / 2)
         & (file.contours <= records.len())
         & (file.shapes <= groups.len());
     let first = replies::or_room(file.reply, room);
     if first != 0 {
-        return buffer::answer::refused(first);
+        return refused(first);
     }
     let n = file.contours;
-    filling::points(bytes, n, out);
-    filling::contours(bytes, n, records);
-    filling::shapes(bytes, n, groups);
-    Packed {
+    filling::points(second, bytes, n, out);
+    filling::ranges(second, bytes, n, records);
+    filling::shapes(second, bytes, n, groups);
+    Read {
         reply: replies::DONE,
-        points: file.numbers / 2,
+        edition: head::number(second),
+        points: file.points,
         contours: n,
         shapes: file.shapes,
     }

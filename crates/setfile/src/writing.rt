@@ -1,17 +1,15 @@
-// The writer: a set's file, or the number of the set's first refusal.
+// The writer of edition 1: a set's file, or the number of the set's first refusal.
 ghost use mathlib.Core.Path.{_≡_};
 ghost use lib.ListN.{length};
 ghost use Rattle.replies.specs.Ladder.{first-of};
 ghost use Rattle.grid.specs.Domain.{count};
-ghost use Rattle.buffer.specs.Spans.{spans};
 ghost use Rattle.setfile.specs.Format.{file-length};
-ghost use Rattle.setfile.specs.Writing.{some-empty, refusals, leaving, outcome};
+ghost use Rattle.setfile.specs.Writing.{refusals, leaving, outcome};
 use crate::MOST_BYTES;
+use crate::MOST_CONTOURS;
 use crate::answer::Written;
+use crate::inner::measuring;
 use crate::inner::putting;
-
-// The most contours of a file.
-const MOST_CONTOURS: usize = 4_095;
 
 // How many bytes the file of a set has.
 fn file_length(points: &[i32], contours: &[[usize; 2]]) -> usize
@@ -20,21 +18,6 @@ fn file_length(points: &[i32], contours: &[[usize; 2]]) -> usize
         ⌝ }
 {
     2 + 2 * contours.len() + 8 * (points.len() / 2)
-}
-
-// Whether one of the ranges is empty.
-fn some_empty(ranges: &[[usize; 2]]) -> bool
-    ensures { λ r. ⌜ r ≡ some-empty (spans (now (ranges .entry))) ⌝ }
-{
-    let mut some = false;
-    let mut i: usize = 0;
-    while i < ranges.len() {
-        let start = ranges[i][0];
-        let end = ranges[i][1];
-        some = some | (end <= start);
-        i += 1;
-    }
-    some
 }
 
 // What is refused of a set: 0, or the number of its first refusal. Too many points, or too many in a contour, make too long a file.
@@ -53,8 +36,8 @@ fn refused(points: &[i32], contours: &[[usize; 2]], shapes: &[[usize; 2]]) -> u3
     if set != 0 {
         return set;
     }
-    let empty = some_empty(shapes);
-    if (MOST_CONTOURS < contours.len()) | empty {
+    let filled = measuring::longer(shapes, 0);
+    if (MOST_CONTOURS < contours.len()) | (filled < shapes.len()) {
         return replies::CANT_CARRY;
     }
     replies::DONE
@@ -87,10 +70,9 @@ pub fn write(
             bytes: 0,
         };
     }
-    let behind = putting::put_pair(4_096 + contours.len(), bytes, 0);
-    putting::put_shapes(points, contours, shapes, bytes, behind);
+    let written = putting::put_file(false, points, contours, shapes, bytes);
     Written {
         reply: replies::DONE,
-        bytes: length,
+        bytes: written,
     }
 }

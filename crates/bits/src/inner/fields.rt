@@ -3,7 +3,7 @@ ghost use mathlib.Core.Path.{_≡_};
 ghost use Prim.Native.Nat.{_+_, _*_, _^_, _<_, _≤_, min};
 ghost use lib.ListN.{length, getD, drop, take};
 ghost use Rattle.bits.specs.Bits.{value, bits};
-ghost use Rattle.bits.specs.inside.Words.{word as word-of, Within};
+ghost use Rattle.bits.specs.inside.Words.{word as word-of, Within, Ahead};
 
 // One byte more, behind those of n.
 fn more(n: u64, b: u64) -> u64
@@ -67,6 +67,16 @@ pub fn long_number(bytes: &[u8], at: usize, width: usize) -> u64
 {
     let from = smaller(at / 8, bytes.len() - 8);
     (eight(bytes, from) << (at - 8 * from)) >> (64 - width)
+}
+
+// A word that begins with the `width` bits from bit `at` on, of which and of those before it there are 64: cut out of the eight
+// bytes that end with it, so that none behind it is read.
+pub fn ahead(bytes: &[u8], at: usize, width: usize) -> u64
+    requires { ⌜ Within (now bytes) at width × (64 ≤ at + width) × (at < 2 ^ 63) ⌝ }
+    ensures { λ r. ⌜ Ahead (now (bytes .entry)) at width r ⌝ }
+{
+    let end = at + width - 1;
+    eight(bytes, end / 8 - 7) << (end % 8 + (57 - width))
 }
 
 // The number in the `width` bits from bit `at` on.

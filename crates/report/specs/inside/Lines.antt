@@ -1,8 +1,8 @@
 -- What the inner functions say to each other.
 use mathlib.Core.Path.{_≡_}
-use mathlib.Core.Bool.{true, false}
+use mathlib.Core.Bool.{Bool, true, false}
 use mathlib.Core.List.{List, [], _∷_, _++_}
-use Prim.Native.Nat.{ℕ, _+_, _≤_}
+use Prim.Native.Nat.{ℕ, _+_, _*_, _≤_}
 use lib.Dec.{eqb}
 use lib.ListN.{length}
 use lib.IntN.{ℤ}
@@ -10,11 +10,9 @@ use Rattle.grid.specs.Domain.{count, Contour}
 use Rattle.clean.specs.declared.cleaning.Cleaned.{Cleaned}
 use Rattle.rows.specs.Rows.{placed}
 use Rattle.buffer.specs.Sets.{joined}
-use Rattle.setfile.specs.Entries.{contours-of}
-use Rattle.setfile.specs.Reading.{most-bytes}
-use Rattle.setfile.specs.inside.Reading.{contained, Readable}
+use Rattle.setfile.specs.inside.Reading.{Readable}
 use Rattle.report.specs.Text.{decimal, dash, space, line-end}
-use Rattle.report.specs.Listing.{area2}
+use Rattle.report.specs.Listing.{area2, most-listed, job}
 
 -- a word was put into a text from position at on, and end is where it ends
 pub record Put (at : ℕ) (word text : List ℕ) (end : ℕ) (exit : List ℕ) : Type 0 where
@@ -38,23 +36,23 @@ abbrev pub Contours : List (List ℤ) → Type 0
 Contours [] = Unit {0}
 Contours (c ∷ l) = Contour c (count c) × Contours l
 
--- a contour of the domain, with as few points as a file can carry and room for cleaning it
+-- a contour of the domain, with so few points, and room for cleaning it
 pub record Cleanable (c : List ℤ) (next prev mark : List ℕ) : Type 0 where
   pub contour : Contour c (count c)
-  pub few : count c ≤ 8191
+  pub few : count c ≤ most-listed
   pub in-next : count c ≤ length next
   pub in-prev : count c ≤ length prev
   pub in-mark : count c ≤ length mark
 
 -- a file of n contours that is not refused
-pub record Listable (f : List ℕ) (n : ℕ) : Type 0 where
-  pub readable : Readable f n
-  pub few : length f ≤ most-bytes
-  pub sound : Contours (contours-of (contained f))
+pub record Listable (second : Bool) (f : List ℕ) (n : ℕ) : Type 0 where
+  pub readable : Readable second f n
+  pub few : length (joined (job f)) ≤ 2 * most-listed
+  pub sound : Contours (job f)
 
--- room for the points of any file, and for cleaning them
+-- room for the points of such a file, and for cleaning them
 pub record Roomy (points : List ℤ) (next prev mark : List ℕ) : Type 0 where
-  pub in-points : 16382 ≤ length points
-  pub in-next : 8191 ≤ length next
-  pub in-prev : 8191 ≤ length prev
-  pub in-mark : 8191 ≤ length mark
+  pub in-points : 2 * most-listed ≤ length points
+  pub in-next : most-listed ≤ length next
+  pub in-prev : most-listed ≤ length prev
+  pub in-mark : most-listed ≤ length mark

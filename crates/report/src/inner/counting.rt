@@ -1,20 +1,30 @@
-// What cleaning a contour of its collinear points answers. A listing shows no point that is kept, so none is written.
+// What cleaning a contour answers. A listing shows no point that is kept, so none is written.
 ghost use mathlib.Core.Path.{_≡_};
 ghost use mathlib.Core.List.{[]};
 ghost use Prim.Native.Nat.{_<_, _≤_};
 ghost use lib.ListN.{length};
 ghost use Rattle.grid.specs.Domain.{Contour};
-ghost use Rattle.ring.specs.declared.Rule as R;
 ghost use Rattle.ring.specs.Walk.{survivors as survivors-of};
 ghost use Rattle.ring.specs.Rule.{goes};
 ghost use Rattle.ring.specs.inside.Rows.{FirstStand};
 ghost use Rattle.clean.specs.inside.Settling.{alone};
+ghost use Rattle.report.specs.Listing.{rule-of};
 use clean::Cleaned;
 use ring::Rule;
 
-// How many positions survive. A file has so few points that 16 bits count them, eight at a time.
+// The rule of an edition.
+fn rule(second: bool) -> Rule
+    ensures { λ r. ⌜ r ≡ rule-of second ⌝ }
+{
+    if second {
+        return Rule::Spike;
+    }
+    Rule::Collinear
+}
+
+// How many positions survive. There are so few points that 16 bits count them, eight at a time.
 fn survivors(mark: &[u8]) -> usize
-    requires { ⌜ length (now mark) ≤ 8191 ⌝ }
+    requires { ⌜ length (now mark) ≤ 8192 ⌝ }
     ensures { λ r. ⌜ r ≡ length (survivors-of (now (mark .entry))) ⌝ }
 {
     let mut kept: u16 = 0;
@@ -32,6 +42,7 @@ fn survivors(mark: &[u8]) -> usize
 
 // The answer of the walk of a contour of three points or more, of which the first `standing` stand.
 fn walked(
+    second: bool,
     contour: &[i32],
     standing: usize,
     next: &mut [u32],
@@ -42,12 +53,12 @@ fn walked(
     requires { ⌜ (length (now next) ≡ length (now mark)) × (length (now prev) ≡ length (now mark)) ⌝ }
     requires { ⌜
         (standing < length (now mark))
-        × FirstStand (goes R.Rule.Collinear (now contour)) (length (now mark)) standing
+        × FirstStand (goes (rule-of second) (now contour)) (length (now mark)) standing
         ⌝ }
-    requires { ⌜ length (now mark) ≤ 8191 ⌝ }
-    ensures { λ r. ⌜ r ≡ alone R.Rule.Collinear (now (contour .entry)) [] .answer ⌝ }
+    requires { ⌜ length (now mark) ≤ 8192 ⌝ }
+    ensures { λ r. ⌜ r ≡ alone (rule-of second) (now (contour .entry)) [] .answer ⌝ }
 {
-    let ending = ring::inner::walk(Rule::Collinear, contour, standing, next, prev, mark);
+    let ending = ring::inner::walk(rule(second), contour, standing, next, prev, mark);
     let decisions = ending.decisions;
     if ending.kept {
         let points = survivors(mark);
@@ -68,11 +79,17 @@ fn walked(
 }
 
 // The answer of any contour, with scratch of exactly its points' count. Where all points stand nothing is linked.
-pub fn answer(contour: &[i32], next: &mut [u32], prev: &mut [u32], mark: &mut [u8]) -> Cleaned
+pub fn answer(
+    second: bool,
+    contour: &[i32],
+    next: &mut [u32],
+    prev: &mut [u32],
+    mark: &mut [u8],
+) -> Cleaned
     requires { ⌜ Contour (now contour) (length (now mark)) ⌝ }
     requires { ⌜ (length (now next) ≡ length (now mark)) × (length (now prev) ≡ length (now mark)) ⌝ }
-    requires { ⌜ length (now mark) ≤ 8191 ⌝ }
-    ensures { λ r. ⌜ r ≡ alone R.Rule.Collinear (now (contour .entry)) [] .answer ⌝ }
+    requires { ⌜ length (now mark) ≤ 8192 ⌝ }
+    ensures { λ r. ⌜ r ≡ alone (rule-of second) (now (contour .entry)) [] .answer ⌝ }
 {
     let n = mark.len();
     if n < 3 {
@@ -83,7 +100,7 @@ pub fn answer(contour: &[i32], next: &mut [u32], prev: &mut [u32], mark: &mut [u
             turns: 0,
         };
     }
-    let standing = ring::inner::standing(Rule::Collinear, contour, n);
+    let standing = ring::inner::standing(rule(second), contour, n);
     if standing == n {
         return Cleaned {
             reply: replies::DONE,
@@ -92,5 +109,5 @@ pub fn answer(contour: &[i32], next: &mut [u32], prev: &mut [u32], mark: &mut [u
             turns: n,
         };
     }
-    walked(contour, standing, next, prev, mark)
+    walked(second, contour, standing, next, prev, mark)
 }

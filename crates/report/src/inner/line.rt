@@ -4,7 +4,7 @@ ghost use mathlib.Core.List.{_++_};
 ghost use lib.ListN.{length};
 ghost use Rattle.grid.specs.Domain.{count, Contour};
 ghost use Rattle.report.specs.Text.{space, line-end};
-ghost use Rattle.report.specs.Listing.{area2, line};
+ghost use Rattle.report.specs.Listing.{area2, line, rule-of};
 ghost use Rattle.report.specs.inside.Lines.{Put, cell, kept-text, figures, Cleanable};
 use crate::inner::counting;
 use crate::inner::text;
@@ -67,8 +67,9 @@ fn put_figures(text: &mut [u8], at: usize, k: usize, contour: &[i32], cleaned: C
     put_area(text, fifth, contour)
 }
 
-// Cleans contour number `k`, and puts its line.
+// Cleans contour number `k` of a file of this edition, and puts its line.
 pub fn put(
+    second: bool,
     contour: &[i32],
     k: usize,
     next: &mut [u32],
@@ -78,12 +79,18 @@ pub fn put(
     at: usize,
 ) -> usize
     requires { ⌜ Cleanable (now contour) (now next) (now prev) (now mark) ⌝ }
-    requires { ⌜ at + length (line k (now contour)) ≤ length (now text) ⌝ }
+    requires { ⌜ at + length (line (rule-of second) k (now contour)) ≤ length (now text) ⌝ }
     ensures { λ r. ⌜
-        Put at (line k (now (contour .entry))) (now (text .entry)) r (now (text .exit))
+        Put at (line (rule-of second) k (now (contour .entry))) (now (text .entry)) r (now (text .exit))
         ⌝ }
 {
     let n = contour.len() / 2;
-    let cleaned = counting::answer(contour, &mut next[..n], &mut prev[..n], &mut mark[..n]);
+    let cleaned = counting::answer(
+        second,
+        contour,
+        &mut next[..n],
+        &mut prev[..n],
+        &mut mark[..n],
+    );
     put_figures(text, at, k, contour, cleaned)
 }

@@ -1,16 +1,15 @@
 // The lines of all contours.
 ghost use Prim.Native.Nat.{_+_, _≤_};
 ghost use lib.ListN.{length};
-ghost use Rattle.setfile.specs.Entries.{contours-of};
-ghost use Rattle.setfile.specs.inside.Reading.{contained};
-ghost use Rattle.report.specs.Listing.{lines as lines-of};
+ghost use Rattle.report.specs.Listing.{lines as lines-of, rule-of, job};
 ghost use Rattle.report.specs.inside.Lines.{Put, Listable, Roomy};
 use crate::inner::line;
-use setfile::inner::fields;
-use setfile::inner::filling;
+use setfile::inner::contours;
+use setfile::inner::headers;
 
 // Reads each of n contours from the file, cleans it by itself, and puts its line.
 pub fn put(
+    second: bool,
     bytes: &[u8],
     n: usize,
     points: &mut [i32],
@@ -20,24 +19,27 @@ pub fn put(
     text: &mut [u8],
     from: usize,
 ) -> usize
-    requires { ⌜ Listable (now bytes) n × Roomy (now points) (now next) (now prev) (now mark) ⌝ }
     requires { ⌜
-        from + length (lines-of 1 (contours-of (contained (now bytes)))) ≤ length (now text)
+        Listable second (now bytes) n
+        × Roomy (now points) (now next) (now prev) (now mark)
+        ⌝ }
+    requires { ⌜
+        from + length (lines-of (rule-of second) 1 (job (now bytes))) ≤ length (now text)
         ⌝ }
     ensures { λ r. ⌜
-        Put from (lines-of 1 (contours-of (contained (now (bytes .entry)))))
+        Put from (lines-of (rule-of second) 1 (job (now (bytes .entry))))
         (now (text .entry)) r (now (text .exit))
         ⌝ }
 {
     let mut behind = from;
-    let mut at: usize = 2;
+    let mut at: usize = 16;
     let mut i: usize = 0;
     while i < n {
-        let held = fields::held(bytes, at);
-        let numbers = 2 * held;
-        filling::coordinates(bytes, at + 2, numbers, points, 0);
-        behind = line::put(&points[..numbers], i + 1, next, prev, mark, text, behind);
-        at += 2 + 8 * held;
+        let h = headers::header_at(second, bytes, at);
+        contours::put(second, bytes, at, h, points, 0);
+        let contour = &points[..2 * h.count];
+        behind = line::put(second, contour, i + 1, next, prev, mark, text, behind);
+        at += headers::size(second, h);
         i += 1;
     }
     behind

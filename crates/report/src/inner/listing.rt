@@ -4,6 +4,7 @@ ghost use Prim.Native.Nat.{_≤_};
 ghost use lib.ListN.{length};
 ghost use Rattle.rows.specs.Rows.{front};
 ghost use Rattle.report.specs.Listing.{listing};
+use crate::POINTS;
 use crate::inner::table;
 use crate::inner::text;
 use setfile::inner::head;
@@ -28,9 +29,11 @@ pub fn list(bytes: &[u8], text: &mut [u8]) -> usize
         × (now (text .exit) ≡ front (listing (now (bytes .entry))) (now (text .entry)))
         ⌝ }
 {
-    let file = judging::judge(bytes);
-    if file.reply != 0 {
-        return text::put_line(text, 0, b"refused ", file.reply as u64);
+    let second = head::is_second(bytes);
+    let file = judging::judge(second, bytes);
+    let refusal = replies::or_room(file.reply, file.points <= POINTS);
+    if refusal != 0 {
+        return text::put_line(text, 0, b"refused ", refusal as u64);
     }
-    table::put(bytes, file.contours, text)
+    table::put(second, bytes, file.contours, text)
 }

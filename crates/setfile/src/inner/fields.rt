@@ -6,6 +6,7 @@ ghost use lib.ListN.{length, take, drop};
 ghost use Rattle.bits.specs.Bits.{value, bits};
 ghost use Rattle.bits.specs.Signs.{signed};
 ghost use Rattle.grid.specs.Limits.{narrow, all-on-grid};
+ghost use Rattle.rows.specs.Rows.{placed};
 ghost use Rattle.setfile.specs.inside.Bytes.{pair as pair-of, low-first, swapped as swapped-of, decoded, starts as starts-of, held as held-of};
 use grid::NARROW;
 use grid::inner::bounds;
@@ -98,4 +99,19 @@ pub fn all_on(bytes: &[u8], at: usize, k: usize) -> bool
         return true;
     }
     each_on(bytes, at, k)
+}
+
+// Writes k coordinates, which stand from `at` on, from position `to` on.
+pub fn coordinates(bytes: &[u8], at: usize, k: usize, out: &mut [i32], to: usize)
+    requires { ⌜ (at + 4 * k ≤ length (now bytes)) × (to + k ≤ length (now out)) ⌝ }
+    ensures { λ _. ⌜
+        now (out .exit)
+        ≡ placed to (decoded k (drop at (now (bytes .entry)))) (now (out .entry))
+        ⌝ }
+{
+    let mut i: usize = 0;
+    while i < k {
+        out[to + i] = coordinate(bytes, at + 4 * i);
+        i += 1;
+    }
 }

@@ -1,34 +1,19 @@
 // The rows of a set, filled from a file that was judged: a walk over its contours for each row.
 ghost use mathlib.Core.Path.{_≡_};
-ghost use Prim.Native.Nat.{_+_, _*_, _<_, _≤_};
-ghost use lib.ListN.{length, drop};
-ghost use Rattle.rows.specs.Rows.{front, placed};
+ghost use Prim.Native.Nat.{_<_, _≤_};
+ghost use lib.ListN.{length};
+ghost use Rattle.rows.specs.Rows.{front};
 ghost use Rattle.buffer.specs.Spans.{rows};
 ghost use Rattle.buffer.specs.Sets.{joined, contour-spans, shape-spans};
 ghost use Rattle.setfile.specs.Entries.{contours-of, shapes-of};
-ghost use Rattle.setfile.specs.inside.Bytes.{decoded};
 ghost use Rattle.setfile.specs.inside.Reading.{contained, Readable, next-open, closed};
-use crate::inner::fields;
-
-// Writes k coordinates, which stand from `at` on, from position `to` on.
-pub fn coordinates(bytes: &[u8], at: usize, k: usize, out: &mut [i32], to: usize)
-    requires { ⌜ (at + 4 * k ≤ length (now bytes)) × (to + k ≤ length (now out)) ⌝ }
-    ensures { λ _. ⌜
-        now (out .exit)
-        ≡ placed to (decoded k (drop at (now (bytes .entry)))) (now (out .entry))
-        ⌝ }
-{
-    let mut i: usize = 0;
-    while i < k {
-        out[to + i] = fields::coordinate(bytes, at + 4 * i);
-        i += 1;
-    }
-}
+use crate::inner::contours;
+use crate::inner::headers;
 
 // Writes the points of n contours.
-pub fn points(bytes: &[u8], n: usize, out: &mut [i32])
+pub fn points(second: bool, bytes: &[u8], n: usize, out: &mut [i32])
     requires { ⌜
-        Readable (now bytes) n
+        Readable second (now bytes) n
         × (length (joined (contours-of (contained (now bytes)))) ≤ length (now out))
         ⌝ }
     ensures { λ _. ⌜
@@ -36,22 +21,22 @@ pub fn points(bytes: &[u8], n: usize, out: &mut [i32])
         ≡ front (joined (contours-of (contained (now (bytes .entry))))) (now (out .entry))
         ⌝ }
 {
-    let mut at: usize = 2;
+    let mut at: usize = 16;
     let mut to: usize = 0;
     let mut i: usize = 0;
     while i < n {
-        let held = fields::held(bytes, at);
-        coordinates(bytes, at + 2, 2 * held, out, to);
-        at += 2 + 8 * held;
-        to += 2 * held;
+        let h = headers::header_at(second, bytes, at);
+        contours::put(second, bytes, at, h, out, to);
+        at += headers::size(second, h);
+        to += 2 * h.count;
         i += 1;
     }
 }
 
 // Writes the ranges of n contours.
-pub fn contours(bytes: &[u8], n: usize, records: &mut [[usize; 2]])
+pub fn ranges(second: bool, bytes: &[u8], n: usize, records: &mut [[usize; 2]])
     requires { ⌜
-        Readable (now bytes) n
+        Readable second (now bytes) n
         × (length (contained (now bytes)) ≤ length (now records))
         ⌝ }
     ensures { λ _. ⌜
@@ -60,15 +45,15 @@ pub fn contours(bytes: &[u8], n: usize, records: &mut [[usize; 2]])
         (now (records .entry))
         ⌝ }
 {
-    let mut at: usize = 2;
+    let mut at: usize = 16;
     let mut start: usize = 0;
     let mut i: usize = 0;
     while i < n {
-        let held = fields::held(bytes, at);
-        let end = start + held;
+        let h = headers::header_at(second, bytes, at);
+        let end = start + h.count;
         records[i] = [start, end];
         start = end;
-        at += 2 + 8 * held;
+        at += headers::size(second, h);
         i += 1;
     }
 }
@@ -99,9 +84,9 @@ fn begin(begins: bool, shape: Open, i: usize, groups: &mut [[usize; 2]]) -> Open
 }
 
 // Writes the ranges of the shapes of n contours, the first of which begins one.
-fn begun_shapes(bytes: &[u8], n: usize, groups: &mut [[usize; 2]])
+fn begun_shapes(second: bool, bytes: &[u8], n: usize, groups: &mut [[usize; 2]])
     requires { ⌜
-        Readable (now bytes) n
+        Readable second (now bytes) n
         × (0 < n)
         × (length (shapes-of (contained (now bytes))) ≤ length (now groups))
         ⌝ }
@@ -111,13 +96,14 @@ fn begun_shapes(bytes: &[u8], n: usize, groups: &mut [[usize; 2]])
         (now (groups .entry))
         ⌝ }
 {
-    let mut at: usize = 2 + (2 + 8 * fields::held(bytes, 2));
+    let first = headers::header_at(second, bytes, 16);
+    let mut at: usize = 16 + headers::size(second, first);
     let mut shape = Open { number: 0, from: 0 };
     let mut i: usize = 1;
     while i < n {
-        let begins = fields::starts(bytes, at);
-        shape = begin(begins, shape, i, groups);
-        at += 2 + 8 * fields::held(bytes, at);
+        let h = headers::header_at(second, bytes, at);
+        shape = begin(h.begins, shape, i, groups);
+        at += headers::size(second, h);
         i += 1;
     }
     let k = shape.number;
@@ -125,9 +111,9 @@ fn begun_shapes(bytes: &[u8], n: usize, groups: &mut [[usize; 2]])
 }
 
 // Writes the ranges of the shapes of n contours.
-pub fn shapes(bytes: &[u8], n: usize, groups: &mut [[usize; 2]])
+pub fn shapes(second: bool, bytes: &[u8], n: usize, groups: &mut [[usize; 2]])
     requires { ⌜
-        Readable (now bytes) n
+        Readable second (now bytes) n
         × (length (shapes-of (contained (now bytes))) ≤ length (now groups))
         ⌝ }
     ensures { λ _. ⌜
@@ -137,6 +123,6 @@ pub fn shapes(bytes: &[u8], n: usize, groups: &mut [[usize; 2]])
         ⌝ }
 {
     if 0 < n {
-        begun_shapes(bytes, n, groups);
+        begun_shapes(second, bytes, n, groups);
     }
 }

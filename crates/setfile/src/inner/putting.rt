@@ -1,12 +1,19 @@
-// Numbers, contours and shapes, written into the row of bytes; each function answers the position behind what it wrote.
+// Numbers, contours, shapes and files, written into the row of bytes; each function answers where it ends.
+ghost use mathlib.Core.Path.{_≡_};
+ghost use mathlib.Core.Bool.{true};
 ghost use Prim.Native.Nat.{_≤_};
 ghost use lib.ListN.{length};
 ghost use Rattle.bits.specs.inside.Words.{spelled};
+ghost use Rattle.rows.specs.Rows.{front};
 ghost use Rattle.grid.specs.Domain.{count};
 ghost use Rattle.setfile.specs.Entries.{entry};
+ghost use Rattle.setfile.specs.Edition2.{contour-bits};
 ghost use Rattle.setfile.specs.Writing.{most-points};
 ghost use Rattle.setfile.specs.inside.Bytes.{coded-coordinates, coded-contour};
-ghost use Rattle.setfile.specs.inside.Writing.{Put, Room, Named, Grouped, coded-shape, coded-shapes};
+ghost use Rattle.setfile.specs.Editions.{layout};
+ghost use Rattle.setfile.specs.inside.Writing.{Put, Room, Penned, Inked, Countable, Named, Grouped, shape-bits, shapes-bits, file-with, Ripe};
+use bits::inner::pens;
+use bits::inner::pens::Pen;
 
 // A number in two bytes.
 pub fn put_pair(n: usize, bytes: &mut [u8], at: usize) -> usize
@@ -46,8 +53,8 @@ fn put_coordinates(contour: &[i32], bytes: &mut [u8], at: usize) -> usize
     behind
 }
 
-// A contour, which begins a shape or not.
-fn put_contour(begins: bool, contour: &[i32], bytes: &mut [u8], at: usize) -> usize
+// A contour of edition 1, which begins a shape or not.
+fn put_contour_1(begins: bool, contour: &[i32], bytes: &mut [u8], at: usize) -> usize
     requires { ⌜
         (count (now contour) ≤ most-points)
         × Room at (coded-contour (entry begins (now contour))) (now bytes)
@@ -62,59 +69,128 @@ fn put_contour(begins: bool, contour: &[i32], bytes: &mut [u8], at: usize) -> us
     put_coordinates(contour, bytes, behind)
 }
 
+// A contour of edition 2: its header is one field.
+fn put_contour_2(begins: bool, contour: &[i32], bytes: &mut [u8], pen: Pen) -> Pen
+    requires { ⌜
+        Countable (now contour)
+        × Penned true pen (contour-bits (entry begins (now contour))) (now bytes)
+        ⌝ }
+    ensures { λ r. ⌜
+        Inked true pen (contour-bits (entry begins (now (contour .entry)))) (now (bytes .entry)) r
+        (now (bytes .exit))
+        ⌝ }
+{
+    let width = steps::inner::writing::width(contour);
+    let head = begins as usize * 2_097_152 + (contour.len() / 2 * 64 + width);
+    let headed = pens::write(bytes, pen, 22, head as u64);
+    steps::inner::writing::put(bytes, headed, contour, width)
+}
+
+// A contour of either edition.
+fn put_contour(second: bool, begins: bool, contour: &[i32], bytes: &mut [u8], pen: Pen) -> Pen
+    requires { ⌜
+        Countable (now contour)
+        × Penned second pen (layout second .coded (entry begins (now contour))) (now bytes)
+        ⌝ }
+    ensures { λ r. ⌜
+        Inked second pen (layout second .coded (entry begins (now (contour .entry))))
+        (now (bytes .entry)) r (now (bytes .exit))
+        ⌝ }
+{
+    if second {
+        return put_contour_2(begins, contour, bytes, pen);
+    }
+    let behind = put_contour_1(begins, contour, bytes, pen.at);
+    Pen {
+        at: behind,
+        kept: 0,
+        width: 0,
+    }
+}
+
 // A shape: the contours from one number to another, of which the first begins it.
 fn put_shape(
+    second: bool,
     points: &[i32],
     ranges: &[[usize; 2]],
     from: usize,
     to: usize,
     bytes: &mut [u8],
-    at: usize,
-) -> usize
+    pen: Pen,
+) -> Pen
     requires { ⌜
         Named (now points) (now ranges) to
-        × Room at (coded-shape (now points) (now ranges) from to) (now bytes)
+        × Penned second pen (shape-bits second (now points) (now ranges) from to) (now bytes)
         ⌝ }
     ensures { λ r. ⌜
-        Put at (coded-shape (now (points .entry)) (now (ranges .entry)) from to)
+        Inked second pen (shape-bits second (now (points .entry)) (now (ranges .entry)) from to)
         (now (bytes .entry)) r (now (bytes .exit))
         ⌝ }
 {
-    let mut behind = at;
+    let mut behind = pen;
     let mut k = from;
     while k < to {
         let contour = buffer::inner::parts::named(points, ranges, k);
-        behind = put_contour(k == from, contour, bytes, behind);
+        behind = put_contour(second, k == from, contour, bytes, behind);
         k += 1;
     }
     behind
 }
 
 // The shapes of a set.
-pub fn put_shapes(
+fn put_shapes(
+    second: bool,
     points: &[i32],
     contours: &[[usize; 2]],
     shapes: &[[usize; 2]],
     bytes: &mut [u8],
-    at: usize,
-) -> usize
+    pen: Pen,
+) -> Pen
     requires { ⌜
         Named (now points) (now contours) (length (now contours))
         × Grouped (now shapes) (length (now contours))
-        × Room at (coded-shapes (now points) (now contours) (now shapes)) (now bytes)
+        × Penned second pen (shapes-bits second (now points) (now contours) (now shapes)) (now bytes)
         ⌝ }
     ensures { λ r. ⌜
-        Put at (coded-shapes (now (points .entry)) (now (contours .entry)) (now (shapes .entry)))
+        Inked second pen
+        (shapes-bits second (now (points .entry)) (now (contours .entry)) (now (shapes .entry)))
         (now (bytes .entry)) r (now (bytes .exit))
         ⌝ }
 {
-    let mut behind = at;
+    let mut behind = pen;
     let mut i: usize = 0;
     while i < shapes.len() {
         let from = shapes[i][0];
         let to = shapes[i][1];
-        behind = put_shape(points, contours, from, to, bytes, behind);
+        behind = put_shape(second, points, contours, from, to, bytes, behind);
         i += 1;
     }
     behind
+}
+
+// The file of a set, in the second edition or the first.
+pub fn put_file(
+    second: bool,
+    points: &[i32],
+    contours: &[[usize; 2]],
+    shapes: &[[usize; 2]],
+    bytes: &mut [u8],
+) -> usize
+    requires { ⌜ Ripe second (now points) (now contours) (now shapes) (now bytes) ⌝ }
+    ensures { λ r. ⌜
+        (now (bytes .exit)
+        ≡ front (file-with second (now (points .entry)) (now (contours .entry)) (now (shapes .entry)))
+        (now (bytes .entry)))
+        × (r ≡ length (file-with second (now (points .entry)) (now (contours .entry)) (now (shapes .entry))))
+        ⌝ }
+{
+    let head = second as usize * 4_096 + 4_096 + contours.len();
+    let behind = put_pair(head, bytes, 0);
+    let pen = Pen {
+        at: behind,
+        kept: 0,
+        width: 0,
+    };
+    let done = put_shapes(second, points, contours, shapes, bytes, pen);
+    pens::lift(bytes, done)
 }

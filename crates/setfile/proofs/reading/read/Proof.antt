@@ -7,21 +7,26 @@ use Rattle.setfile.proofs.reading.read.Tie as tie
 -- the file is judged, and the room for its set
 judged : (c : tie.After-or-room) →
     let judging = c .before .before .before .before in
-    let s = judging .before .before .args in
-    Reading (s .bytes .now) (s .out .now) (s .records .now) (s .groups .now) (judging .judge .result) (c .or-room .result)
+    let told = judging .before in
+    let s = told .before .before .args in
+    Reading (told .is-second .result) (s .bytes .now) (s .out .now) (s .records .now) (s .groups .now) (judging .judge .result) (c .or-room .result)
 judged c =
     let judging = c .before .before .before .before in
-    record { judgement = judging .judge .ensures; with-room = c .or-room .ensures }
+    record { own = judging .before .is-second .ensures; judgement = judging .judge .ensures; with-room = c .or-room .ensures }
 
 -- nothing is refused
 not-refused : (c : tie.Else1) →
     let judging = c .before .before .before .before .before in
-    let s = judging .before .before .args in
-    Accepted (s .bytes .now) (s .out .now) (s .records .now) (s .groups .now) (judging .judge .result)
+    let told = judging .before in
+    let s = told .before .before .args in
+    Accepted (told .is-second .result) (s .bytes .now) (s .out .now) (s .records .now) (s .groups .now) (judging .judge .result)
 not-refused c = accepted (judged (c .before)) (c .if1 .left)
 
+is-second-requires : tie.Need-is-second-requires
+is-second-requires c κs = search needs
+
 judge-requires : tie.Need-judge-requires
-judge-requires c κs = search needs
+judge-requires c κs = c .is-second .ensures
 
 or-room-requires : tie.Need-or-room-requires
 or-room-requires c κs = search needs
@@ -35,14 +40,17 @@ returns c = read-refused (judged (c .before .before)) _ (c .refused .ensures) (c
 points-requires : tie.Need-points-requires
 points-requires c κs = let a = not-refused (c .before) in (a .readable, a .points-in)
 
-contours-requires : tie.Need-contours-requires
-contours-requires c κs = let a = not-refused (c .before .before .before .before) in (a .readable, a .contours-in)
+ranges-requires : tie.Need-ranges-requires
+ranges-requires c κs = let a = not-refused (c .before .before .before .before) in (a .readable, a .contours-in)
 
 shapes-requires : tie.Need-shapes-requires
 shapes-requires c κs =
     let filled = c .before .before .before .before .before in
     let a = not-refused (filled .before .before) in
     (a .readable, a .shapes-in)
+
+number-requires : tie.Need-number-requires
+number-requires c κs = search needs
 
 same-length : tie.Need-same-length
 same-length c = search needs
@@ -59,19 +67,21 @@ returns-2 c =
     let recorded = grouped .before .before .before in
     let filled = recorded .before .before .before in
     let taken = filled .before .before in
-    read-done (judged (taken .before)) (taken .if1 .left) _ _ _ (filled .points .ensures) (recorded .contours .ensures) (grouped .shapes .ensures)
+    read-done (judged (taken .before)) (taken .if1 .left) _ _ _ (filled .points .ensures) (recorded .ranges .ensures) (grouped .shapes .ensures) _ (c .number .ensures)
 
 pub read-spec : {M : Type 1} → statement M
 read-spec =
     tie.close
     (tie.spec
+    is-second-requires
     judge-requires
     or-room-requires
     refused-requires
     returns
     points-requires
-    contours-requires
+    ranges-requires
     shapes-requires
+    number-requires
     same-length
     same-length-2
     same-length-3

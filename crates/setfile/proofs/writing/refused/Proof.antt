@@ -1,6 +1,7 @@
 -- `setfile::writing::refused` meets its contract, refusal by refusal.
 use borrow.Author.Needs.{needs}
 use Rattle.grid.specs.Limits.{limit, narrow}
+use Rattle.setfile.proofs.MeasureLaws.{some-unfilled}
 use Rattle.setfile.proofs.RefusedLaws.{refused-odd, refused-long, refused-set, refused-carry, refused-none}
 use Rattle.setfile.proofs.writing.refused.Statement.{statement}
 use Rattle.setfile.proofs.writing.refused.Tie as tie
@@ -36,8 +37,8 @@ returns-3 c =
     refused-set (s .points .now) (s .contours .now) (s .shapes .now)
     (even .if1 .left) _ (measured .file-length .ensures) (short .if2 .left) _ (judged .shapes .ensures) (c .if3 .taken)
 
-some-empty-requires : tie.Need-some-empty-requires
-some-empty-requires c κs = search needs
+longer-requires : tie.Need-longer-requires
+longer-requires c κs = search needs
 
 returns-4 : tie.Need-returns-4
 unfolding narrow
@@ -51,7 +52,7 @@ returns-4 c =
     let s = even .before .args in
     refused-carry (s .points .now) (s .contours .now) (s .shapes .now)
     (even .if1 .left) _ (measured .file-length .ensures) (short .if2 .left) _ (judged .shapes .ensures) (accepted .if3 .left)
-    _ (asked .some-empty .ensures) (c .if4 .taken)
+    _ (some-unfilled (s .shapes .now) _ (asked .longer .ensures)) (c .if4 .taken)
 
 returns-5 : tie.Need-returns-5
 unfolding narrow
@@ -65,7 +66,7 @@ returns-5 c =
     let s = even .before .args in
     refused-none (s .points .now) (s .contours .now) (s .shapes .now)
     (even .if1 .left) _ (measured .file-length .ensures) (short .if2 .left) _ (judged .shapes .ensures) (accepted .if3 .left)
-    _ (asked .some-empty .ensures) (c .if4 .left)
+    _ (some-unfilled (s .shapes .now) _ (asked .longer .ensures)) (c .if4 .left)
 
 pub refused-spec : {M : Type 1} → statement M
 refused-spec =
@@ -76,6 +77,6 @@ refused-spec =
     returns-2
     shapes-requires
     returns-3
-    some-empty-requires
+    longer-requires
     returns-4
     returns-5)

@@ -4,7 +4,7 @@ use mathlib.Core.List.{[]}
 use borrow.Author.Needs.{needs}
 use lib.Seq.{length-take-le}
 use Rattle.report.proofs.LineLaws.{line-is, lent-parts}
-use Rattle.report.specs.Listing.{line}
+use Rattle.report.specs.Listing.{line, rule-of}
 use Rattle.report.specs.inside.Lines.{figures}
 use Rattle.report.proofs.inner.line.put.Statement.{statement}
 use Rattle.report.proofs.inner.line.put.Tie as tie
@@ -16,11 +16,11 @@ slice-relend-prefix-answer c = search needs
 figured : (c : tie.After-answer) →
     let known = c .before .before .before .before in
     let s = known .before .before .before .before .args in
-    figures (s .k) (s .contour .now) (c .answer .result) ≡ line (s .k) (s .contour .now)
+    figures (s .k) (s .contour .now) (c .answer .result) ≡ line (rule-of (s .second)) (s .k) (s .contour .now)
 figured c =
     let known = c .before .before .before .before in
     let s = known .before .before .before .before .args in
-    line-is (s .k) (s .contour .now) [] _ (c .answer .ensures)
+    line-is (rule-of (s .second)) (s .k) (s .contour .now) [] _ (c .answer .ensures)
 
 slice-aggregate-answer : tie.Need-slice-aggregate-answer
 slice-aggregate-answer c =

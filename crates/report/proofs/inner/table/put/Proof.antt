@@ -2,10 +2,8 @@
 use mathlib.Core.List.{[], _∷_, _++_}
 use native.Mathlib.Omega.{arith}
 use borrow.Author.Needs.{needs}
-use Rattle.setfile.specs.Entries.{contours-of}
-use Rattle.setfile.specs.inside.Reading.{contained}
 use Rattle.report.specs.Text.{heading}
-use Rattle.report.specs.Listing.{lines}
+use Rattle.report.specs.Listing.{lines, rule-of, job}
 use Rattle.report.proofs.PutLaws.{Going, going-none, going-room, going-more, going-all, two-words}
 use Rattle.report.proofs.inner.table.put.Statement.{statement}
 use Rattle.report.proofs.inner.table.put.Tie as tie
@@ -13,11 +11,11 @@ use Rattle.report.proofs.inner.table.put.Tie as tie
 -- the heading and the lines are to be put
 begun : (c : tie.Start) →
     let s = c .args in
-    let due = lines 1 (contours-of (contained (s .bytes .now))) in
+    let due = lines (rule-of (s .second)) 1 (job (s .bytes .now)) in
     Going 0 (heading ++ due) (s .text .now) 0 (s .text .now) (heading ∷ due ∷ [])
 begun c =
     let s = c .args in
-    going-none 0 (s .text .now) (heading ∷ lines 1 (contours-of (contained (s .bytes .now))) ∷ []) (two-words _ _) (omega (arith, c .pre .1))
+    going-none 0 (s .text .now) (heading ∷ lines (rule-of (s .second)) 1 (job (s .bytes .now)) ∷ []) (two-words _ _) (omega (arith, c .pre .1))
 
 slice-aggregate-put : tie.Need-slice-aggregate-put
 slice-aggregate-put c = search needs
@@ -40,7 +38,7 @@ slice-aggregate-put-5 c = search needs
 -- the lines are
 lines-due : (c : tie.After-put) →
     let s = c .before .before .before .before .before .args in
-    let due = lines 1 (contours-of (contained (s .bytes .now))) in
+    let due = lines (rule-of (s .second)) 1 (job (s .bytes .now)) in
     Going 0 (heading ++ due) (s .text .now) (c .put .result) (c .put .last .0) (due ∷ [])
 lines-due c = going-more (begun (c .before .before .before .before .before)) (c .put .ensures)
 

@@ -20,7 +20,7 @@ returns-2 : tie.Need-returns-2
 returns-2 c =
     let s = c .before .before .args in
     let none : s .n ≡ 0 = omega arith in
-    no-shapes (s .groups .now) (subst (Readable (s .bytes .now)) none (c .before .before .pre .0))
+    no-shapes (s .groups .now) (subst (Readable (s .second) (s .bytes .now)) none (c .before .before .pre .0))
 
 pub shapes-spec : {M : Type 1} → statement M
 shapes-spec = tie.close (tie.spec begun-shapes-requires same-length returns returns-2)

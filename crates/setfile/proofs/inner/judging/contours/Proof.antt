@@ -2,53 +2,55 @@
 use borrow.Author.Needs.{needs}
 use mathlib.Core.Path.{_≡_, sym, _∙_, ap, ap₂, subst}
 use mathlib.Core.Bool.{true}
-use Prim.Native.Nat.{ℕ, _+_, _*_, _-_, _≤_}
+use Prim.Native.Nat.{ℕ, _+_, _-_, _≤_}
 use native.Mathlib.Omega.{arith}
 use lib.Dec.{eqb}
-use lib.ListN.{length, drop}
 use Rattle.setfile.specs.declared.inner.judging.Met.{Met}
 use Rattle.setfile.specs.Entries.{Parsed}
-use Rattle.setfile.specs.inside.Bytes.{walk, fault, held}
-use Rattle.setfile.specs.inside.Reading.{none-met, Within, summed}
-use Rattle.setfile.proofs.ReadLaws.{walk-faulty, walk-ends, contour-within}
-use Rattle.setfile.proofs.JudgeLaws.{judged-more, within-more}
+use Rattle.setfile.specs.Layouts.{contours-in}
+use Rattle.setfile.specs.Editions.{layout}
+use Rattle.setfile.specs.inside.Reading.{from-bit, Whole, none-met, Within, summed}
+use Rattle.setfile.proofs.ContourLaws.{right, whole}
+use Rattle.setfile.proofs.JudgeLaws.{judged-faulty, judged-more, within-more, none-left}
 use Rattle.setfile.proofs.inner.judging.contours.Statement.{statement}
 use Rattle.setfile.proofs.inner.judging.contours.Tie as tie
 
 abbrev Inv-loop : tie.InvT-loop
-Inv-loop bytes n m₀ i₀ m i =
-    Within bytes m × (i ≤ n) × (summed none-met 0 (walk n true (drop 2 bytes)) ≡ summed m i (walk (n - i) (eqb i 0) (drop (m .at) bytes)))
+Inv-loop second bytes n m₀ i₀ m i =
+    Within second bytes m × (i ≤ n)
+    × (summed second none-met 0 (contours-in (layout second) n true 0 (from-bit bytes 16))
+    ≡ summed second m i (contours-in (layout second) (n - i) (eqb i 0) (m .points) (from-bit bytes (m .at))))
 
 abbrev μ-loop : tie.MeasureT-loop
-μ-loop bytes n m₀ i₀ m i = n - i
+μ-loop second bytes n m₀ i₀ m i = n - i
 
 -- the contour that is met has no fault
 sound : (c : tie.Else1 Inv-loop μ-loop) →
     let pass = c .before .before .before in
-    fault (eqb (pass .loop .i) 0) (drop (pass .loop .m .at) (pass .before .before .args .bytes .now)) ≡ 0
+    let s = pass .before .before .args in
+    layout (s .second) .wrong (eqb (pass .loop .i) 0) (pass .loop .m .points) (from-bit (s .bytes .now) (pass .loop .m .at)) ≡ 0
 sound c = sym (c .before .contour-fault .ensures) ∙ c .if1 .left
 
--- so it ends within the file
-within : (c : tie.Else1 Inv-loop μ-loop) →
+-- so it is all there
+there : (c : tie.Else1 Inv-loop μ-loop) →
+    let pass = c .before .before .before in
+    let s = pass .before .before .args in
+    Whole (s .second) (s .bytes .now) (pass .loop .m .at)
+there c =
     let l = c .before .before .before .loop in
-    let f = c .before .before .before .before .before .args .bytes .now in
-    l .m .at + (2 + 8 * held (drop (l .m .at) f)) ≤ length f
-within c =
-    let l = c .before .before .before .loop in
-    let s = c .before .before .before .before .before .args in
-    contour-within (s .bytes .now) (s .n) (l .i) (l .m .at) (eqb (l .i) 0) (l .inv .0 .ends) (sound c)
+    whole (l .inv .0 .here) (eqb (l .i) 0) (l .m .points) (sound c)
 
 loop-holds : tie.Need-loop-holds Inv-loop μ-loop
 loop-holds c =
     let s = c .before .args in
     let e : s .n ≡ s .n - 0 = omega arith in (
-      record { ends = c .before .pre; numbers-few = omega arith; shapes-few = omega arith },
+      record { here = c .before .pre; points-few = omega arith; shapes-few = omega arith },
       omega arith,
-      ap (λ (k : ℕ). summed none-met 0 (walk k true (drop 2 (s .bytes .now)))) e,
+      ap (λ (k : ℕ). summed (s .second) none-met 0 (contours-in (layout (s .second)) k true 0 (from-bit (s .bytes .now) 16))) e,
     )
 
 contour-fault-requires : tie.Need-contour-fault-requires Inv-loop μ-loop
-contour-fault-requires c κs = c .before .loop .inv .0 .ends
+contour-fault-requires c κs = let w = c .before .loop .inv .0 in (w .here, w .points-few)
 
 refused-requires : tie.Need-refused-requires Inv-loop μ-loop
 refused-requires c κs = search needs
@@ -60,14 +62,12 @@ returns c =
     let l = pass .loop in
     let s = pass .before .before .args in
     c .refused .ensures
-    ∙ sym
-    (l .inv .2
-    ∙ ap (summed (l .m) (l .i))
-    (walk-faulty (s .bytes .now) (s .n) (l .i) (l .m .at) (eqb (l .i) 0) (faulty .before .before .loop-test .taken)
-    _ (faulty .before .contour-fault .ensures) (faulty .if1 .taken)))
+    ∙ judged-faulty (s .second) (s .bytes .now) (s .n) (l .i) (l .m) (eqb (l .i) 0) (faulty .before .before .loop-test .taken)
+    _ (faulty .before .contour-fault .ensures) (faulty .if1 .taken)
+    ∙ sym (l .inv .2)
 
 met-more-requires : tie.Need-met-more-requires Inv-loop μ-loop
-met-more-requires c κs = (c .before .before .before .loop .inv .0, within c)
+met-more-requires c κs = (c .before .before .before .loop .inv .0, there c)
 
 add-i : tie.Need-add-i Inv-loop μ-loop
 add-i c = omega arith
@@ -82,18 +82,21 @@ loop-again c =
     let l = pass .loop in
     let s = pass .before .before .args in
     let f = s .bytes .now in
+    let b = s .second in
+    let r = right b (eqb (l .i) 0) (l .m .points) (from-bit f (l .m .at)) (sound faultless) in
     subst
     (λ (m : Met).
-    Within f m × (l .i + 1 ≤ s .n)
-    × (summed none-met 0 (walk (s .n) true (drop 2 f)) ≡ summed m (l .i + 1) (walk (s .n - (l .i + 1)) (eqb (l .i + 1) 0) (drop (m .at) f))))
+    Within b f m × (l .i + 1 ≤ s .n)
+    × (summed b none-met 0 (contours-in (layout b) (s .n) true 0 (from-bit f 16))
+    ≡ summed b m (l .i + 1) (contours-in (layout b) (s .n - (l .i + 1)) (eqb (l .i + 1) 0) (m .points) (from-bit f (m .at)))))
     (sym (c .met-more .ensures)) (
-      within-more f (s .n) (l .i) (l .m) (l .inv .0) (within faultless),
+      within-more b f (s .n) (l .i) (l .m) (l .inv .0) (there faultless) (r .counted) (r .some),
       omega arith,
-      l .inv .2 ∙ judged-more f (s .n) (l .i) (l .m) (eqb (l .i) 0) (faultless .before .before .loop-test .taken) (sound faultless),
+      l .inv .2 ∙ judged-more b f (s .n) (l .i) (l .m) (eqb (l .i) 0) (faultless .before .before .loop-test .taken) (sound faultless),
     )
 
 finished-requires : tie.Need-finished-requires Inv-loop μ-loop
-finished-requires c κs = c .before .loop .inv .0 .ends
+finished-requires c κs = c .before .loop .inv .0
 
 returns-2 : tie.Need-returns-2 Inv-loop μ-loop
 returns-2 c =
@@ -103,8 +106,8 @@ returns-2 c =
     c .finished .ensures
     ∙ sym
     (l .inv .2
-    ∙ ap₂ (λ (k : ℕ) (w : Parsed). summed (l .m) k w) (sym done)
-    (walk-ends (s .n - l .i) (eqb (l .i) 0) (drop (l .m .at) (s .bytes .now)) (omega arith)))
+    ∙ ap₂ (λ (k : ℕ) (w : Parsed). summed (s .second) (l .m) k w) (sym done)
+    (none-left (s .second) (s .n - l .i) (eqb (l .i) 0) (l .m .points) (from-bit (s .bytes .now) (l .m .at)) (omega arith)))
 
 pub contours-spec : {M : Type 1} → statement M
 contours-spec =

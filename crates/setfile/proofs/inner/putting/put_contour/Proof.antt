@@ -1,32 +1,14 @@
--- `setfile::inner::putting::put_contour` meets its contract: the coordinates stand behind the head.
+-- `setfile::inner::putting::put_contour` meets its contract, in either edition.
 use borrow.Author.Needs.{needs}
-use native.Mathlib.Omega.{arith}
-use mir.Facts.{fits-of-lt}
 use Rattle.setfile.specs.Entries.{entry}
-use Rattle.setfile.proofs.CodedLaws.{header-room, coordinates-room, contour-put}
-use Rattle.bits.proofs.BitLaws.{byte-digit, byte-below}
+use Rattle.setfile.proofs.PutLaws.{contour-room, contour-inked}
 use Rattle.setfile.proofs.inner.putting.put_contour.Statement.{statement}
 use Rattle.setfile.proofs.inner.putting.put_contour.Tie as tie
 
-cast-head : tie.Need-cast-head
-cast-head c = search needs
-
-mul-head : tie.Need-mul-head
-mul-head c = fits-of-lt (omega (arith, byte-below (c .before .args .begins)))
-
-add-head : tie.Need-add-head
-add-head c = fits-of-lt (omega (arith, byte-below (c .before .args .begins)))
-
-put-pair-requires : tie.Need-put-pair-requires
-put-pair-requires c κs =
-    let s = c .before .before in
-    rw (byte-digit (s .args .begins)) (header-room (entry (s .args .begins) (s .args .contour .now)) (s .args .at) (s .args .bytes .now) (s .pre .0) (s .pre .1))
-
-put-coordinates-requires : tie.Need-put-coordinates-requires
-put-coordinates-requires c κs =
-    let headed = c .before .before .before in
-    let s = headed .before .before .before in
-    coordinates-room (entry (s .args .begins) (s .args .contour .now)) (s .args .at) (s .args .bytes .now) (s .pre .0) (s .pre .1) (rw (byte-digit (s .args .begins)) at (headed .put-pair .ensures))
+put-contour-2-requires : tie.Need-put-contour-2-requires
+put-contour-2-requires c κs =
+    let s = c .before .before .before in
+    (s .pre .0, rw (c .before .if1 .taken) at (s .pre .1))
 
 same-length : tie.Need-same-length
 same-length c = search needs
@@ -34,18 +16,24 @@ same-length c = search needs
 returns : tie.Need-returns
 returns c =
     let put = c .before .before in
-    let headed = put .before .before .before .before in
-    let s = headed .before .before .before in
-    contour-put (entry (s .args .begins) (s .args .contour .now)) (s .args .at) (s .args .bytes .now) (s .pre .0) (s .pre .1) (rw (byte-digit (s .args .begins)) at (headed .put-pair .ensures)) (put .put-coordinates .ensures)
+    let s = put .before .before .before .before in
+    rw (put .before .before .if1 .taken) (put .put-contour-2 .ensures)
+
+put-contour-1-requires : tie.Need-put-contour-1-requires
+put-contour-1-requires c κs =
+    let s = c .before .before .before in
+    (s .pre .0 .short, contour-room (entry (s .args .begins) (s .args .contour .now)) (s .args .pen) (s .args .bytes .now) (rw (c .before .if1 .left) at (s .pre .1)))
+
+same-length-2 : tie.Need-same-length-2
+same-length-2 c = search needs
+
+returns-2 : tie.Need-returns-2
+returns-2 c =
+    let put = c .before .before in
+    let s = put .before .before .before .before in
+    rw (put .before .before .if1 .left) (contour-inked (entry (s .args .begins) (s .args .contour .now)) (s .args .pen) (s .args .bytes .now) (rw (put .before .before .if1 .left) at (s .pre .1)) (put .put-contour-1 .ensures))
 
 pub put-contour-spec : {M : Type 1} → statement M
 put-contour-spec =
     tie.close
-    (tie.spec
-    cast-head
-    mul-head
-    add-head
-    put-pair-requires
-    put-coordinates-requires
-    same-length
-    returns)
+    (tie.spec put-contour-2-requires same-length returns put-contour-1-requires same-length-2 returns-2)

@@ -4,25 +4,28 @@ use Prim.Native.Nat.{_-_, _≤_}
 use native.Mathlib.Omega.{arith}
 use lib.Dec.{eqb}
 use Rattle.buffer.proofs.PartLaws.{same-numbers}
-use Rattle.setfile.specs.inside.Bytes.{coded-contours}
-use Rattle.setfile.specs.inside.Writing.{between, coded-shape}
-use Rattle.setfile.proofs.WriteLaws.{Writing, none-written, part-room, part-written, all-written}
+use Rattle.setfile.specs.Layouts.{all-coded}
+use Rattle.setfile.specs.Editions.{layout}
+use Rattle.setfile.specs.inside.Writing.{most-kept, between, shape-bits}
+use Rattle.setfile.proofs.WriteLaws.{Inking, none-inked, bits-room, bits-inked, all-inked}
 use Rattle.setfile.proofs.CodedLaws.{marked, next-contour, no-contour, first-contour}
 use Rattle.setfile.proofs.inner.putting.put_shape.Statement.{statement}
 use Rattle.setfile.proofs.inner.putting.put_shape.Tie as tie
 
 abbrev Inv-loop : tie.InvT-loop
-Inv-loop points ranges from to bytes₀ at behind₀ k₀ bytes behind k =
-    Writing at (coded-shape points ranges from to) bytes₀ behind (coded-contours (marked (eqb k from) (between points ranges k to))) bytes
+Inv-loop second points ranges from to bytes₀ pen k₀ bytes behind k =
+    Inking pen (shape-bits second points ranges from to) bytes₀ behind (all-coded (layout second) (marked (eqb k from) (between points ranges k to))) bytes
+    × (behind .width ≤ most-kept second)
     × (from ≤ k)
 
 abbrev μ-loop : tie.MeasureT-loop
-μ-loop points ranges from to bytes₀ at behind₀ k₀ bytes behind k = to - k
+μ-loop second points ranges from to bytes₀ pen k₀ bytes behind k = to - k
 
 loop-holds : tie.Need-loop-holds Inv-loop μ-loop
 loop-holds c =
     let s = c .before .args in
-    (rw (first-contour (s .points .now) (s .ranges .now) (s .from) (s .to)) (none-written _ _ _ (c .before .pre .1)), omega arith)
+    let pre = c .before .pre .1 in
+    (rw (first-contour (layout (s .second)) (s .points .now) (s .ranges .now) (s .from) (s .to)) (none-inked _ _ _ (pre .small) (pre .room)), pre .few, omega arith)
 
 named-requires : tie.Need-named-requires Inv-loop μ-loop
 named-requires c κs = c .before .before .before .pre .0 _ (c .loop-test .taken) .0
@@ -36,9 +39,13 @@ put-contour-requires c κs =
     let h = named .before .loop-test .taken in
     let part = same-numbers (named .named .ensures) in (
       rw part (s .pre .0 _ h .1),
-      part-room (v .0)
-          (next-contour (s .args .points .now) (s .args .ranges .now) (s .args .from) (pass .loop .k) (s .args .to) (v .1) h
-          (s .pre .0 _ h .0 .there) _ part),
+      record {
+        small = v .0 .wrote .small;
+        few = v .1;
+        room = bits-room (v .0)
+            (next-contour (layout (s .args .second)) (s .args .points .now) (s .args .ranges .now) (s .args .from) (pass .loop .k) (s .args .to) (v .2) h
+            (s .pre .0 _ h .0 .there) _ part);
+      },
     )
 
 add-k : tie.Need-add-k Inv-loop μ-loop
@@ -55,20 +62,25 @@ loop-again c =
     let s = pass .before .before in
     let v = pass .loop .inv in
     let h = named .before .loop-test .taken in (
-      part-written (v .0)
-          (next-contour (s .args .points .now) (s .args .ranges .now) (s .args .from) (pass .loop .k) (s .args .to) (v .1) h
+      bits-inked (v .0)
+          (next-contour (layout (s .args .second)) (s .args .points .now) (s .args .ranges .now) (s .args .from) (pass .loop .k) (s .args .to) (v .2) h
           (s .pre .0 _ h .0 .there) _ (same-numbers (named .named .ensures)))
-          (put .put-contour .ensures),
-      omega (arith, v .1),
+          (put .put-contour .ensures .wrote),
+      put .put-contour .ensures .few,
+      omega (arith, v .2),
     )
 
 same-length : tie.Need-same-length Inv-loop μ-loop
-same-length c = c .before .loop .inv .0 .long
+same-length c = c .before .loop .inv .0 .wrote .long
 
 returns : tie.Need-returns Inv-loop μ-loop
 returns c =
     let s = c .before .before .before .args in
-    all-written (c .before .loop .inv .0) (no-contour (s .points .now) (s .ranges .now) (s .from) (c .before .loop .k) (s .to) (omega arith))
+    let v = c .before .loop .inv in
+    record {
+      wrote = all-inked (v .0) (no-contour (layout (s .second)) (s .points .now) (s .ranges .now) (s .from) (c .before .loop .k) (s .to) (omega arith));
+      few = v .1;
+    }
 
 pub put-shape-spec : {M : Type 1} → statement M
 put-shape-spec =

@@ -1,23 +1,24 @@
 -- `setfile::inner::putting::put_shapes` meets its contract: the shapes that are left are written behind what is written.
 use borrow.Author.Needs.{needs}
-use Prim.Native.Nat.{_-_}
+use Prim.Native.Nat.{_-_, _≤_}
 use native.Mathlib.Omega.{arith}
 use lib.ListN.{length, drop}
-use Rattle.setfile.specs.inside.Writing.{coded-shapes}
-use Rattle.setfile.proofs.WriteLaws.{Writing, none-written, part-room, part-written, all-written}
+use Rattle.setfile.specs.inside.Writing.{most-kept, shapes-bits}
+use Rattle.setfile.proofs.WriteLaws.{Inking, none-inked, bits-room, bits-inked, all-inked}
 use Rattle.setfile.proofs.CodedLaws.{next-shape, no-shape}
 use Rattle.setfile.proofs.inner.putting.put_shapes.Statement.{statement}
 use Rattle.setfile.proofs.inner.putting.put_shapes.Tie as tie
 
 abbrev Inv-loop : tie.InvT-loop
-Inv-loop points contours shapes bytes₀ at behind₀ i₀ bytes behind i =
-    Writing at (coded-shapes points contours shapes) bytes₀ behind (coded-shapes points contours (drop i shapes)) bytes
+Inv-loop second points contours shapes bytes₀ pen i₀ bytes behind i =
+    Inking pen (shapes-bits second points contours shapes) bytes₀ behind (shapes-bits second points contours (drop i shapes)) bytes
+    × (behind .width ≤ most-kept second)
 
 abbrev μ-loop : tie.MeasureT-loop
-μ-loop points contours shapes bytes₀ at behind₀ i₀ bytes behind i = length shapes - i
+μ-loop second points contours shapes bytes₀ pen i₀ bytes behind i = length shapes - i
 
 loop-holds : tie.Need-loop-holds Inv-loop μ-loop
-loop-holds c = none-written _ _ _ (c .before .pre .2)
+loop-holds c = let pre = c .before .pre .2 in (none-inked _ _ _ (pre .small) (pre .room), pre .few)
 
 mul-from : tie.Need-mul-from Inv-loop μ-loop
 mul-from c = search needs
@@ -42,9 +43,14 @@ put-shape-requires c κs =
     let more = c .before .before .before in
     let pass = more .before in
     let s = pass .before .before in
+    let v = pass .loop .inv in
     let h = more .loop-test .taken in (
       λ k l. s .pre .0 k (omega (arith, l, s .pre .1 (pass .loop .i) h)),
-      part-room (pass .loop .inv) (next-shape (s .args .points .now) (s .args .contours .now) (s .args .shapes .now) (pass .loop .i) h),
+      record {
+        small = v .0 .wrote .small;
+        few = v .1;
+        room = bits-room (v .0) (next-shape (s .args .second) (s .args .points .now) (s .args .contours .now) (s .args .shapes .now) (pass .loop .i) h);
+      },
     )
 
 add-i : tie.Need-add-i Inv-loop μ-loop
@@ -58,17 +64,23 @@ loop-again c =
     let put = c .before .before in
     let more = put .before .before .before .before in
     let pass = more .before in
-    let s = pass .before .before .args in
-    part-written (pass .loop .inv) (next-shape (s .points .now) (s .contours .now) (s .shapes .now) (pass .loop .i) (more .loop-test .taken))
-    (put .put-shape .ensures)
+    let s = pass .before .before .args in (
+      bits-inked (pass .loop .inv .0) (next-shape (s .second) (s .points .now) (s .contours .now) (s .shapes .now) (pass .loop .i) (more .loop-test .taken))
+          (put .put-shape .ensures .wrote),
+      put .put-shape .ensures .few,
+    )
 
 same-length : tie.Need-same-length Inv-loop μ-loop
-same-length c = c .before .loop .inv .long
+same-length c = c .before .loop .inv .0 .wrote .long
 
 returns : tie.Need-returns Inv-loop μ-loop
 returns c =
     let s = c .before .before .before .args in
-    all-written (c .before .loop .inv) (no-shape (s .points .now) (s .contours .now) (s .shapes .now) (c .before .loop .i) (omega arith))
+    let v = c .before .loop .inv in
+    record {
+      wrote = all-inked (v .0) (no-shape (s .second) (s .points .now) (s .contours .now) (s .shapes .now) (c .before .loop .i) (omega arith));
+      few = v .1;
+    }
 
 pub put-shapes-spec : {M : Type 1} → statement M
 put-shapes-spec =

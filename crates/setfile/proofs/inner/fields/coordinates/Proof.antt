@@ -1,4 +1,4 @@
--- `setfile::inner::filling::coordinates` meets its contract: what is still to be written loses its first.
+-- `setfile::inner::fields::coordinates` meets its contract: what is still to be written loses its first.
 use borrow.Author.Needs.{sfits-of}
 use mathlib.Core.Path.{_≡_, _∙_, ap₂, subst}
 use mathlib.Core.List.{List}
@@ -11,8 +11,8 @@ use Rattle.rows.specs.Rows.{placed}
 use Rattle.setfile.specs.inside.Bytes.{decoded}
 use Rattle.setfile.proofs.ReadLaws.{decoded-length, decoded-more, decoded-none}
 use Rattle.setfile.proofs.AheadLaws.{Ahead, ahead-all, ahead-one, ahead-none}
-use Rattle.setfile.proofs.inner.filling.coordinates.Statement.{statement}
-use Rattle.setfile.proofs.inner.filling.coordinates.Tie as tie
+use Rattle.setfile.proofs.inner.fields.coordinates.Statement.{statement}
+use Rattle.setfile.proofs.inner.fields.coordinates.Tie as tie
 
 abbrev Inv-loop : tie.InvT-loop
 Inv-loop bytes at k out₀ to i₀ out i =

@@ -1,0 +1,7 @@
+pub mod StepLaws
+pub mod BodyLaws
+pub mod ReadLaws
+pub mod StandLaws
+pub mod SmallestLaws
+pub mod WriteLaws
+pub mod Cases

@@ -1,0 +1,3 @@
+// Steps taken from bits and put into them: functions that ask of their callers what these have seen to.
+pub mod reading;
+pub mod writing;
