@@ -52,7 +52,7 @@ pub fn answer(line: &str) -> Result<String, String> {
         Some('c' | 'w' | 'k' | 'l') => answered(line, contours::answer),
         Some('s' | 'p') => answered(line, sets::answer),
         Some('q' | 'W') => answered(line, cleaning::answer),
-        Some('r' | 'f' | 'm') => answered(line, files::answer),
+        Some('r' | 'f' | 'F' | 'm') => answered(line, files::answer),
         Some('i' | 'e') => answered(line, drawings::answer),
         _ => Err(line::NO_KIND.into()),
     }

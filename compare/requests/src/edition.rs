@@ -1,9 +1,10 @@
-//! Edition 1 of the set file, read and written as document 01 has it.
+//! The set file, of either edition: what they have in common.
 
-use crate::bits::{BitReader, BitWriter};
-use crate::grid::{Point, MOST_POINTS};
+use crate::bits::BitReader;
+use crate::grid::Point;
 use crate::ranges::{sound, Record};
-use crate::reply::{on_narrow_grid, refused_if, Reply, ODD, RANGES, ROOM, TOO_MANY};
+use crate::reply::{refused_if, Reply, RANGES, TOO_MANY};
+use crate::{edition_1, edition_2};
 
 pub const EDITION: u8 = 9;
 pub const LENGTH: u8 = 10;
@@ -16,78 +17,68 @@ pub const MOST_IN_ONE: usize = 32_767;
 
 pub type Shape = Vec<Vec<Point>>;
 
-/// The shapes of a file, or the first refusal that is due: 2; under two bytes 10; 9; for
-/// each contour its header missing 10, 11, its points missing 10; left over 10; 3.
-pub fn read(file: &[u8]) -> Reply<Vec<Shape>> {
+#[derive(Clone, Copy, Debug, PartialEq, Eq)]
+pub enum Edition {
+    One = 1,
+    Two = 2,
+}
+
+impl Edition {
+    pub const BOTH: [Edition; 2] = [Edition::One, Edition::Two];
+
+    /// The file of these shapes, none of them empty.
+    pub fn write(self, shapes: &[Shape]) -> Vec<u8> {
+        match self {
+            Edition::One => edition_1::write(shapes),
+            Edition::Two => edition_2::write(shapes),
+        }
+    }
+
+    /// The file of a flat set in a row of so many bytes, or the first refusal that is due.
+    pub fn written(
+        self,
+        numbers: &[i32],
+        contours: &[Record],
+        shapes: &[Record],
+        room: usize,
+    ) -> Reply<Vec<u8>> {
+        match self {
+            Edition::One => edition_1::written(numbers, contours, shapes, room),
+            Edition::Two => edition_2::written(numbers, contours, shapes, room),
+        }
+    }
+}
+
+/// The edition and the shapes of a file, or the first refusal that is due: 2; under two bytes 10; 9 for an edition but
+/// 1 and 2; then what the edition refuses.
+pub fn read(file: &[u8]) -> Reply<(Edition, Vec<Shape>)> {
     refused_if(file.len() > MOST_BYTES, TOO_MANY)?;
     refused_if(file.len() < 2, LENGTH)?;
     let bits = &mut BitReader::new(file);
-    refused_if(bits.next(4) != 1, EDITION)?;
-    let mut shapes: Vec<Shape> = vec![];
-    for _ in 0..bits.next(12) {
-        refused_if(bits.left() < 16, LENGTH)?;
-        if bits.next(1) == 1 {
-            shapes.push(vec![]);
-        }
-        let count = bits.next(15) as usize;
-        let shape = shapes.last_mut().ok_or(BEGINNING)?;
-        refused_if(bits.left() < 64 * count, LENGTH)?;
-        let mut coordinate = || bits.next(32) as i32;
-        shape.push((0..count).map(|_| [coordinate(), coordinate()]).collect());
+    match bits.next(4) {
+        1 => Ok((Edition::One, edition_1::shapes(bits)?)),
+        2 => Ok((Edition::Two, edition_2::shapes(bits)?)),
+        _ => Err(EDITION),
     }
-    refused_if(bits.left() > 0, LENGTH)?;
-    on_narrow_grid(&shapes.concat().concat().concat())?;
-    Ok(shapes)
 }
 
-/// The file of these shapes, none of them empty.
-pub fn write(shapes: &[Shape]) -> Vec<u8> {
-    let mut bits = BitWriter::default();
-    bits.push(4, 1);
-    bits.push(12, shapes.concat().len() as u32);
-    for shape in shapes {
-        for (place, contour) in shape.iter().enumerate() {
-            bits.push(1, u32::from(place == 0));
-            bits.push(15, contour.len() as u32);
-            for coordinate in contour.concat() {
-                bits.push(32, coordinate as u32);
-            }
-        }
-    }
-    bits.into_file()
-}
-
-/// How many bytes the file of so many contours and points has.
-pub fn need(contours: usize, points: usize) -> usize {
-    2 + 2 * contours + 8 * points
-}
-
-/// The file of a flat set in a row of so many bytes, or the first refusal that is due:
-/// 1, 2, 6, 3, 12, 5.
-pub fn written(
-    numbers: &[i32],
-    contours: &[Record],
-    shapes: &[Record],
-    room: usize,
-) -> Reply<Vec<u8>> {
-    let points = numbers.len() / 2;
-    let need = need(contours.len(), points);
-    refused_if(numbers.len() % 2 == 1, ODD)?;
-    refused_if(points > MOST_POINTS || need > MOST_BYTES, TOO_MANY)?;
+/// 6 for ranges that are not sound, of contours or of shapes.
+pub(crate) fn both_sound(points: usize, contours: &[Record], shapes: &[Record]) -> Reply<()> {
     refused_if(!sound(contours, points), RANGES)?;
-    refused_if(!sound(shapes, contours.len()), RANGES)?;
-    on_narrow_grid(numbers)?;
+    refused_if(!sound(shapes, contours.len()), RANGES)
+}
+
+/// 12 for sound ranges that no file carries: over 4,095 contours, over 32,767 points in one, or an empty shape.
+pub(crate) fn carried(contours: &[Record], shapes: &[Record]) -> Reply<()> {
     let over = |&[start, end]: &Record| end - start > MOST_IN_ONE;
     let empty = |&[start, end]: &Record| start == end;
     refused_if(contours.len() > MOST_CONTOURS, NOT_CARRIED)?;
     refused_if(contours.iter().any(over), NOT_CARRIED)?;
-    refused_if(shapes.iter().any(empty), NOT_CARRIED)?;
-    refused_if(room < need, ROOM)?;
-    Ok(write(&parts(numbers, contours, shapes)))
+    refused_if(shapes.iter().any(empty), NOT_CARRIED)
 }
 
 /// The shapes that sound ranges name.
-fn parts(numbers: &[i32], contours: &[Record], shapes: &[Record]) -> Vec<Shape> {
+pub(crate) fn parts(numbers: &[i32], contours: &[Record], shapes: &[Record]) -> Vec<Shape> {
     let points: Vec<Point> = numbers
         .chunks(2)
         .map(|point| [point[0], point[1]])
@@ -99,79 +90,33 @@ fn parts(numbers: &[i32], contours: &[Record], shapes: &[Record]) -> Vec<Shape> 
 
 #[cfg(test)]
 mod tests {
-    use super::{read, write, written};
-    use crate::grid::{LIMIT, NARROW};
+    use super::{read, Edition};
 
     #[test]
-    fn a_file_is_read_field_by_field() {
-        let file = [
-            0x10, 3, 0x80, 1, 0, 0, 0, 5, 0xff, 0xff, 0xff, 0xfe, 0, 0, 0x80, 0,
-        ];
-        let shapes = vec![vec![vec![[5, -2]], vec![]], vec![vec![]]];
-        assert_eq!(read(&file), Ok(shapes));
-        let records = ([[0, 1], [1, 1], [1, 1]], [[0, 2], [2, 3]]);
-        assert_eq!(
-            written(&[5, -2], &records.0, &records.1, 16),
-            Ok(file.to_vec())
-        );
-        assert_eq!(read(&[0x10, 0]), Ok(vec![]));
-        assert_eq!(written(&[], &[], &[], 2), Ok(vec![0x10, 0]));
-    }
-
-    #[test]
-    fn the_first_refusal_of_a_file_is_given() {
-        let off = (NARROW + 1).to_be_bytes();
-        let point = [&[0x10, 1, 0x80, 1][..], &off, &off].concat();
-        for (file, reply) in [
-            (&[0x20; 65_537][..], 2),
-            (&[], 10),
-            (&[0x20], 10),
-            (&[0x20, 0], 9),
-            (&[0x10, 1], 10),
-            (&[0x10, 1, 0], 10),
-            (&[0x10, 1, 0, 1], 11),
-            (&[0x10, 1, 0x80, 1], 10),
-            (&[0x10, 0, 0], 10),
-            (&point[..11], 10),
-            (&[&point[..], &[0]].concat(), 10),
-            (&point, 3),
-        ] {
-            assert_eq!(read(file), Err(reply), "{file:?}");
+    fn the_first_four_bits_are_the_edition() {
+        assert_eq!(read(&[0x10, 0]), Ok((Edition::One, vec![])));
+        assert_eq!(read(&[0x20, 0]), Ok((Edition::Two, vec![])));
+        for edition in (0..16).filter(|edition| ![1, 2].contains(edition)) {
+            for file in [&[edition << 4, 0][..], &[edition << 4 | 3, 1, 0, 0]] {
+                assert_eq!(read(file), Err(9), "{file:?}");
+            }
         }
     }
 
     #[test]
-    fn only_the_narrow_grid_is_carried() {
-        let of = |number| vec![vec![vec![[0, 0], [4, number]]]];
-        let written = |number| written(&[0, 0, 4, number], &[[0, 2]], &[[0, 1]], 20);
-        for on in [NARROW, -NARROW] {
-            assert_eq!(read(&write(&of(on))), Ok(of(on)));
-            assert_eq!(written(on), Ok(write(&of(on))));
+    fn the_length_comes_before_the_edition() {
+        for edition in 0..16 {
+            assert_eq!(read(&[edition << 4; 65_537]), Err(2));
+            assert_eq!(read(&[edition << 4]), Err(10));
         }
-        for off in [NARROW + 1, -NARROW - 1, LIMIT, -LIMIT, LIMIT + 1, i32::MIN] {
-            assert_eq!(read(&write(&of(off))), Err(3));
-            assert_eq!(written(off), Err(3));
-        }
+        assert_eq!(read(&[]), Err(10));
     }
 
     #[test]
-    fn the_first_refusal_of_a_set_is_given() {
-        let off = NARROW + 1;
-        let row = |numbers: &[i32], times| numbers.repeat(times);
-        for (numbers, contours, shapes, reply) in [
-            (row(&[off], 16_385), &[[1, 0]][..], &[][..], 1),
-            (row(&[off], 16_384), &[[1, 0]], &[], 2),
-            (row(&[7, 8], 8192), &[[0, 8192]], &[[0, 1]], 2),
-            (vec![], &[[0, 0]; 32_768], &[], 2),
-            (row(&[off], 16_382), &[[0, 8190]], &[[0, 0]], 6),
-            (vec![], &[[0, 0]; 32_767], &[], 6),
-            (row(&[off], 2), &[[0, 1]], &[[0, 0], [0, 1]], 3),
-            (vec![], &[[0, 0]; 32_767], &[[0, 32_767]], 12),
-            (vec![], &[[0, 0]; 4096], &[[0, 4096]], 12),
-            (vec![], &[], &[[0, 0]], 12),
-            (vec![], &[[0, 0]; 4095], &[[0, 4095]], 5),
-        ] {
-            assert_eq!(written(&numbers, contours, shapes, 0), Err(reply));
-        }
+    fn a_file_of_one_edition_is_none_of_the_other() {
+        let shapes = vec![vec![vec![[5, -2], [4, -2]], vec![]], vec![vec![]]];
+        let [one, two] = Edition::BOTH.map(|edition| edition.write(&shapes));
+        assert_eq!(read(&one), Ok((Edition::One, shapes.clone())));
+        assert_eq!(read(&two), Ok((Edition::Two, shapes)));
     }
 }

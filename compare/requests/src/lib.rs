@@ -1,10 +1,12 @@
 //! What the original does not have, written from the sentences of documents 01 and 02 alone:
-//! the replies, whether ranges are sound, the set file, what is sound of a damaged one,
+//! the replies, whether ranges are sound, the set file of both editions, what is sound of a damaged one,
 //! drawings in millimetres, where a point lies, and the walk with its turns.
 
-mod bits;
+pub mod bits;
 pub mod drawing;
 pub mod edition;
+pub mod edition_1;
+pub mod edition_2;
 pub mod exact;
 pub mod grid;
 pub mod locate;

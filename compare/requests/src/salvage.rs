@@ -1,7 +1,8 @@
 //! What is sound of a damaged file, written as a file of its own, as document 02 asks for.
 
 use crate::bits::BitReader;
-use crate::edition::{write, Shape, BEGINNING, EDITION, LENGTH, MOST_BYTES};
+use crate::edition::{Shape, BEGINNING, EDITION, LENGTH, MOST_BYTES};
+use crate::edition_1::write;
 use crate::grid::Point;
 use crate::ranges::Record;
 use crate::reply::{on_narrow_grid, refused_if, Reply, OFF_GRID, ROOM, TOO_MANY};
@@ -91,7 +92,8 @@ fn sifted(came: &[Came]) -> (Vec<Shape>, Vec<Record>) {
 #[cfg(test)]
 mod tests {
     use super::{mend, Mended};
-    use crate::edition::write;
+    use crate::edition::Edition;
+    use crate::edition_1::write;
     use crate::grid::{Point, LIMIT, NARROW};
     use crate::reply::Reply;
 
@@ -134,6 +136,14 @@ mod tests {
             let file = write(&shapes);
             assert_eq!(roomy(&file), Ok(mended(file, &[], 0, 0)));
         }
+    }
+
+    #[test]
+    fn only_edition_1_is_mended() {
+        let shapes = [vec![A.to_vec(), B.to_vec()]];
+        assert_eq!(roomy(&Edition::Two.write(&shapes)), Err(9));
+        let damaged = Edition::Two.write(&shapes)[..9].to_vec();
+        assert_eq!(roomy(&damaged), Err(9));
     }
 
     #[test]

@@ -6,7 +6,7 @@ use super::mend::Mending;
 use crate::checksum::checksum;
 use crate::sets::flat::Set;
 use crate::sets::rows::{Lengths, Rows};
-use requests::edition::{read, written, Shape};
+use requests::edition::{read, Edition, Shape};
 use requests::reply::{Reply, DONE};
 use std::fmt;
 
@@ -18,7 +18,7 @@ pub fn answer(case: &Case) -> String {
             let again = reading.again.as_ref().map(|writing| format!(" {writing}"));
             format!("{reading} {}{}", listed(file), again.unwrap_or_default())
         }
-        Case::Writing { room, set } => Writing::new(set, *room).to_string(),
+        Case::Writing { edition, room, set } => Writing::new(*edition, set, *room).to_string(),
         Case::Mending { lent, file } => Mending::new(*lent, file).to_string(),
     }
 }
@@ -29,11 +29,12 @@ fn listed(file: &[u8]) -> String {
     format!("{}:{}", listing.len(), checksum(listing.as_bytes()))
 }
 
-/// What a reading answers, and the rows after it. What was read is written again, into a
-/// row as long as the file.
+/// What a reading answers, and the rows after it; the edition is 0 where it is refused. What was read is written again,
+/// as a file of the same edition, into a row as long as the file.
 #[derive(Debug, PartialEq, Eq)]
 pub struct Reading {
     pub reply: u8,
+    pub edition: u32,
     pub points: usize,
     pub contours: usize,
     pub shapes: usize,
@@ -52,37 +53,39 @@ pub struct Writing {
 impl Reading {
     pub fn new(lent: Lengths, file: &[u8]) -> Reading {
         let rows = Rows::with_canaries(lent);
-        let stored = |shapes: Vec<Shape>| {
+        let stored = |(edition, shapes): (Edition, Vec<Shape>)| {
             let set = Set::of(&shapes);
             let rows = rows.holding(&set.points.all(), &set.contours, &set.shapes)?;
-            Ok((set, rows))
+            Ok((edition, set, rows))
         };
-        let stored: Reply<(Set, Rows)> = read(file).and_then(stored);
+        let stored: Reply<(Edition, Set, Rows)> = read(file).and_then(stored);
         match stored {
             Err(reply) => Reading {
                 reply,
+                edition: 0,
                 points: 0,
                 contours: 0,
                 shapes: 0,
                 rows,
                 again: None,
             },
-            Ok((set, rows)) => Reading {
+            Ok((edition, set, rows)) => Reading {
                 reply: DONE,
+                edition: edition as u32,
                 points: set.points.all().len() / 2,
                 contours: set.contours.len(),
                 shapes: set.shapes.len(),
                 rows,
-                again: Some(Writing::new(&set, file.len())),
+                again: Some(Writing::new(edition, &set, file.len())),
             },
         }
     }
 }
 
 impl Writing {
-    pub fn new(set: &Set, room: usize) -> Writing {
+    pub fn new(edition: Edition, set: &Set, room: usize) -> Writing {
         let mut row = vec![7u8; room];
-        match written(&set.points.all(), &set.contours, &set.shapes, room) {
+        match edition.written(&set.points.all(), &set.contours, &set.shapes, room) {
             Err(reply) => Writing {
                 reply,
                 bytes: 0,
@@ -103,7 +106,8 @@ impl Writing {
 impl fmt::Display for Reading {
     fn fmt(&self, out: &mut fmt::Formatter) -> fmt::Result {
         let counts = [self.points, self.contours, self.shapes].map(|count| count.to_string());
-        write!(out, "{} {} {}", self.reply, counts.join(" "), self.rows)
+        write!(out, "{} {} ", self.reply, self.edition)?;
+        write!(out, "{} {}", counts.join(" "), self.rows)
     }
 }
 
@@ -117,6 +121,7 @@ impl fmt::Display for Writing {
 mod tests {
     use super::answer;
     use crate::checksum::checksum;
+    use requests::edition_2::write;
 
     fn answered(line: &str) -> String {
         answer(&line.parse().unwrap())
@@ -134,7 +139,25 @@ mod tests {
         let listed = listed("contour before after decisions area2\n1 1 - 0 0\n");
         assert_eq!(
             answered("r 3 2 1 10018001 0000000500000006"),
-            format!("0 1 1 1 {rows} {listed} 0 12 {file}")
+            format!("0 1 1 1 1 {rows} {listed} 0 12 {file}")
+        );
+    }
+
+    #[test]
+    fn a_reading_of_edition_2_is_despiked_and_written_as_that() {
+        // From 1, 1 on by 1, 0 and 1, 0, then back to the start: a straight point stays, a spike goes.
+        let numbers = [1, 1, 2, 1, 3, 1, 1, 3, 1, 4, 1, 3];
+        let file = write(&[vec![numbers
+            .chunks(2)
+            .map(|point| [point[0], point[1]])
+            .collect()]]);
+        let bytes: String = file.iter().map(|byte| format!("{byte:02x}")).collect();
+        let rows = format!("{} 6 1", checksum(&numbers));
+        let listed = listed("contour before after decisions area2\n1 6 4 9 4\n");
+        let (length, sum) = (file.len(), checksum(&file));
+        assert_eq!(
+            answered(&format!("r 12 1 1 {bytes}")),
+            format!("0 2 6 1 1 {rows} {listed} 0 {length} {sum}")
         );
     }
 
@@ -144,13 +167,13 @@ mod tests {
         assert_eq!(
             answered("r 1 1 1 10018001 0000000500000006"),
             format!(
-                "5 0 0 0 {rows} {}",
+                "5 0 0 0 0 {rows} {}",
                 listed("contour before after decisions area2\n1 1 - 0 0\n")
             )
         );
         assert_eq!(
             answered("r 1 1 1 20"),
-            format!("10 0 0 0 {rows} {}", listed("refused 10\n"))
+            format!("10 0 0 0 0 {rows} {}", listed("refused 10\n"))
         );
     }
 
@@ -160,7 +183,12 @@ mod tests {
             answered("f 3 0 0"),
             format!("0 2 {}", checksum(&[0x10u8, 0, 7]))
         );
+        assert_eq!(
+            answered("F 3 0 0"),
+            format!("0 2 {}", checksum(&[0x20u8, 0, 7]))
+        );
         assert_eq!(answered("f 1 0 0"), "5 0 7");
+        assert_eq!(answered("F 1 0 0"), "5 0 7");
         assert_eq!(answered("f 1 0 1 0 0"), "12 0 7");
     }
 }

@@ -5,12 +5,13 @@ use super::text::{read_file, read_records, write_file, write_records};
 use crate::line::{length, Part, Row, Words, NO_KIND};
 use crate::sets::flat::Set;
 use crate::sets::rows::Lengths;
+use requests::edition::Edition;
 use std::fmt;
 use std::str::FromStr;
 
 /// The first byte of a line names its kind.
 const READING: &str = "r";
-const WRITING: &str = "f";
+const WRITING: [&str; 2] = ["f", "F"];
 const MENDING: &str = "m";
 
 /// A case gives at most so many bytes of a file, and so many records of each kind.
@@ -19,7 +20,7 @@ pub const MOST_RECORDS: usize = 32_800;
 
 /// The longest rows that can be lent to a reading.
 pub const LONGEST: Lengths = Lengths {
-    out: 16_400,
+    out: 131_200,
     records: 4100,
     groups: 4100,
 };
@@ -34,8 +35,12 @@ pub const LONGEST_MENDED: Lent = Lent {
 pub enum Case {
     /// A file is read into rows of these lengths.
     Reading { lent: Lengths, file: Vec<u8> },
-    /// A set is written into a row of so many bytes.
-    Writing { room: usize, set: Set },
+    /// A set is written as a file of the edition into a row of so many bytes.
+    Writing {
+        edition: Edition,
+        room: usize,
+        set: Set,
+    },
     /// What is sound of a file is written into rows of these lengths.
     Mending { lent: Lent, file: Vec<u8> },
 }
@@ -57,8 +62,8 @@ impl fmt::Display for Case {
                 write!(out, "{READING} {lent}")?;
                 write_file(out, file)
             }
-            Case::Writing { room, set } => {
-                write!(out, "{WRITING} {room}")?;
+            Case::Writing { edition, room, set } => {
+                write!(out, "{} {room}", WRITING[*edition as usize - 1])?;
                 write_records(out, &set.contours)?;
                 write_records(out, &set.shapes)?;
                 write!(out, "{}", set.points)
@@ -76,26 +81,32 @@ impl FromStr for Case {
 
     fn from_str(line: &str) -> Result<Case, String> {
         let words: &mut Words = &mut line.split(' ');
-        match words.next() {
-            Some(READING) => Ok(Case::Reading {
+        let kind = words.next().ok_or(NO_KIND)?;
+        match kind {
+            READING => Ok(Case::Reading {
                 lent: Lengths::read(words, LONGEST)?,
                 file: read_file(words, MOST_FILE)?,
             }),
-            Some(WRITING) => Ok(Case::Writing {
-                room: length(words, MOST_FILE)?,
-                set: Set {
-                    contours: read_records(words, MOST_RECORDS)?,
-                    shapes: read_records(words, MOST_RECORDS)?,
-                    points: Row::read(words)?,
-                },
-            }),
-            Some(MENDING) => Ok(Case::Mending {
+            MENDING => Ok(Case::Mending {
                 lent: Lent::read(words, LONGEST_MENDED)?,
                 file: read_file(words, MOST_FILE)?,
             }),
-            _ => Err(NO_KIND.into()),
+            _ => read_writing(kind, words),
         }
     }
+}
+
+fn read_writing(kind: &str, words: &mut Words) -> Result<Case, String> {
+    let place = WRITING.iter().position(|&letter| letter == kind);
+    Ok(Case::Writing {
+        edition: Edition::BOTH[place.ok_or(NO_KIND)?],
+        room: length(words, MOST_FILE)?,
+        set: Set {
+            contours: read_records(words, MOST_RECORDS)?,
+            shapes: read_records(words, MOST_RECORDS)?,
+            points: Row::read(words)?,
+        },
+    })
 }
 
 #[cfg(test)]
@@ -107,12 +118,14 @@ mod tests {
     fn a_line_is_read_as_it_was_written() {
         written_as_read::<Case>(&[
             "r 0 0 0",
-            "r 16400 4100 4100 1000",
+            "r 131200 4100 4100 1000",
             "r 2 1 1 10018001 00*100",
             "r 2 1 1 1fff 8000*4094 80",
             "f 0 0 0",
             "f 65600 1 0 1 1 0 1 5 -6",
             "f 9 32800 0 0*32799 1 0 1 0 2147483647 7 8 *8191",
+            "F 0 0 0",
+            "F 65600 1 0 1 1 0 1 5 -6",
             "m 0 0",
             "m 65600 4100 1fff 8000*4094 80",
         ]);
@@ -121,11 +134,12 @@ mod tests {
     #[test]
     fn a_damaged_line_is_refused() {
         refused::<Case>(&["", "c", "r", "r 0 0", "r 0 0 0 ", "r 0 0 0 1", "r 0 0 0 1G"]);
-        refused::<Case>(&["r 16401 0 0", "r 0 4101 0", "r 0 0 4101", "r 0 0 0 00*0"]);
+        refused::<Case>(&["r 131201 0 0", "r 0 4101 0", "r 0 0 4101", "r 0 0 0 00*0"]);
         refused::<Case>(&["r 0 0 0 00*65601", "r 0 0 0 00*65600 00"]);
         refused::<Case>(&["f", "f 0 0", "f 65601 0 0", "f 0 32801 0 0*32801 0"]);
         refused::<Case>(&["f 0 1 0 0*2 0", "f 0 1 0 0*0 0"]);
         refused::<Case>(&["f 0 2 0 0 0", "f 0 1 -1 0 0"]);
+        refused::<Case>(&["F", "F 0 0", "F 65601 0 0", "F 0 1 0 0*0 0", "R 0 0 0"]);
         refused::<Case>(&[
             "m",
             "m 0",

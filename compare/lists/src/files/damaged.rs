@@ -194,7 +194,7 @@ pub fn damaged_file(rng: &mut Rng) -> Vec<u8> {
     file
 }
 
-fn damage(file: &mut Vec<u8>, rng: &mut Rng) {
+pub fn damage(file: &mut Vec<u8>, rng: &mut Rng) {
     let place = rng.below(file.len());
     match rng.below(6) {
         0 => file.truncate(place),

@@ -86,7 +86,7 @@ impl fmt::Display for Mending {
 #[cfg(test)]
 mod tests {
     use super::{Lent, Mending};
-    use requests::edition::write;
+    use requests::edition_1::write;
     use requests::grid::NARROW;
 
     #[test]

@@ -253,7 +253,8 @@ mod tests {
     #[test]
     fn what_is_written_is_read_and_all_contours_are_accounted_for() {
         for (file, mended) in mended() {
-            let kept = read(&mended.file).expect("a file that is read").concat();
+            let (_, shapes) = read(&mended.file).expect("a file that is read");
+            let kept = shapes.concat();
             let all = kept.len() + mended.dropped.len() + mended.missing;
             assert_eq!(all, promised(&file), "{file:x?}");
         }

@@ -2,8 +2,9 @@
 //! the answers by the reader, the writer and the salvage of `requests`.
 
 mod answers;
-mod case;
+pub mod case;
 pub mod damaged;
+pub mod edition_2;
 mod large;
 mod listing;
 mod mend;
@@ -19,14 +20,21 @@ pub use mend::{Lent, Mending};
 
 /// How many contours a file has, if it is read.
 pub fn contours_read(file: &[u8]) -> Option<usize> {
-    let shapes = requests::edition::read(file).ok()?;
+    let (_, shapes) = requests::edition::read(file).ok()?;
     Some(shapes.concat().len())
 }
 
 /// Every case, in the order of the list: files to be read, then sets to be written, then
-/// files to be mended.
+/// files to be mended; then those of edition 2.
 pub fn list() -> Vec<Case> {
-    [readings(), writings(), mendings()].concat()
+    [
+        readings(),
+        writings(),
+        mendings(),
+        edition_2::readings(),
+        edition_2::writings(),
+    ]
+    .concat()
 }
 
 fn readings() -> Vec<Case> {
@@ -62,7 +70,7 @@ fn writings() -> Vec<Case> {
 
 fn mendings() -> Vec<Case> {
     [
-        mendings::files(&readings()),
+        mendings::files(&[readings(), edition_2::not_mended()].concat()),
         mendings::rows(),
         mendings::random(),
     ]
@@ -80,8 +88,9 @@ mod tests {
 
     #[test]
     fn every_reply_that_is_due_is_met() {
-        assert_eq!(replies('r'), [0, 2, 3, 5, 9, 10, 11]);
+        assert_eq!(replies('r'), [0, 2, 3, 5, 9, 10, 11, 15, 16]);
         assert_eq!(replies('f'), [0, 1, 2, 3, 5, 6, 12]);
+        assert_eq!(replies('F'), [0, 1, 2, 3, 5, 6, 12]);
         assert_eq!(replies('m'), [0, 2, 5, 9, 10]);
     }
 
@@ -89,8 +98,8 @@ mod tests {
     fn what_is_read_is_written_as_it_was() {
         for case in list() {
             if let Case::Reading { file, .. } = case {
-                if let Ok(shapes) = requests::edition::read(&file) {
-                    assert_eq!(requests::edition::write(&shapes), file);
+                if let Ok((edition, shapes)) = requests::edition::read(&file) {
+                    assert_eq!(edition.write(&shapes), file);
                 }
             }
         }

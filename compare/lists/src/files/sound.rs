@@ -7,7 +7,8 @@ use crate::sets::flat::Set;
 use crate::sets::random;
 use crate::sets::rows::{Lengths, OFFSETS};
 use crate::sets::small::{rows_up_to, set};
-use requests::edition::{read, write, written, MOST_BYTES};
+use requests::edition::{read, MOST_BYTES};
+use requests::edition_1::{write, written};
 
 pub fn reading(lent: Lengths, file: &[u8]) -> Case {
     let file = file.to_vec();
@@ -21,7 +22,8 @@ pub fn exact(file: &[u8]) -> Case {
 
 /// Exactly as long as what is in the file.
 pub fn need(file: &[u8]) -> Lengths {
-    let set = Set::of(&read(file).expect("a sound file"));
+    let (_, shapes) = read(file).expect("a sound file");
+    let set = Set::of(&shapes);
     Lengths {
         out: set.points.all().len(),
         records: set.contours.len(),

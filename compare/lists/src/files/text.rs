@@ -5,7 +5,7 @@ use crate::sets::flat::Record;
 use std::fmt;
 
 /// A line is kept short by repeats: of up to so many bytes, where they make up so many.
-const LONGEST_PART: usize = 32;
+const LONGEST_PART: usize = 48;
 const WORTH_A_PIECE: usize = 100;
 
 /// Writes a file in pieces, each some bytes in hexadecimal digits, and how often where

@@ -9,11 +9,12 @@ use crate::sets::flat::Set;
 use crate::sets::random;
 use crate::sets::ranges::{contour_ranges, shape_ranges};
 use crate::sets::small::{rows_up_to, set};
-use requests::edition::need;
+use requests::edition::Edition;
+use requests::edition_1::need;
 
 pub fn writing(room: usize, set: &Set) -> Case {
-    let set = set.clone();
-    Case::Writing { room, set }
+    let (edition, set) = (Edition::One, set.clone());
+    Case::Writing { edition, room, set }
 }
 
 /// So many bytes more than needed, or less.
@@ -36,14 +37,14 @@ fn in_turn(sets: &[Set]) -> Vec<Case> {
 
 /// All sets of up to two shapes, and of three of which some are empty.
 pub fn small() -> Vec<Case> {
+    in_turn(&small_sets())
+}
+
+pub fn small_sets() -> Vec<Set> {
     let two = rows_up_to(2, &rows_up_to(2, &[0, 1, 3]));
     let three = rows_up_to(3, &[vec![], vec![0], vec![2], vec![3, 0]]);
-    let sets: Vec<Set> = [two, three]
-        .concat()
-        .iter()
-        .map(|sizes| set(sizes))
-        .collect();
-    in_turn(&sets)
+    let sizes = [two, three].concat();
+    sizes.iter().map(|sizes| set(sizes)).collect()
 }
 
 /// Ranges of every kind, of contours and of shapes.
@@ -54,15 +55,20 @@ pub fn ranges() -> Vec<Case> {
 /// A set of which one number is off the grid, in each place in turn: sound, with an empty
 /// shape, unsound, and of an odd count.
 pub fn off_in_one_place() -> Vec<Case> {
+    in_turn(&off_sets(&OFF_NARROW))
+}
+
+/// That number is one of these.
+pub fn off_sets(off: &[i32; 8]) -> Vec<Set> {
     let mut sets = vec![];
     let sound = set(&[vec![3, 0], vec![2], vec![1]]);
     for place in 0..sound.points.numbers.len() {
-        for off in OFF_NARROW {
+        for &off in off {
             let mut set = sound.clone();
             set.points.numbers[place] = off;
             sets.push(set);
         }
-        let mut set = sets[sets.len() - 1 - place % OFF_NARROW.len()].clone();
+        let mut set = sets[sets.len() - 1 - place % off.len()].clone();
         let contours = set.contours.len();
         set.shapes.push([contours, contours]);
         sets.push(set.clone());
@@ -71,7 +77,7 @@ pub fn off_in_one_place() -> Vec<Case> {
         set.points.numbers.push(1);
         sets.push(set);
     }
-    in_turn(&sets)
+    sets
 }
 
 /// Sets that are on the grid and off the narrow one.
@@ -90,8 +96,19 @@ pub fn random() -> Vec<Case> {
     in_turn(&[sound, damaged, wide].concat())
 }
 
-/// Chosen sets with every choice of the row; points without ranges, and contours without shapes.
+/// Chosen sets with every choice of the row.
 pub fn rows() -> Vec<Case> {
+    let mut cases = vec![];
+    for set in chosen() {
+        for more in [0, -1, -2, -8, 1, 2, 9, isize::MIN, isize::MAX] {
+            cases.push(beside(&set, more));
+        }
+    }
+    cases
+}
+
+/// Small sets, one with points without ranges, and one with contours without shapes.
+pub fn chosen() -> Vec<Set> {
     let mut sets = [
         &[][..],
         &[vec![]],
@@ -111,11 +128,5 @@ pub fn rows() -> Vec<Case> {
         ..loose.clone()
     };
     sets.extend([loose, shapeless]);
-    let mut cases = vec![];
-    for set in sets {
-        for more in [0, -1, -2, -8, 1, 2, 9, isize::MIN, isize::MAX] {
-            cases.push(beside(&set, more));
-        }
-    }
-    cases
+    sets
 }

@@ -6,6 +6,8 @@ use lists::contours::tiny::square;
 use lists::drawings::back;
 use lists::drawings::sound::exact;
 use lists::files::damaged::rows;
+use lists::files::edition_2::raw::{one, Contour};
+use lists::files::edition_2::{damaged, writings as second};
 use lists::files::mendings::{file_of, mending};
 use lists::files::sound::reading;
 use lists::files::writings;
@@ -38,7 +40,7 @@ pub fn one_past(tally: &mut Tally) {
     every(tally, 3, &places, &around_the_ends());
 }
 
-/// As a file, read and mended, as a set, written and given back, and as a drawing.
+/// As a file of either edition, read and mended, as a set, written as either and given back, and as a drawing.
 pub fn carried_at_the_ends(tally: &mut Tally) {
     let past = [NARROW, NARROW + 1, LIMIT, LIMIT + 1];
     let ends = past.map(|end| [end, -end]).concat();
@@ -49,6 +51,10 @@ pub fn carried_at_the_ends(tally: &mut Tally) {
         tally.compare(&reading(rows(0, file.len()), &file));
         tally.compare(&mending(&file, [0, 0]));
         tally.compare(&writings::beside(&set, 0));
+        let file = one(&Contour::of_points(true, &contour));
+        tally.compare(&reading(damaged::rows(0, file.len()), &file));
+        tally.compare(&mending(&file, [0, 0]));
+        tally.compare(&second::beside(&set, 0));
         tally.compare(&back::around(&set, [0, 0]));
         tally.compare(&exact(&Drawing::of(&[contour])));
     });

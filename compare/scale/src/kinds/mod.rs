@@ -1,6 +1,7 @@
 //! The kinds of input.
 
 mod drawn;
+mod edition_2;
 mod every;
 mod long;
 mod mending;
@@ -47,7 +48,7 @@ impl Kind {
     }
 }
 
-pub const KINDS: [Kind; 29] = [
+pub const KINDS: [Kind; 32] = [
     Kind::new("the list of contours", All(short::list_of_contours)),
     Kind::new("the list of sets", All(short::list_of_sets)),
     Kind::new(
@@ -142,6 +143,15 @@ pub const KINDS: [Kind; 29] = [
     Kind::new(
         "points on the rims of outlines and holes",
         OneFor(10, short::on_rims),
+    ),
+    Kind::new(
+        "files of edition 2 read, sound and damaged",
+        OneFor(20, edition_2::read),
+    ),
+    Kind::new("files of edition 2 written", OneFor(20, edition_2::written)),
+    Kind::new(
+        "files of edition 2, of up to 65,537 bytes, and their sets",
+        OneFor(5000, edition_2::long),
     ),
 ];
 

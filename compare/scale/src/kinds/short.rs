@@ -94,7 +94,7 @@ fn any_set(end: i32, off: &[i32], rng: &mut Rng) -> Set {
     }
 }
 
-fn wide_set(rng: &mut Rng) -> Set {
+pub fn wide_set(rng: &mut Rng) -> Set {
     any_set(LIMIT, &OFF_GRID, rng)
 }
 

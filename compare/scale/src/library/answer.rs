@@ -52,6 +52,16 @@ pub struct Packed {
 
 #[repr(C)]
 #[derive(Debug, PartialEq, Eq)]
+pub struct Read {
+    pub reply: u32,
+    pub edition: u32,
+    pub points: usize,
+    pub contours: usize,
+    pub shapes: usize,
+}
+
+#[repr(C)]
+#[derive(Debug, PartialEq, Eq)]
 pub struct Written {
     pub reply: u32,
     pub bytes: usize,

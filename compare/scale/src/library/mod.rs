@@ -6,12 +6,13 @@ mod lent;
 #[path = "../../../../bindings/rust/src/library/raw.rs"]
 mod raw;
 
-use answer::{Area, Cleaned, CleanedSet, Drawn, Located, Packed, Salvaged, Verdict, Written};
+use answer::{Area, Cleaned, CleanedSet, Drawn, Located, Packed, Read, Salvaged, Verdict, Written};
 pub use lent::Lent;
 use lists::cleaner::Cleaner;
 use lists::point::Point;
 use lists::sets::flat::Record;
 use lists::{scratch, sets};
+use requests::edition::Edition;
 use requests::exact::Bits;
 
 /// A start and an end.
@@ -313,17 +314,20 @@ impl Flat<'_> {
         call!(ukm_add_shape(points, contours, shapes, more, ranges; out, records, groups;))
     }
 
-    pub fn write(self, out: &mut Lent<u8>) -> Written {
+    pub fn write(self, edition: Edition, out: &mut Lent<u8>) -> Written {
         let Flat {
             points,
             contours,
             shapes,
         } = self;
-        call!(ukm_write_set(points, contours, shapes; out;))
+        match edition {
+            Edition::One => call!(ukm_write_set(points, contours, shapes; out;)),
+            Edition::Two => call!(ukm_write_set_2(points, contours, shapes; out;)),
+        }
     }
 }
 
-pub fn read_set(file: &[u8], rows: &mut Rows) -> Packed {
+pub fn read_set(file: &[u8], rows: &mut Rows) -> Read {
     let Rows {
         out,
         records,
