@@ -1,5 +1,5 @@
 /* A worked example: ask about a contour, clean it, ask where pins lie, clean a shape with a hole, ask about shapes,
- * build a set, bring in a drawing, and salvage a damaged file. */
+ * build a set, write it in both editions and read it, bring in a drawing, and salvage a damaged file. */
 #include <inttypes.h>
 #include <math.h>
 #include <stdio.h>
@@ -129,6 +129,29 @@ static void a_drawing(void)
     printf("with a NaN: reply %" PRIu32 "\n", set.reply);
 }
 
+/* A square with a tack place in its lower edge as a file of either edition, read again; and the second with a fill bit
+ * set. */
+static void two_editions(void)
+{
+    const int32_t points[] = {0, 0, 2, 0, 4, 0, 4, 4, 0, 4};
+    const UkmRange contours[] = {{0, 5}}, shapes[] = {{0, 1}};
+    uint8_t first[64], second[64];
+    int32_t out[10];
+    UkmRange records[1], groups[1];
+
+    UkmWritten one = ukm_write_set(points, LENGTH(points), contours, 1, shapes, 1, first, sizeof first);
+    UkmWritten two = ukm_write_set_2(points, LENGTH(points), contours, 1, shapes, 1, second, sizeof second);
+    printf("written: %zu bytes in edition 1, %zu in edition 2\n", one.bytes, two.bytes);
+
+    UkmRead read = ukm_read_set(second, two.bytes, out, LENGTH(out), records, 1, groups, 1);
+    printf("read: edition %" PRIu32 ", %zu points:", read.edition, read.points);
+    print_points(out, 0, read.points);
+
+    second[two.bytes - 1] |= 1;
+    read = ukm_read_set(second, two.bytes, out, LENGTH(out), records, 1, groups, 1);
+    printf("with a fill bit set: reply %" PRIu32 "\n", read.reply);
+}
+
 /* A file of three contours of a point each: the first begins a shape, the second is a hole off the grid, and of the
  * third the last byte is gone. */
 static void a_damaged_file(void)
@@ -155,6 +178,7 @@ int main(void)
     one_shape();
     two_shapes();
     a_set();
+    two_editions();
     a_drawing();
     a_damaged_file();
 

@@ -100,10 +100,16 @@ int main(void)
     DUE(ukm_add_shape(NO, NO, NO, NO, NO, NO, NO, NO), a.reply == 5);
     DUE(ukm_add_shape(NO, NO, NO, NO, NO, NO, NO, groups, 1), a.reply == 0 && a.contours == 0 && a.shapes == 1);
 
-    DUE(ukm_read_set(NO, NO, NO, NO), a.reply == 10);
-    DUE(ukm_read_set((const uint8_t *)"\x10", 2, NO, NO, NO), a.reply == 0 && a.points == 0 && a.shapes == 0);
+    DUE(ukm_read_set(NO, NO, NO, NO), a.reply == 10 && a.edition == 0);
+    DUE(ukm_read_set((const uint8_t *)"\x10", 2, NO, NO, NO),
+        a.reply == 0 && a.edition == 1 && a.points == 0 && a.shapes == 0);
+    DUE(ukm_read_set((const uint8_t *)"\x20", 2, NO, NO, NO),
+        a.reply == 0 && a.edition == 2 && a.points == 0 && a.shapes == 0);
     DUE(ukm_write_set(NO, NO, NO, NO), a.reply == 5);
     DUE(ukm_write_set(NO, NO, NO, mark, 3), a.reply == 0 && a.bytes == 2 && mark[0] == 16 && mark[1] == 0);
+    DUE(ukm_write_set_2(NO, NO, NO, NO), a.reply == 5);
+    DUE(ukm_write_set_2(NO, NO, NO, mark, 3), a.reply == 0 && a.bytes == 2 && mark[0] == 32 && mark[1] == 0);
+    DUE(ukm_write_set_2(triangle, 6, NO, NO, NO), a.reply == 6);
     DUE(ukm_salvage(NO, NO, NO), a.reply == 10);
     DUE(ukm_salvage((const uint8_t *)"\x10", 2, NO, NO), a.reply == 5);
     DUE(ukm_salvage((const uint8_t *)"\x10\x01", 2, mark, 3, NO), a.reply == 5);

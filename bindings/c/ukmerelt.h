@@ -12,9 +12,9 @@
  * calls may run at the same time in many threads.
  *
  * Answers. `reply` is 0, or the number of the first refusal in the order 1, 2, 6, 3, 12, 4, 5, 8, 7; ukm_read_set,
- * ukm_salvage and ukm_import_mm have orders of their own. On a refusal every other field is 0 or false and every row is
- * as it was, but for 7, which reports its decisions and turns and leaves the scratch zeroed. Whatever numbers arrive are
- * answered or refused; none traps.
+ * ukm_write_set_2, ukm_salvage and ukm_import_mm have orders of their own. On a refusal every other field is 0 or
+ * false and every row is as it was, but for 7, which reports its decisions and turns and leaves the scratch zeroed.
+ * Whatever numbers arrive are answered or refused; none traps.
  *
  * Scratch. A cleaner is lent three rows, next, prev and mark, with at least as many entries each as the input has
  * points. After 0 and 7 that many entries of each are 0; what they held before plays no part.
@@ -35,8 +35,8 @@ extern "C" {
 /* The largest coordinate of the grid, either side of 0: of contours, of sets, and of points asked about. */
 #define UKM_LIMIT 1073741823
 
-/* The largest coordinate of the narrow grid, either side of 0: of set files, read, written or salvaged, and of drawings
- * in millimetres, in and out. */
+/* The largest coordinate of the narrow grid, either side of 0: of edition 1 files, read, written or salvaged, and of
+ * drawings in millimetres, in and out. */
 #define UKM_NARROW_LIMIT 536870912
 
 /* The most points of a contour or a set, and the most bytes of a file. */
@@ -46,20 +46,23 @@ extern "C" {
 enum {
     UKM_DONE = 0,        /* done */
     UKM_ODD = 1,         /* an odd count of coordinates */
-    UKM_TOO_MANY = 2,    /* over 65,536 points, or a file, read or to be written, over 65,536 bytes */
-    UKM_OFF_GRID = 3,    /* a coordinate, or the asked point, beyond 1,073,741,823 either side of 0; of a file or a
-                          * drawing, beyond 536,870,912 */
+    UKM_TOO_MANY = 2,    /* over 65,536 points, also promised by a file, or a file, read or to be written, over 65,536
+                          * bytes */
+    UKM_OFF_GRID = 3,    /* a coordinate, or the asked point, beyond 1,073,741,823 either side of 0; of an edition 1 file
+                          * or a drawing, beyond 536,870,912 */
     UKM_SCRATCH = 4,     /* a scratch row with fewer entries than the input has points */
     UKM_ROOM = 5,        /* an output row that is too short */
     UKM_RANGES = 6,      /* ranges that are not sound */
     UKM_COLLAPSED = 7,   /* collapsed: under three points, or cleaned away */
     UKM_EMPTY = 8,       /* the area or the winding of an empty contour, or the area of a set that has one */
-    UKM_EDITION = 9,     /* a file whose edition is not 1 */
+    UKM_EDITION = 9,     /* a file whose edition is neither 1 nor 2; to be salvaged, one whose edition is not 1 */
     UKM_LENGTH = 10,     /* a file that is short or has bytes left over */
     UKM_NO_SHAPE = 11,   /* a file whose first contour does not begin a shape */
     UKM_CANT_CARRY = 12, /* a set that no file carries: over 4,095 contours, 32,767 points in one, or an empty shape */
     UKM_NO_DRAWING = 13, /* kinds and floats whose lengths don't match, no kind, or a Line or Close with nothing open */
-    UKM_NOT_FINITE = 14  /* a place that is a NaN or an infinity */
+    UKM_NOT_FINITE = 14, /* a place that is a NaN or an infinity */
+    UKM_WIDTH = 15,      /* a file with a width that is 0, over 32, or not the smallest for its contour */
+    UKM_FILL = 16        /* a file with a fill bit set in its last byte */
 };
 
 /* The kinds of command in a drawing. */
@@ -98,8 +101,8 @@ typedef struct UkmArea {
     int64_t value;
 } UkmArea;
 
-/* points: how many are kept. decisions: how often the walk looked at a vertex and decided. turns: how often it was at one,
- * to decide or to step over one that it had marked; at most five for each point of the input. */
+/* points: how many are kept. decisions: how often the walk looked at a vertex and decided. turns: how often it was at
+ * one, to decide or to step over one that it had marked; at most five for each point of the input. */
 typedef struct UkmCleaned {
     uint32_t reply;
     size_t points;
@@ -124,6 +127,15 @@ typedef struct UkmPacked {
     size_t contours;
     size_t shapes;
 } UkmPacked;
+
+/* Which edition the file is, 1 or 2, and how many of each are written. */
+typedef struct UkmRead {
+    uint32_t reply;
+    uint32_t edition;
+    size_t points;
+    size_t contours;
+    size_t shapes;
+} UkmRead;
 
 /* How many bytes are written. */
 typedef struct UkmWritten {
@@ -341,27 +353,38 @@ UkmPacked ukm_add_shape(const int32_t *points, size_t points_len,
                         UkmRange *records, size_t records_len,
                         UkmRange *groups, size_t groups_len);
 
-/* Set files. Their coordinates lie on the narrow grid: 3 is for one beyond UKM_NARROW_LIMIT. */
+/* Set files. There are two editions. Edition 1 has each point in 64 bits, on the narrow grid: 3 is for a coordinate
+ * beyond UKM_NARROW_LIMIT. Edition 2 has each point but a contour's first as its differences from the one before, in
+ * the smallest width, 1 to 32 bits, that carries all of the contour's, and goes to UKM_LIMIT. */
 
-/* The shape set of a file. Refuses with 2; with 10 if there are under two bytes; with 9; then contour by contour with
- * 10 for a missing header, 11 for a first contour that begins no shape, 10 for missing points; with 10 for bytes left
- * over; with 3; and with 5 if an output row is too short for what the file holds. */
-UkmPacked ukm_read_set(const uint8_t *bytes, size_t bytes_len,
-                       int32_t *out, size_t out_len,
-                       UkmRange *records, size_t records_len,
-                       UkmRange *groups, size_t groups_len);
+/* The shape set of a file of either edition. Refuses with 2; with 10 if there are under two bytes; with 9; then contour
+ * by contour with 10 for a missing header and 11 for a first contour that begins no shape; in edition 1 with 10 for
+ * missing points; in edition 2 with 2 if the points promised so far pass 65,536, 10 for bits missing by the width as
+ * written, and 15. Then with 10 for whole bytes left over; in edition 2 with 16; with 3, also where later differences
+ * come back to the grid; and with 5 if an output row is too short for what the file holds. */
+UkmRead ukm_read_set(const uint8_t *bytes, size_t bytes_len,
+                     int32_t *out, size_t out_len,
+                     UkmRange *records, size_t records_len,
+                     UkmRange *groups, size_t groups_len);
 
-/* The file of a shape set, in front of bytes. Refuses with 1, with 2 for too many points or too long a file, with 6, 3,
- * 12, and 5 if bytes is shorter than the file. */
+/* The edition 1 file of a shape set, in front of bytes. Refuses with 1, with 2 for too many points or too long a file,
+ * with 6, 3, 12, and 5 if bytes is shorter than the file. */
 UkmWritten ukm_write_set(const int32_t *points, size_t points_len,
                          const UkmRange *contours, size_t contours_len,
                          const UkmRange *shapes, size_t shapes_len,
                          uint8_t *bytes, size_t bytes_len);
 
-/* What is sound of a damaged file, as a file in front of out, and which contours are left out, in front of dropped.
- * Contours are taken from the front as long as they are there in full. One with a coordinate off the narrow grid is
- * dropped, and if it began a shape, those behind it up to the next that begins one; a first contour that begins no
- * shape is dropped in the same way. A contour that is off the narrow grid is listed as UKM_OFF_GRID, any other as
+/* The edition 2 file of a shape set, in front of bytes. Refuses with 1, with 2 for too many points, with 6, 3, 12, with
+ * 2 for a file of over 65,536 bytes, and with 5 if bytes is shorter than the file. */
+UkmWritten ukm_write_set_2(const int32_t *points, size_t points_len,
+                           const UkmRange *contours, size_t contours_len,
+                           const UkmRange *shapes, size_t shapes_len,
+                           uint8_t *bytes, size_t bytes_len);
+
+/* What is sound of a damaged file of edition 1, as a file in front of out, and which contours are left out, in front of
+ * dropped. Contours are taken from the front as long as they are there in full. One with a coordinate off the narrow
+ * grid is dropped, and if it began a shape, those behind it up to the next that begins one; a first contour that begins
+ * no shape is dropped in the same way. A contour that is off the narrow grid is listed as UKM_OFF_GRID, any other as
  * UKM_NO_SHAPE. What is written is a file that ukm_read_set takes; a sound file is written as it is. Refuses with 2;
  * with 10 if there are under two bytes; with 9; and with 5 if out is shorter than bytes, or dropped than the count of
  * contours that the file promises, which is at most 4,095. */

@@ -130,7 +130,9 @@ mod tests {
     const PLATE: &str = include_str!("../../../examples/plate.drawing");
 
     fn read(text: &str, apart: bool) -> FlatShapesBuffer {
-        FlatShapesBuffer::read_set(&set_file(text, apart).unwrap()).unwrap()
+        FlatShapesBuffer::read_set(&set_file(text, apart).unwrap())
+            .unwrap()
+            .set
     }
 
     #[test]

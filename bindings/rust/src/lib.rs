@@ -17,7 +17,7 @@
 //! # }
 //! ```
 //!
-//! Coordinates and points asked about lie within [`LIMIT`] of 0, those of set files and of drawings within
+//! Coordinates and points asked about lie within [`LIMIT`] of 0, those of edition 1 files and of drawings within
 //! [`NARROW_LIMIT`], and a contour or a set has at most 65,536 points. What is beyond is refused, as is all else that
 //! i_shape would panic at or answer without sense: [`Refused`] says why.
 

@@ -36,6 +36,10 @@ pub enum Refused {
     NoDrawing,
     /// 14
     NotFinite,
+    /// 15
+    Width,
+    /// 16
+    Fill,
     /// A number that a later library has, and that this crate has no name for.
     Unknown { reply: u32 },
 }
@@ -58,6 +62,8 @@ impl Refused {
             Refused::CantCarry => 12,
             Refused::NoDrawing => 13,
             Refused::NotFinite => 14,
+            Refused::Width => 15,
+            Refused::Fill => 16,
             Refused::Unknown { reply } => reply,
         }
     }
@@ -80,6 +86,8 @@ impl Refused {
             12 => Refused::CantCarry,
             13 => Refused::NoDrawing,
             14 => Refused::NotFinite,
+            15 => Refused::Width,
+            16 => Refused::Fill,
             reply => Refused::Unknown { reply },
         })
     }
@@ -105,7 +113,9 @@ impl fmt::Display for Refused {
             Refused::Empty => {
                 "the area or the winding of an empty contour, or the area of a set that has one"
             }
-            Refused::Edition => "a file whose edition is not 1",
+            Refused::Edition => {
+                "a file of an edition that is not known, or, to be salvaged, of another than 1"
+            }
             Refused::Length => "a file that is short or has bytes left over",
             Refused::NoShape => "a file whose first contour does not begin a shape",
             Refused::CantCarry => {
@@ -115,6 +125,8 @@ impl fmt::Display for Refused {
                 "kinds and floats whose lengths don't match, no kind, or a Line or Close with nothing open"
             }
             Refused::NotFinite => "a place that is a NaN or an infinity",
+            Refused::Width => "a file whose differences are not in the smallest width, 1 to 32",
+            Refused::Fill => "a file whose last byte is not filled up with zero bits",
             Refused::Unknown { reply } => {
                 return write!(f, "the library's reply {reply}, which has no words here");
             }
@@ -144,7 +156,7 @@ mod tests {
 
     #[test]
     fn debug_is_words() {
-        for reply in 1..=15 {
+        for reply in 1..=17 {
             let refused = Refused::read(reply, 0).unwrap_err();
             assert_eq!(format!("{refused:?}"), refused.to_string());
             assert!(refused.to_string().contains(' '));

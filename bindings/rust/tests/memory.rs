@@ -190,6 +190,7 @@ fn too_many_points_come_before_all_else() {
         set.simplified();
         set.to_shapes();
         set.write_set();
+        set.write_set_2();
         more_shapes.add_shape(&[]);
     } {
         assert_eq!((refused, taken), (Some(Refused::TooMany), 0), "{call}");

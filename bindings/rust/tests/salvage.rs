@@ -128,7 +128,7 @@ fn what_is_salvaged_is_read() {
     for length in 2..=damaged.len() {
         let salvaged = salvage(&damaged[..length]).unwrap();
         let kept = FlatShapesBuffer::read_set(&salvaged.file).unwrap();
-        let all = kept.contour_ranges.len() + salvaged.dropped.len() + salvaged.missing;
+        let all = kept.set.contour_ranges.len() + salvaged.dropped.len() + salvaged.missing;
         assert_eq!(all, 3, "{length}");
         assert_eq!(salvage(&salvaged.file).unwrap().file, salvaged.file);
     }

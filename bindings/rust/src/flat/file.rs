@@ -6,29 +6,92 @@ use std::fmt;
 /// The most contours of a file: its count has twelve bits.
 const MOST_CONTOURS: usize = 4095;
 
-/// The set file, edition 1.
+/// How a set file carries its points.
+#[derive(Debug, Clone, Copy, PartialEq, Eq)]
+#[non_exhaustive]
+pub enum Edition {
+    /// Each in 64 bits, on the narrow grid.
+    One,
+    /// Each but a contour's first as its differences from the one before, in as few bits as carry all of the contour's.
+    Two,
+    /// An edition that a later library has, and that this crate has no name for.
+    Unknown { number: u32 },
+}
+
+impl Edition {
+    /// Reads an edition of the library.
+    pub(crate) fn read(number: u32) -> Self {
+        match number {
+            1 => Edition::One,
+            2 => Edition::Two,
+            number => Edition::Unknown { number },
+        }
+    }
+
+    /// 1 or 2.
+    pub fn number(self) -> u32 {
+        match self {
+            Edition::One => 1,
+            Edition::Two => 2,
+            Edition::Unknown { number } => number,
+        }
+    }
+}
+
+/// What a file carries.
+#[derive(Debug, Clone, PartialEq, Eq)]
+pub struct Read {
+    pub edition: Edition,
+    pub set: FlatShapesBuffer,
+}
+
+/// The set file, of both editions.
 impl FlatShapesBuffer {
-    /// The set of a file.
-    pub fn read_set(bytes: &[u8]) -> Result<Self, Refused> {
+    /// The set of a file, and which edition that is. Refused as `OffGrid` where a coordinate of edition 1 is beyond
+    /// [`NARROW_LIMIT`](crate::NARROW_LIMIT), or one of edition 2 beyond [`LIMIT`](crate::LIMIT).
+    pub fn read_set(bytes: &[u8]) -> Result<Read, Refused> {
         library::at_most(bytes.len())?;
-        // A point takes eight bytes and a contour two: no file of this length holds more.
+        // A contour takes two bytes or more. A point takes eight bytes in edition 1, and two bits or more in edition 2:
+        // no file of this length holds more.
         let contours = (bytes.len() / 2).min(MOST_CONTOURS);
-        let mut set = FlatShapesBuffer::rows(bytes.len() / 8, contours, contours)?;
-        let packed = library::read_set(
+        let points = match bytes.first() {
+            Some(0x20..=0x2f) => (4 * bytes.len()).min(library::MOST),
+            _ => bytes.len() / 8,
+        };
+        let mut set = FlatShapesBuffer::rows(points, contours, contours)?;
+        let read = library::read_set(
             bytes,
             &mut set.points,
             &mut set.contour_ranges,
             &mut set.shape_ranges,
         );
-        packed.read_shapes(set)
+        read.read(set)
     }
 
-    /// The file of the set. Refused as `OffGrid` where a coordinate is beyond [`NARROW_LIMIT`](crate::NARROW_LIMIT).
+    /// The file of the set, of edition 1. Refused as `OffGrid` where a coordinate is beyond
+    /// [`NARROW_LIMIT`](crate::NARROW_LIMIT).
     pub fn write_set(&self) -> Result<Vec<u8>, Refused> {
         let length = 2 + 2 * self.contour_ranges.len() + 8 * self.points.len();
         library::at_most(length)?;
         let mut bytes = vec![0; length];
         library::write_set(
+            &self.points,
+            &self.contour_ranges,
+            &self.shape_ranges,
+            &mut bytes,
+        )
+        .read(bytes)
+    }
+
+    /// The file of the set, of edition 2. It carries coordinates up to [`LIMIT`](crate::LIMIT), and the smaller the
+    /// steps from point to point, the shorter it is. Refused as `TooMany` where it would be over 65,536 bytes long.
+    pub fn write_set_2(&self) -> Result<Vec<u8>, Refused> {
+        library::at_most(self.points.len())?;
+        // A contour takes 22 bits and a point at most 64.
+        let contours = self.contour_ranges.len().min(MOST_CONTOURS);
+        let longest = 2 + (22 * contours + 64 * self.points.len()).div_ceil(8);
+        let mut bytes = vec![0; longest.min(library::MOST)];
+        library::write_set_2(
             &self.points,
             &self.contour_ranges,
             &self.shape_ranges,
@@ -70,9 +133,9 @@ pub enum Reason {
     Unknown { number: usize },
 }
 
-/// What is sound of a file whose end is gone, or that has coordinates off the narrow grid, as a file of its own: the
-/// contours that are there in full, without those off that grid, those of a shape whose first contour is off it, and
-/// those in front of the first that begins a shape. A sound file comes back as it was.
+/// What is sound of an edition 1 file whose end is gone, or that has coordinates off the narrow grid, as a file of its
+/// own: the contours that are there in full, without those off that grid, those of a shape whose first contour is off
+/// it, and those in front of the first that begins a shape. A sound file comes back as it was.
 pub fn salvage(bytes: &[u8]) -> Result<Salvaged, Refused> {
     library::at_most(bytes.len())?;
     let mut out = vec![0; bytes.len()];
@@ -106,7 +169,15 @@ impl fmt::Display for Reason {
 
 #[cfg(test)]
 mod tests {
-    use super::{Dropped, Reason};
+    use super::{Dropped, Edition, Reason};
+
+    #[test]
+    fn every_edition_is_read_back() {
+        for number in 0..16 {
+            assert_eq!(Edition::read(number).number(), number);
+        }
+        assert_eq!([1, 2].map(Edition::read), [Edition::One, Edition::Two]);
+    }
 
     #[test]
     fn every_reason_has_words() {

@@ -2,7 +2,7 @@
 
 use crate::drawing::Place;
 use crate::flat::buffer::{FlatContoursBuffer, FlatShapesBuffer};
-use crate::flat::file::Dropped;
+use crate::flat::file::{self, Dropped, Edition};
 use crate::int::path::Location;
 use crate::int::shape::IntContour;
 use crate::refused::Refused;
@@ -46,6 +46,15 @@ pub struct CleanedSet {
 #[repr(C)]
 pub struct Packed {
     reply: u32,
+    points: usize,
+    contours: usize,
+    shapes: usize,
+}
+
+#[repr(C)]
+pub struct Read {
+    reply: u32,
+    edition: u32,
     points: usize,
     contours: usize,
     shapes: usize,
@@ -137,6 +146,20 @@ impl CleanedSet {
     }
 }
 
+impl Read {
+    /// The shape set in front of the rows that were lent, and the edition of its file.
+    pub fn read(self, mut out: FlatShapesBuffer) -> Result<file::Read, Refused> {
+        Refused::read(self.reply, 0)?;
+        out.points.truncate(self.points);
+        out.contour_ranges.truncate(self.contours);
+        out.shape_ranges.truncate(self.shapes);
+        Ok(file::Read {
+            edition: Edition::read(self.edition),
+            set: out,
+        })
+    }
+}
+
 impl Written {
     /// The file in front of the row that was lent.
     pub fn read(self, mut out: Vec<u8>) -> Result<Vec<u8>, Refused> {
@@ -148,15 +171,11 @@ impl Written {
 
 impl Salvaged {
     /// The file and the list in front of the rows that were lent.
-    pub fn read(
-        self,
-        mut out: Vec<u8>,
-        dropped: &[[usize; 2]],
-    ) -> Result<crate::flat::file::Salvaged, Refused> {
+    pub fn read(self, mut out: Vec<u8>, dropped: &[[usize; 2]]) -> Result<file::Salvaged, Refused> {
         Refused::read(self.reply, 0)?;
         out.truncate(self.bytes);
         let dropped = dropped.iter().take(self.dropped);
-        Ok(crate::flat::file::Salvaged {
+        Ok(file::Salvaged {
             file: out,
             dropped: dropped.map(Dropped::read).collect(),
             missing: self.missing,
@@ -185,15 +204,6 @@ impl Packed {
         Refused::read(self.reply, 0)?;
         out.points.truncate(self.points);
         out.ranges.truncate(self.contours);
-        Ok(out)
-    }
-
-    /// The shape set in front of the rows that were lent.
-    pub fn read_shapes(self, mut out: FlatShapesBuffer) -> Result<FlatShapesBuffer, Refused> {
-        Refused::read(self.reply, 0)?;
-        out.points.truncate(self.points);
-        out.contour_ranges.truncate(self.contours);
-        out.shape_ranges.truncate(self.shapes);
         Ok(out)
     }
 

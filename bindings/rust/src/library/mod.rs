@@ -6,7 +6,7 @@ mod raw;
 use crate::drawing::Place;
 use crate::int::point::IntPoint;
 use crate::refused::Refused;
-use answer::{Area, Cleaned, CleanedSet, Drawn, Located, Packed, Salvaged, Verdict, Written};
+use answer::{Area, Cleaned, CleanedSet, Drawn, Located, Packed, Read, Salvaged, Verdict, Written};
 
 /// A start and an end, laid as `UkmRange` of the header is.
 pub type Range = [usize; 2];
@@ -291,7 +291,7 @@ pub fn read_set(
     out: &mut [IntPoint],
     records: &mut [Range],
     groups: &mut [Range],
-) -> Packed {
+) -> Read {
     call!(ukm_read_set(bytes; out, records, groups;))
 }
 
@@ -302,6 +302,15 @@ pub fn write_set(
     bytes: &mut [u8],
 ) -> Written {
     call!(ukm_write_set(points, contours, shapes; bytes;))
+}
+
+pub fn write_set_2(
+    points: &[IntPoint],
+    contours: &[Range],
+    shapes: &[Range],
+    bytes: &mut [u8],
+) -> Written {
+    call!(ukm_write_set_2(points, contours, shapes; bytes;))
 }
 
 pub fn salvage(bytes: &[u8], out: &mut [u8], dropped: &mut [[usize; 2]]) -> Salvaged {

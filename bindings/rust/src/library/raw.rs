@@ -1,7 +1,7 @@
 //! The functions of libukmerelt.a, as bindings/c/ukmerelt.h declares them.
 
 use super::answer::{
-    Area, Cleaned, CleanedSet, Drawn, Located, Packed, Salvaged, Verdict, Written,
+    Area, Cleaned, CleanedSet, Drawn, Located, Packed, Read, Salvaged, Verdict, Written,
 };
 use super::Range;
 
@@ -250,8 +250,18 @@ extern "C" {
         records_len: usize,
         groups: *mut Range,
         groups_len: usize,
-    ) -> Packed;
+    ) -> Read;
     pub fn ukm_write_set(
+        points: *const i32,
+        points_len: usize,
+        contours: *const Range,
+        contours_len: usize,
+        shapes: *const Range,
+        shapes_len: usize,
+        bytes: *mut u8,
+        bytes_len: usize,
+    ) -> Written;
+    pub fn ukm_write_set_2(
         points: *const i32,
         points_len: usize,
         contours: *const Range,
