@@ -5,6 +5,8 @@ pub mod EdgeLaws
 pub mod RowLaws
 pub mod CornerLaws
 pub mod AroundLaws
+pub mod Round
+pub mod StartLaws
 pub mod DomainLaws
 pub mod AlongLaws
 pub mod BoxLaws

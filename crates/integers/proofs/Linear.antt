@@ -1,7 +1,7 @@
 -- `omega` for ℤ: a fact of an expression's two natural parts, which `omega` proves, is one of the integer that it stands for.
 use mathlib.Core.Path.{_≡_, refl, sym, _∙_, ap, ap₂}
 use mathlib.Core.Logic.{_⊎_, inl, inr, ⊎-elim}
-use mathlib.Core.Bool.{true, false, not}
+use mathlib.Core.Bool.{true, false, not, Bool·not-not}
 use Prim.Native.Nat.{ℕ, suc, _+_, _-_, _<_, _≤_}
 use native.Mathlib.Omega.{arith}
 use native.Mathlib.Decide.{decLe}
@@ -103,6 +103,10 @@ ltZ-difference x y =
     let l : up (at x) + dn (at y) ≡ up (num 0) + dn (at y :- at x) = omega arith in
     let r : up (at y) + dn (at x) ≡ up (at y :- at x) + dn (num 0) = omega arith in
     ltZ-is (at x) (at y) ∙ ap₂ ltb l r ∙ sym (ltZ-is (num 0) (at y :- at x))
+
+-- and x ≤ y is not y < x
+pub leZ-not : (x y : ℤ) → leZ x y ≡ not (ltZ y x)
+leZ-not x y = sym (Bool·not-not (leZ x y)) ∙ ap not (sym (ltZ-not y x))
 
 -- to prove what a test gives
 pub le-holds : (e f : Ex) → up e + dn f ≤ up f + dn e → leZ (value e) (value f) ≡ true

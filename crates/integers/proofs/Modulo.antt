@@ -3,7 +3,7 @@ use mathlib.Core.Path.{_≡_, refl, sym, _∙_, ap}
 use Prim.Native.Nat.{ℕ, _+_, _*_, _/_, _%_, _<_, _^_}
 use native.Mathlib.Omega.{arith}
 use native.Mathlib.Nat.{add-mul-mod-self-right}
-use lib.IntN.{ℤ, pos, negsuc, _+ℤ_, _-ℤ_}
+use lib.IntN.{ℤ, pos, negsuc, negℤ, _+ℤ_, _-ℤ_, +ℤ-assoc, +ℤ-comm, +ℤ-idl, +ℤ-invr}
 use mir.Syntax.{w64}
 use mir.Val.{SFits, toZ, ofZ}
 use mir.Facts.{toZ-ofZ}
@@ -47,6 +47,16 @@ cong-add m s t c =
 -- the term t goes onto the residue of s
 pub mod64-add : (s t : ℤ) → mod64 (pos (mod64 s) +ℤ t) ≡ mod64 (s +ℤ t)
 mod64-add s t = mod64-only (s +ℤ t) (mod64 (pos (mod64 s) +ℤ t)) (mod64-lt (pos (mod64 s) +ℤ t)) (cong-add (mod64 s) s t (mod64-cong s))
+
+-- what agrees modulo 2^64 agrees below 0 too
+pub mod64-negated : (s t : ℤ) → mod64 s ≡ mod64 t → mod64 (negℤ s) ≡ mod64 (negℤ t)
+mod64-negated s t e =
+    ap mod64 (sym (without t s)) ∙ sym (mod64-add t (negℤ t -ℤ s))
+    ∙ ap (λ (n : ℕ). mod64 (pos n +ℤ (negℤ t -ℤ s))) (sym e)
+    ∙ mod64-add s (negℤ t -ℤ s) ∙ ap (λ (z : ℤ). mod64 (s +ℤ z)) (+ℤ-comm (negℤ t) (negℤ s)) ∙ ap mod64 (without s t)
+  where
+    without : (s t : ℤ) → s +ℤ (negℤ s -ℤ t) ≡ negℤ t
+    without s t = sym (+ℤ-assoc s (negℤ s) (negℤ t)) ∙ ap (λ (z : ℤ). z -ℤ t) (+ℤ-invr s) ∙ +ℤ-idl (negℤ t)
 
 -- what the two wrapping operations give
 pub wrap-add : (a b r : ℕ) → r ≡ (a + b) % 2 ^ 64 → r ≡ mod64 (pos a +ℤ pos b)

@@ -2,7 +2,6 @@ pub mod ConvexLaws
 pub mod ContainsLaws
 pub mod OnEdge
 pub mod LocateLaws
-pub mod Round
 pub mod Theorems
 pub mod Cases
 pub mod BoxLaws

@@ -16,6 +16,7 @@ use Rattle.grid.proofs.LimitLaws.{on-joined}
 use Rattle.grid.proofs.PointLaws.{at-on}
 use Rattle.grid.proofs.RowLaws.{points-more}
 use Rattle.grid.proofs.DomainLaws.{in-domain}
+use Rattle.grid.proofs.Round.{AnyStart, along, closed, closed-alike, moved-start, turned-round}
 use Rattle.replies.specs.Ladder.{Rung, first-of}
 use Rattle.replies.specs.Verdicts.{verdict}
 use Rattle.path.specs.declared.Located.{Located}
@@ -24,7 +25,6 @@ use Rattle.path.specs.Locate.{on-edge, touched, on-boundary, location, a
 use Rattle.path.proofs.ContainsLaws.{crosses-not, crosses-up, crosses-down, xor-assoc, xor-swap, false-xor}
 use Rattle.path.proofs.OnEdge.{on-edge-swap, end-on-edge}
 use Rattle.path.proofs.LocateLaws.{place-by, located-given}
-use Rattle.path.proofs.Round.{along, closed, moved-start, turned-round}
 
 -- where the answer is inside or outside, `contains` says yes or no; and both refuse alike
 as-contained : (k : ℕ) (met odd : Bool) → answer k (place-by met odd) ≡ record { reply = 0; place = 2 } → verdict k odd ≡ record { reply = 0; yes = true }
@@ -102,23 +102,41 @@ unfolding odd
 odd-along p a [] = refl
 odd-along p a (b ∷ l) = ap (xor (crosses p a b)) (odd-along p b l)
 
-together : (p : Point) (c : List Point) → location p c ≡ place-by (closed _||_ false (on-edge p) c) (closed xor false (crosses p) c)
-unfolding on-boundary contained location
-together p [] = refl
-together p (o ∷ l) = ap₂ place-by (touched-along p (last o l) (o ∷ l)) (odd-along p (last o l) (o ∷ l))
+pub boundary-closed : (p : Point) (c : List Point) → on-boundary p c ≡ closed _||_ false (on-edge p) c
+unfolding on-boundary
+boundary-closed p [] = refl
+boundary-closed p (o ∷ l) = touched-along p (last o l) (o ∷ l)
 
--- so the place does not change with the start, nor with the order reversed
+pub contained-closed : (p : Point) (c : List Point) → contained p c ≡ closed xor false (crosses p) c
+unfolding contained
+contained-closed p [] = refl
+contained-closed p (o ∷ l) = odd-along p (last o l) (o ∷ l)
+
+-- so neither changes with the start, nor with the order reversed
+boundary-any-start : (p : Point) → AnyStart (on-boundary p)
+boundary-any-start p l m = boundary-closed p (m ++ l) ∙ moved-start _||_ false (on-edge p) or-assoc or-comm (λ s. refl) l m ∙ sym (boundary-closed p (l ++ m))
+
+pub contained-any-start : (p : Point) → AnyStart (contained p)
+contained-any-start p l m = contained-closed p (m ++ l) ∙ moved-start xor false (crosses p) xor-assoc xor-swap false-xor l m ∙ sym (contained-closed p (l ++ m))
+
+boundary-reversed : (p : Point) (c : List Point) → on-boundary p (reverse c) ≡ on-boundary p c
+boundary-reversed p c =
+    boundary-closed p (reverse c) ∙ turned-round _||_ false (on-edge p) or-assoc or-comm (λ s. refl) c
+    ∙ closed-alike _||_ false (λ a b. on-edge p b a) (on-edge p) (λ a b. on-edge-swap p b a) c ∙ sym (boundary-closed p c)
+
+pub contained-reversed : (p : Point) (c : List Point) → contained p (reverse c) ≡ contained p c
+contained-reversed p c =
+    contained-closed p (reverse c) ∙ turned-round xor false (crosses p) xor-assoc xor-swap false-xor c
+    ∙ closed-alike xor false (λ a b. crosses p b a) (crosses p) (λ a b. crosses-swap p b a) c ∙ sym (contained-closed p c)
+
+-- and so the place does not
 pub another-start-keeps-the-place : (p : Point) (l m : List Point) → location p (m ++ l) ≡ location p (l ++ m)
-another-start-keeps-the-place p l m =
-    together p (m ++ l)
-    ∙ ap₂ place-by (moved-start _||_ false (on-edge p) or-assoc or-comm (λ s. refl) l m) (moved-start xor false (crosses p) xor-assoc xor-swap false-xor l m)
-    ∙ sym (together p (l ++ m))
+unfolding location
+another-start-keeps-the-place p l m = ap₂ place-by (boundary-any-start p l m) (contained-any-start p l m)
 
 pub reversing-keeps-the-place : (p : Point) (c : List Point) → location p (reverse c) ≡ location p c
-reversing-keeps-the-place p c =
-    together p (reverse c)
-    ∙ ap₂ place-by (turned-round _||_ false (on-edge p) or-assoc or-comm (λ s. refl) (on-edge-swap p) c) (turned-round xor false (crosses p) xor-assoc xor-swap false-xor (crosses-swap p) c)
-    ∙ sym (together p c)
+unfolding location
+reversing-keeps-the-place p c = ap₂ place-by (boundary-reversed p c) (contained-reversed p c)
 
 -- the row of a contour
 abbrev pub row-of : List Point → List ℤ

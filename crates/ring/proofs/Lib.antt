@@ -11,6 +11,7 @@ pub mod Rounds
 pub mod Ends
 pub mod Listed
 pub mod Theorems
+pub mod Alike
 pub mod Filling
 pub mod Links
 pub mod Loop

@@ -140,7 +140,8 @@ module _ (rule : Rule) where
       go [] (fallen k) r x = absurd r
       go (c ∷ s) (fallen k) r x = falls r x
 
-  kept-even : (set : List (List (List ℤ))) → AllContours set → Even (joined (shapes-fate rule set .shapes))
+  -- what is kept of shapes of the domain are even rows of numbers
+  pub kept-even : (set : List (List (List ℤ))) → AllContours set → Even (joined (shapes-fate rule set .shapes))
   unfolding shapes-fate joined
   kept-even [] h = tt
   kept-even (s ∷ l) h = go s (shape-fate rule s) (shape-is-right s (h .0)) (kept-even l (h .1))

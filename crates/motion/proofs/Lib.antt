@@ -1,0 +1,10 @@
+pub mod Rows
+pub mod Shifts
+pub mod Cleanings
+pub mod Sets
+pub mod SetCleanings
+pub mod Answers
+pub mod Starts
+pub mod Theorems
+pub mod Cases
+pub mod Examples
