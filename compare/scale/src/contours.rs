@@ -6,7 +6,7 @@ use crate::library::{self, Lent, Scratch};
 use lists::cleaner::Cleaner;
 use lists::contours::case::{Case, Kind};
 use lists::contours::lent::{beside, need};
-use lists::contours::rows::{self, Lengths};
+use lists::contours::rows::{self, Cleaning, Lengths};
 use lists::contours::{contains, Verdicts};
 use lists::counted::COUNTED;
 use lists::point::Point;
@@ -18,7 +18,7 @@ impl Input for Case {
         let row = self.of.all();
         match self.kind {
             Kind::Contour { asked } => {
-                verdicts(&mut found, asked, &row);
+                hold_verdicts(&mut found, &Verdicts::new(asked, &row), &row);
                 located(&mut found, asked, &row);
                 for cleaner in Cleaner::BOTH {
                     cleaning(&mut found, cleaner, longer(row.len()), &row);
@@ -38,12 +38,12 @@ impl Input for Case {
 }
 
 /// Rows longer than a contour of so many numbers needs.
-fn longer(numbers: usize) -> Lengths {
+pub fn longer(numbers: usize) -> Lengths {
     beside(need(numbers.div_ceil(2)), [3, 5, 2, 7]).expect("longer rows")
 }
 
-fn verdicts(found: &mut Found, asked: Point, row: &[i32]) {
-    let original = Verdicts::new(asked, row);
+/// What the library says of a row, all but what is asked about a point.
+pub fn hold_verdicts(found: &mut Found, original: &Verdicts, row: &[i32]) {
     found.hold("area_two", original.area_two.into(), library::area_two(row));
     found.hold("area", original.area.into(), library::area(row));
     found.hold(
@@ -75,6 +75,17 @@ fn located(found: &mut Found, asked: Point, row: &[i32]) {
 
 fn cleaning(found: &mut Found, cleaner: Cleaner, lent: Lengths, row: &[i32]) {
     let original = rows::answer(cleaner, lent, row);
+    hold_cleaning(found, cleaner, lent, &original, row);
+}
+
+/// What the library leaves of a row.
+pub fn hold_cleaning(
+    found: &mut Found,
+    cleaner: Cleaner,
+    lent: Lengths,
+    original: &Cleaning,
+    row: &[i32],
+) {
     let mut scratch = Scratch::with_canaries(lent.scratch);
     let mut out = Lent::new(-7, lent.out);
     let answer = library::cleaned(cleaner, row, &mut scratch, &mut out);

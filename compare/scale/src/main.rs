@@ -9,6 +9,7 @@ mod input;
 mod kinds;
 mod library;
 mod mending;
+mod moved;
 mod ranges;
 mod sets;
 mod tally;

@@ -7,12 +7,14 @@ use crate::library::{Flat, Rows, Scratch};
 use crate::ranges;
 use lists::cleaner::Cleaner;
 use lists::cleaning::case::{Form, Lengths};
-use lists::cleaning::{self, cleaned, off_every_boundary, Verdicts};
+use lists::cleaning::cleaned::{self, Cleaning};
+use lists::cleaning::{self, off_every_boundary, Verdicts};
 use lists::counted::COUNTED;
 use lists::point::Point;
 use lists::sets::flat::Set;
 use lists::sets::packing::{self, Call, Packed as What};
 use lists::sets::{self, case::Kind};
+use requests::reply::Reply;
 
 /// The set over a row that holds its points.
 pub fn flat<'a>(set: &'a Set, points: &'a [i32]) -> Flat<'a> {
@@ -38,9 +40,14 @@ impl Input for cleaning::Case {
         let mut found = Found::default();
         let (before, points) = (self.clone(), self.of.points.all());
         match self.kind {
-            cleaning::case::Kind::Asked { asked } => verdicts(&mut found, asked, &self.of, &points),
+            cleaning::case::Kind::Asked { asked } => {
+                let original = Verdicts::new(asked, &self.of);
+                hold_off_boundaries(&mut found, asked, &self.of, original.in_shape);
+                hold_verdicts(&mut found, original, flat(&self.of, &points), asked)
+            }
             cleaning::case::Kind::Cleaning { form, lent } => {
-                cleaning(&mut found, form, lent, &self.of, &points)
+                let original = cleaned::answer(form, lent, &self.of);
+                hold_cleaning(&mut found, form, lent, &original, flat(&self.of, &points))
             }
         }
         found.hold_unchanged(&before, self);
@@ -53,13 +60,22 @@ impl Input for cleaning::Case {
     }
 }
 
-fn verdicts(found: &mut Found, asked: Point, set: &Set, points: &[i32]) {
+/// Off every boundary a shape has what the original's contours have.
+fn hold_off_boundaries(found: &mut Found, asked: Point, set: &Set, in_shape: Reply<bool>) {
+    if in_shape.is_ok() {
+        if let Some(has) = off_every_boundary(&set.to_contours(), asked) {
+            found.hold("off every boundary", Ok(has), in_shape);
+        }
+    }
+}
+
+/// What the library says of a set, and of a point.
+pub fn hold_verdicts(found: &mut Found, original: Verdicts, library: Flat, asked: Point) {
     let Verdicts {
         contours,
         in_shape,
         shapes,
-    } = Verdicts::new(asked, set);
-    let library = flat(set, points);
+    } = original;
     found.hold("set_is_simple", contours.simple.into(), library.is_simple());
     found.hold(
         "set_has_no_spikes",
@@ -68,11 +84,6 @@ fn verdicts(found: &mut Found, asked: Point, set: &Set, points: &[i32]) {
     );
     found.hold("set_area_two", contours.area_two.into(), library.area_two());
     found.hold("set_area", contours.area.into(), library.area());
-    if in_shape.is_ok() {
-        if let Some(has) = off_every_boundary(&set.to_contours(), asked) {
-            found.hold("off every boundary", Ok(has), in_shape);
-        }
-    }
     found.hold("in_shape", in_shape.into(), library.in_shape(asked));
     found.hold(
         "shapes_is_simple",
@@ -92,11 +103,16 @@ fn verdicts(found: &mut Found, asked: Point, set: &Set, points: &[i32]) {
     found.hold("shapes_area", shapes.area.into(), library.shapes_area());
 }
 
-fn cleaning(found: &mut Found, form: Form, lent: Lengths, set: &Set, points: &[i32]) {
-    let original = cleaned::answer(form, lent, set);
+/// What the library leaves of a set.
+pub fn hold_cleaning(
+    found: &mut Found,
+    form: Form,
+    lent: Lengths,
+    original: &Cleaning,
+    library: Flat,
+) {
     let mut scratch = Scratch::with_canaries(lent.scratch);
     let mut rows = Rows::with_canaries(lent.rows);
-    let library = flat(set, points);
     let answer = match form.shapes {
         false => library.cleaned_shape(form.cleaner, &mut scratch, &mut rows),
         true => library.cleaned_shapes(form.cleaner, &mut scratch, &mut rows),

@@ -5,6 +5,7 @@ mod edition_2;
 mod every;
 mod long;
 mod mending;
+mod moved;
 mod ranges;
 mod short;
 
@@ -48,7 +49,7 @@ impl Kind {
     }
 }
 
-pub const KINDS: [Kind; 32] = [
+pub const KINDS: [Kind; 34] = [
     Kind::new("the list of contours", All(short::list_of_contours)),
     Kind::new("the list of sets", All(short::list_of_sets)),
     Kind::new(
@@ -153,6 +154,11 @@ pub const KINDS: [Kind; 32] = [
         "files of edition 2, of up to 65,537 bytes, and their sets",
         OneFor(5000, edition_2::long),
     ),
+    Kind::new(
+        "random contours shifted, reversed and started elsewhere",
+        OneFor(1, moved::contour),
+    ),
+    Kind::new("sets shifted, asked and cleaned", OneFor(20, moved::set)),
 ];
 
 fn each<I: Input>(tally: &mut Tally, inputs: Vec<I>) {
