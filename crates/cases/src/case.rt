@@ -79,7 +79,7 @@ fn lists(kind: u8) -> usize {
     match kind {
         b'c' | b'l' | b'w' | b'k' | b'r' | b'm' | b'i' => 0,
         b'e' => 1,
-        b's' | b'q' | b'W' | b'f' | b'F' => 2,
+        b's' | b'q' | b'W' | b'f' | b'F' | b'd' => 2,
         b'p' => 3,
         _ => 4,
     }
@@ -120,6 +120,7 @@ fn limits(kind: u8) -> [usize; HEAD] {
         b'm' => [LONG, READ, 0, 0, 0, 0, 0],
         b'i' => [NUMBERS, RECORDS, 0, 0, 0, 0, 0],
         b'e' => [MARKS, FLOATS, 0, 0, 0, 0, 0],
+        b'd' => [SET, NUMBERS, 0, 0, 0, 0, 0],
         _ => [0, 0, 0, 0, 0, 0, 0],
     }
 }

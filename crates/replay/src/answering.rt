@@ -62,6 +62,7 @@ fn of_parts(
         b'r' => files::read(head, file),
         b'm' => files::mended(head, file),
         b'F' => files::written_2(head, points, contours, shapes),
+        b'd' => difference_answers::lent(head, points, contours, shapes),
         _ => files::written(head, points, contours, shapes),
     }
 }

@@ -1,0 +1,3 @@
+// The lines of a listing, and how they are written.
+pub mod lines;
+pub mod listing;

@@ -1,0 +1,62 @@
+// Two sets compared, contour by contour: what is the same, what starts elsewhere, what differs, and what only one of them has. Nothing is copied.
+pub mod inner;
+pub mod kind;
+pub mod walker;
+
+ghost use mathlib.Core.Path.{_≡_};
+ghost use Rattle.difference.specs.Outcome.{leaving, outcome};
+use crate::inner::listing;
+
+// How a comparison ended: its reply number; whose set was refused, 1 or 2, and 0 where none was; and how many contours are listed, 0 where it is refused.
+#[repr(C)]
+pub struct Compared {
+    pub reply: u32,
+    pub refused: u32,
+    pub contours: usize,
+}
+
+// Lists what two sets are to each other: line k is of contour k, and behind the lines the row is as it was.
+pub fn compare(
+    points: &[i32],
+    ranges: &[[usize; 2]],
+    others: &[i32],
+    other_ranges: &[[usize; 2]],
+    listing: &mut [[usize; 2]],
+) -> Compared
+    ensures { λ r. ⌜
+        leaving r (now (listing .exit))
+        ≡ outcome (now (points .entry)) (now (ranges .entry)) (now (others .entry)) (now («other_ranges» .entry))
+        (now (listing .entry))
+        ⌝ }
+{
+    let first = buffer::contours::refused(points, ranges);
+    if first != 0 {
+        return Compared {
+            reply: first,
+            refused: 1,
+            contours: 0,
+        };
+    }
+    let second = buffer::contours::refused(others, other_ranges);
+    if second != 0 {
+        return Compared {
+            reply: second,
+            refused: 2,
+            contours: 0,
+        };
+    }
+    let n = turned::inner::larger(ranges.len(), other_ranges.len());
+    if listing.len() < n {
+        return Compared {
+            reply: replies::ROOM,
+            refused: 0,
+            contours: 0,
+        };
+    }
+    listing::fill(points, ranges, others, other_ranges, n, listing);
+    Compared {
+        reply: replies::DONE,
+        refused: 0,
+        contours: n,
+    }
+}

@@ -1,0 +1,9 @@
+pub mod SearchLaws
+pub mod WordLaws
+pub mod RaceLaws
+pub mod KeyLaws
+pub mod RunLaws
+pub mod StartLaws
+pub mod StartedLaws
+pub mod Theorems
+pub mod Cases

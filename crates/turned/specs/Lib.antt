@@ -1,0 +1,4 @@
+pub mod Search
+pub mod Starts
+pub mod Promises
+pub mod inside
