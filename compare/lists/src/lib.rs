@@ -4,6 +4,7 @@
 mod checksum;
 pub mod cleaner;
 pub mod cleaning;
+pub mod comparing;
 pub mod contours;
 pub mod counted;
 pub mod drawings;
@@ -31,6 +32,7 @@ pub fn list() -> Vec<String> {
         lines(once(cleaning::list())),
         lines(once(files::list())),
         lines(once(drawings::list())),
+        lines(once(comparing::list())),
     ]
     .concat()
 }
@@ -54,6 +56,7 @@ pub fn answer(line: &str) -> Result<String, String> {
         Some('q' | 'W') => answered(line, cleaning::answer),
         Some('r' | 'f' | 'F' | 'm') => answered(line, files::answer),
         Some('i' | 'e') => answered(line, drawings::answer),
+        Some('d') => answered(line, comparing::answer),
         _ => Err(line::NO_KIND.into()),
     }
 }
@@ -67,7 +70,7 @@ where
 
 #[cfg(test)]
 mod tests {
-    use super::{answer, cleaning, contours, drawings, files, sets};
+    use super::{answer, cleaning, comparing, contours, drawings, files, sets};
     use crate::line::tests::read_as_written;
     use crate::sets::chosen::wide;
 
@@ -78,6 +81,7 @@ mod tests {
         read_as_written(cleaning::list());
         read_as_written(files::list());
         read_as_written(drawings::list());
+        read_as_written(comparing::list());
     }
     #[test]
     fn what_is_off_the_narrow_grid_is_refused_by_files_and_drawings_alone() {

@@ -1,8 +1,9 @@
 //! What the original does not have, written from the sentences of documents 01 and 02 alone:
 //! the replies, whether ranges are sound, the set file of both editions, what is sound of a damaged one,
-//! drawings in millimetres, where a point lies, and the walk with its turns.
+//! drawings in millimetres, where a point lies, the walk with its turns, and two sets compared.
 
 pub mod bits;
+pub mod difference;
 pub mod drawing;
 pub mod edition;
 pub mod edition_1;

@@ -2,6 +2,7 @@
 //! other inputs as belong to that, and prints how many of each kind were compared and how many differ. The exit status
 //! is 1 if any does.
 
+mod comparing;
 mod contours;
 mod drawings;
 mod files;

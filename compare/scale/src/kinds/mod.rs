@@ -1,5 +1,6 @@
 //! The kinds of input.
 
+mod compared;
 mod drawn;
 mod edition_2;
 mod every;
@@ -49,7 +50,7 @@ impl Kind {
     }
 }
 
-pub const KINDS: [Kind; 34] = [
+pub const KINDS: [Kind; 39] = [
     Kind::new("the list of contours", All(short::list_of_contours)),
     Kind::new("the list of sets", All(short::list_of_sets)),
     Kind::new(
@@ -159,6 +160,26 @@ pub const KINDS: [Kind; 34] = [
         OneFor(1, moved::contour),
     ),
     Kind::new("sets shifted, asked and cleaned", OneFor(20, moved::set)),
+    Kind::new(
+        "the list of sets compared",
+        All(|tally| each(tally, once(lists::comparing::list()))),
+    ),
+    Kind::new(
+        "all pairs of words of up to 9 letters, compared",
+        All(compared::words),
+    ),
+    Kind::new(
+        "sets compared, and what became of them",
+        OneFor(5, compared::any),
+    ),
+    Kind::new(
+        "sets compared, damaged, listings and none",
+        OneFor(20, compared::spoilt),
+    ),
+    Kind::new(
+        "contours of up to 65,536 points compared",
+        OneFor(5000, compared::long),
+    ),
 ];
 
 fn each<I: Input>(tally: &mut Tally, inputs: Vec<I>) {

@@ -84,3 +84,11 @@ pub struct Drawn {
     pub commands: usize,
     pub floats: usize,
 }
+
+#[repr(C)]
+#[derive(Debug, PartialEq, Eq)]
+pub struct Compared {
+    pub reply: u32,
+    pub refused: u32,
+    pub contours: usize,
+}

@@ -6,7 +6,9 @@ mod lent;
 #[path = "../../../../bindings/rust/src/library/raw.rs"]
 mod raw;
 
-use answer::{Area, Cleaned, CleanedSet, Drawn, Located, Packed, Read, Salvaged, Verdict, Written};
+use answer::{
+    Area, Cleaned, CleanedSet, Compared, Drawn, Located, Packed, Read, Salvaged, Verdict, Written,
+};
 pub use lent::Lent;
 use lists::cleaner::Cleaner;
 use lists::point::Point;
@@ -384,4 +386,14 @@ pub fn export_mm(
             floats.1,
         )
     }
+}
+
+pub fn compare_sets(
+    points: &[i32],
+    contours: &[Record],
+    others: &[i32],
+    other_contours: &[Record],
+    listing: &mut Lent<Record>,
+) -> Compared {
+    call!(ukm_compare_sets(points, contours, others, other_contours; listing;))
 }
