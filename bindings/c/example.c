@@ -171,6 +171,30 @@ static void a_damaged_file(void)
     printf("with room to list 2 of 3: reply %" PRIu32 "\n", salvaged.reply);
 }
 
+/* A plate with a hole before and after: the plate starts at another corner, a corner of the hole has moved, and a
+ * second hole has come. */
+static void two_sets(void)
+{
+    static const char *const words[] = {"the same", "the same from point", "different at point", "only in the first",
+                                        "only in the second"};
+    const int32_t before[] = {0, 0, 8, 0, 8, 8, 0, 8, /* hole */ 2, 2, 2, 3, 3, 3};
+    const UkmRange before_contours[] = {{0, 4}, {4, 7}};
+    const int32_t after[] = {8, 8, 0, 8, 0, 0, 8, 0, /* hole */ 2, 2, 2, 3, 4, 3, /* second */ 5, 5, 5, 6, 6, 6};
+    const UkmRange after_contours[] = {{0, 4}, {4, 7}, {7, 10}};
+    UkmLine listing[3];
+
+    UkmCompared compared = ukm_compare_sets(before, LENGTH(before), before_contours, LENGTH(before_contours), after,
+                                            LENGTH(after), after_contours, LENGTH(after_contours), listing,
+                                            LENGTH(listing));
+    for (size_t i = 0; i < compared.contours; i++)
+        printf("contour %zu: %s %zu\n", i, words[listing[i].kind], listing[i].place);
+
+    compared = ukm_compare_sets(before, LENGTH(before), before_contours, LENGTH(before_contours), after, 5,
+                                after_contours, LENGTH(after_contours), listing, LENGTH(listing));
+    printf("with five numbers in the second set: reply %" PRIu32 " of set %" PRIu32 "\n", compared.reply,
+           compared.refused);
+}
+
 int main(void)
 {
     one_contour();
@@ -181,6 +205,7 @@ int main(void)
     two_editions();
     a_drawing();
     a_damaged_file();
+    two_sets();
 
     printf("area of nothing: reply %" PRIu32 "\n", ukm_area(NULL, 0).reply);
     return 0;

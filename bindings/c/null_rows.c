@@ -127,6 +127,11 @@ int main(void)
     DUE(ukm_export_mm(triangle, 6, NO, NO, NO), a.reply == 6);
     DUE(ukm_export_mm(triangle, 6, three, 1, NO, NO), a.reply == 5);
 
+    DUE(ukm_compare_sets(NO, NO, NO, NO, NO), a.reply == 0 && a.refused == 0 && a.contours == 0);
+    DUE(ukm_compare_sets(NO, empty_contour, 1, NO, NO, NO), a.reply == 5 && a.refused == 0 && a.contours == 0);
+    DUE(ukm_compare_sets(triangle, 6, NO, NO, NO, NO), a.reply == 6 && a.refused == 1);
+    DUE(ukm_compare_sets(NO, NO, triangle, 6, NO, NO), a.reply == 6 && a.refused == 2);
+
     printf("%d answers as due, %d not\n", right, wrong);
     return wrong != 0;
 }

@@ -13,8 +13,9 @@
  *
  * Answers. `reply` is 0, or the number of the first refusal in the order 1, 2, 6, 3, 12, 4, 5, 8, 7; ukm_read_set,
  * ukm_write_set_2, ukm_salvage and ukm_import_mm have orders of their own. On a refusal every other field is 0 or
- * false and every row is as it was, but for 7, which reports its decisions and turns and leaves the scratch zeroed.
- * Whatever numbers arrive are answered or refused; none traps.
+ * false and every row is as it was, but for 7, which reports its decisions and turns and leaves the scratch zeroed,
+ * and for ukm_compare_sets, which says whose set was refused. Whatever numbers arrive are answered or refused; none
+ * traps.
  *
  * Scratch. A cleaner is lent three rows, next, prev and mark, with at least as many entries each as the input has
  * points. After 0 and 7 that many entries of each are 0; what they held before plays no part.
@@ -165,6 +166,29 @@ typedef struct UkmDrawn {
     size_t commands;
     size_t floats;
 } UkmDrawn;
+
+/* How many contours of two sets are listed. Of a refusal, refused says whose set it is about: 1, 2, or 0 for neither. */
+typedef struct UkmCompared {
+    uint32_t reply;
+    uint32_t refused;
+    size_t contours;
+} UkmCompared;
+
+/* What two sets have under one contour number: one of the kinds below, and the place that goes with it, or 0. */
+typedef struct UkmLine {
+    size_t kind;
+    size_t place;
+} UkmLine;
+
+/* The kinds of a line. */
+enum {
+    UKM_SAME = 0,        /* the two contours are the same, point by point, or both empty */
+    UKM_ELSEWHERE = 1,   /* the same once the second starts at its point number place, the smallest such, from 1 on */
+    UKM_DIFFERENT = 2,   /* different, first at the point number place, from 0; the shorter count, if one is the
+                          * beginning of the other */
+    UKM_ONLY_FIRST = 3,  /* only the first set has so many contours */
+    UKM_ONLY_SECOND = 4  /* only the second */
+};
 
 /* One contour. */
 
@@ -391,6 +415,15 @@ UkmWritten ukm_write_set_2(const int32_t *points, size_t points_len,
 UkmSalvaged ukm_salvage(const uint8_t *bytes, size_t bytes_len,
                         uint8_t *out, size_t out_len,
                         UkmDropped *dropped, size_t dropped_len);
+
+/* Two contour sets compared: line i of the listing is of contour number i, from 0, as many lines as the larger set has
+ * contours. The time is linear in the points, also of contours that repeat, and no scratch is lent. Refuses with 1, 2, 6,
+ * 3 of the first set, then of the second, and with 5 if listing has fewer entries than the larger set has contours. */
+UkmCompared ukm_compare_sets(const int32_t *points, size_t points_len,
+                             const UkmRange *contours, size_t contours_len,
+                             const int32_t *others, size_t others_len,
+                             const UkmRange *other_contours, size_t other_contours_len,
+                             UkmLine *listing, size_t listing_len);
 
 /* Drawings in millimetres. A drawing is a row of kinds and a row of floats, two for each UKM_MOVE or UKM_LINE, x and y
  * of its place. A millimetre is 1,024 of the library's units. Drawings lie on the narrow grid, which ends 524,288 mm

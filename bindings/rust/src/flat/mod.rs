@@ -1,4 +1,5 @@
-//! Sets of contours and of shapes in a few flat rows, and the files that carry them.
+//! Sets of contours and of shapes in a few flat rows, what two of them are to each other, and the files that carry them.
 
 pub mod buffer;
+pub mod difference;
 pub mod file;

@@ -2,6 +2,7 @@
 
 use crate::drawing::Place;
 use crate::flat::buffer::{FlatContoursBuffer, FlatShapesBuffer};
+use crate::flat::difference::{Line, RefusedSet};
 use crate::flat::file::{self, Dropped, Edition};
 use crate::int::path::Location;
 use crate::int::shape::IntContour;
@@ -80,6 +81,13 @@ pub struct Drawn {
     reply: u32,
     commands: usize,
     floats: usize,
+}
+
+#[repr(C)]
+pub struct Compared {
+    reply: u32,
+    refused: u32,
+    contours: usize,
 }
 
 impl Verdict {
@@ -181,6 +189,18 @@ impl Salvaged {
             missing: self.missing,
             past: self.past,
         })
+    }
+}
+
+impl Compared {
+    /// The lines in front of the row that was lent.
+    pub fn read(self, listing: &[[usize; 2]]) -> Result<Vec<Line>, RefusedSet> {
+        Refused::read(self.reply, 0).map_err(|refused| RefusedSet {
+            set: self.refused,
+            refused,
+        })?;
+        let lines = listing.iter().take(self.contours);
+        Ok(lines.map(Line::read).collect())
     }
 }
 

@@ -6,7 +6,9 @@ mod raw;
 use crate::drawing::Place;
 use crate::int::point::IntPoint;
 use crate::refused::Refused;
-use answer::{Area, Cleaned, CleanedSet, Drawn, Located, Packed, Read, Salvaged, Verdict, Written};
+use answer::{
+    Area, Cleaned, CleanedSet, Compared, Drawn, Located, Packed, Read, Salvaged, Verdict, Written,
+};
 
 /// A start and an end, laid as `UkmRange` of the header is.
 pub type Range = [usize; 2];
@@ -334,4 +336,14 @@ pub fn export_mm(
     places: &mut [Place],
 ) -> Drawn {
     call!(ukm_export_mm(points, contours; kinds, places;))
+}
+
+pub fn compare_sets(
+    points: &[IntPoint],
+    contours: &[Range],
+    others: &[IntPoint],
+    other_contours: &[Range],
+    listing: &mut [[usize; 2]],
+) -> Compared {
+    call!(ukm_compare_sets(points, contours, others, other_contours; listing;))
 }

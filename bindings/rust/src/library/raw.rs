@@ -1,7 +1,7 @@
 //! The functions of libukmerelt.a, as bindings/c/ukmerelt.h declares them.
 
 use super::answer::{
-    Area, Cleaned, CleanedSet, Drawn, Located, Packed, Read, Salvaged, Verdict, Written,
+    Area, Cleaned, CleanedSet, Compared, Drawn, Located, Packed, Read, Salvaged, Verdict, Written,
 };
 use super::Range;
 
@@ -299,4 +299,16 @@ extern "C" {
         floats: *mut f64,
         floats_len: usize,
     ) -> Drawn;
+    pub fn ukm_compare_sets(
+        points: *const i32,
+        points_len: usize,
+        contours: *const Range,
+        contours_len: usize,
+        others: *const i32,
+        others_len: usize,
+        other_contours: *const Range,
+        other_contours_len: usize,
+        listing: *mut [usize; 2],
+        listing_len: usize,
+    ) -> Compared;
 }
