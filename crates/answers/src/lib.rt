@@ -2,4 +2,4 @@
 pub mod column;
 pub mod contours;
 pub mod packing;
-mod parts;
+pub mod parts;

@@ -3,7 +3,7 @@ use cases::checksum;
 use cases::numbers;
 
 // The checksum with one part more.
-fn with_part(sum: u64, part: &[i32]) -> u64 {
+pub fn with_part(sum: u64, part: &[i32]) -> u64 {
     let length = checksum::with_count(sum, part.len());
     checksum::added(length, numbers::checksum(part))
 }

@@ -3,6 +3,7 @@ ghost use mathlib.Core.Path.{_≡_};
 ghost use Rattle.buffer.specs.Answers.{counted as counted-of, packed};
 
 // A count: its reply number, and 0 where it is refused.
+#[repr(C)]
 pub struct Counted {
     pub reply: u32,
     pub count: usize,

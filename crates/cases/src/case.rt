@@ -7,6 +7,7 @@ use crate::line::Read;
 use crate::marks;
 use crate::marks::MARKS;
 use crate::number;
+use crate::number::LARGEST;
 use crate::numbers;
 use crate::numbers::NUMBERS;
 use crate::records;
@@ -79,7 +80,7 @@ fn lists(kind: u8) -> usize {
     match kind {
         b'c' | b'l' | b'w' | b'k' | b'r' | b'm' | b'i' => 0,
         b'e' => 1,
-        b's' | b'q' | b'W' | b'f' | b'F' | b'd' => 2,
+        b's' | b'q' | b'W' | b'f' | b'F' | b'd' | b'h' => 2,
         b'p' => 3,
         _ => 4,
     }
@@ -121,6 +122,7 @@ fn limits(kind: u8) -> [usize; HEAD] {
         b'i' => [NUMBERS, RECORDS, 0, 0, 0, 0, 0],
         b'e' => [MARKS, FLOATS, 0, 0, 0, 0, 0],
         b'd' => [SET, NUMBERS, 0, 0, 0, 0, 0],
+        b'h' => [LONG_NUMBERS, LONG, LARGEST, 0, 0, 0, 0],
         _ => [0, 0, 0, 0, 0, 0, 0],
     }
 }

@@ -17,6 +17,7 @@ use Rattle.buffer.specs.Shapes as Shapes
 use Rattle.sets.specs.Verdicts.{verdict-by}
 use Rattle.sets.specs.Area.{doubled-by, half-by}
 use Rattle.sets.specs.Contains.{in-shape}
+use Rattle.pool.specs.Outcome as Pool
 use Rattle.area.proofs as area
 use Rattle.path.proofs as path
 use Rattle.clean.proofs as clean
@@ -26,10 +27,12 @@ use denote.Ref.{now}
 use Rattle.setfile.proofs as setfile
 use Rattle.salvage.proofs as salvage
 use Rattle.drawing.proofs as drawing
+use Rattle.difference.proofs as difference
+use Rattle.pool.proofs as pool
 use Rattle.promises.specs.Calls.{numbers, _and_}
 use Rattle.promises.specs.Demand1.{NothingTraps, TheOrderOfTheNumbers, EveryBadInputGetsItsNumber, OutputAndScratchAreThenUntouched, ACollapsedContourLeavesOutputUntouchedAndItsScratchZeroed, Demand1}
 use Rattle.promises.proofs.Calls.{numbered, verdict-numbered, area-numbered, location-numbered, count-numbered}
-use Rattle.promises.proofs.Refusals.{handed-none, first-none, packing-numbered, packing-untouched, reading-numbered, reading-untouched, cleaning-numbered, cleaning-collapsed, shape-numbered, shape-collapsed, shapes-numbered, writing-numbered, writing-untouched, writing-2-numbered, writing-2-untouched, salvage-numbered, salvage-untouched, export-numbered, export-untouched}
+use Rattle.promises.proofs.Refusals.{handed-none, first-none, packing-numbered, packing-untouched, reading-numbered, reading-untouched, cleaning-numbered, cleaning-collapsed, shape-numbered, shape-collapsed, shapes-numbered, writing-numbered, writing-untouched, writing-2-numbered, writing-2-untouched, salvage-numbered, salvage-untouched, export-numbered, export-untouched, press-numbered, press-untouched, comparison-numbered, comparison-untouched}
 
 nothing-traps : NothingTraps
 nothing-traps = record {
@@ -86,6 +89,14 @@ nothing-traps = record {
   salvage·mend = record { is-proved = salvage.mend.Met.met; asks-nothing = λ κs a. tt };
   drawing·import = record { is-proved = drawing.import.Met.met; asks-nothing = λ κs a. tt };
   drawing·export = record { is-proved = drawing.export.Met.met; asks-nothing = λ κs a. tt };
+  difference·compare = record { is-proved = difference.compare.Met.met; asks-nothing = λ κs a. tt };
+  difference·walker·reached = record { is-proved = difference.walker.reached.Met.met; asks-nothing = λ κs a. tt };
+  pool·add = record { is-proved = pool.add.Met.met; asks-nothing = λ κs a. tt };
+  pool·remove = record { is-proved = pool.remove.Met.met; asks-nothing = λ κs a. tt };
+  pool·contours-count = record { is-proved = pool.contours_count.Met.met; asks-nothing = λ κs a. tt };
+  pool·held = record { is-proved = pool.held.Met.met; asks-nothing = λ κs a. tt };
+  pool·free = record { is-proved = pool.free.Met.met; asks-nothing = λ κs a. tt };
+  pool·contour-of = record { is-proved = pool.contour_of.Met.met; asks-nothing = λ κs a. tt };
 }
 
 the-order-of-the-numbers : TheOrderOfTheNumbers
@@ -109,10 +120,13 @@ the-order-of-the-numbers = record {
   a-file-to-be-salvaged = λ f out dropped. refl;
   a-drawing-to-be-brought-in = λ kinds floats. refl;
   a-set-to-be-drawn = λ points ranges kinds floats. refl;
+  two-sets-to-be-compared = λ points ranges others other-ranges listing. refl;
+  a-contour-to-be-put-in-a-pool = λ press tool contour s. refl;
+  a-contour-to-be-taken-out = λ press s. refl;
 }
 
 every-bad-input-gets-its-number : EveryBadInputGetsItsNumber
-unfolding Areas.doubled Areas.half convex clockwise contains located Verdicts.simple Verdicts.spike-free in-shape verdict-by doubled-by half-by Contours.is-empty Contours.is-single Contours.points-count Contours.contours-count Contours.contour-at Shapes.is-empty Shapes.points-count Shapes.contours-count Shapes.shapes-count Shapes.contours-in Shapes.contour-of
+unfolding Areas.doubled Areas.half convex clockwise contains located Verdicts.simple Verdicts.spike-free in-shape verdict-by doubled-by half-by Contours.is-empty Contours.is-single Contours.points-count Contours.contours-count Contours.contour-at Shapes.is-empty Shapes.points-count Shapes.contours-count Shapes.shapes-count Shapes.contours-in Shapes.contour-of Pool.contours-count Pool.held-count Pool.free-count Pool.contour-of
 every-bad-input-gets-its-number = record {
   area·area-two = λ κs a x e h. area-numbered _ h;
   area·area = λ κs a x e h. area-numbered _ h;
@@ -165,6 +179,13 @@ every-bad-input-gets-its-number = record {
   salvage·mend = λ κs a x e h. salvage-numbered _ _ _ _ h;
   drawing·import = λ κs a x e h. packing-numbered _ _ _ _ _ _ _ _ h;
   drawing·export = λ κs a x e h. export-numbered _ _ _ _ _ h;
+  difference·compare = λ κs a x e h. comparison-numbered _ _ _ _ _ _ h;
+  pool·add = λ κs a x e h. press-numbered _ _ _ _ h;
+  pool·remove = λ κs a x e h. press-numbered _ _ _ _ h;
+  pool·contours-count = λ κs a x e h. count-numbered _ h;
+  pool·held = λ κs a x e h. count-numbered _ h;
+  pool·free = λ κs a x e h. count-numbered _ h;
+  pool·contour-of = λ κs a x e h bad. h ∙ handed-none _ _ _ bad;
 }
 
 -- a contour set has no row of shapes
@@ -193,6 +214,9 @@ output-and-scratch-are-then-untouched = record {
   salvage·mend = λ κs a x e h not-0 not-7. salvage-untouched _ _ _ _ h not-0;
   drawing·import = λ κs a x e h not-0 not-7. points-and-contours (packing-untouched _ _ _ _ _ _ _ _ h not-0);
   drawing·export = λ κs a x e h not-0 not-7. export-untouched _ _ _ _ _ h not-0;
+  difference·compare = λ κs a x e h not-0 not-7. comparison-untouched _ _ _ _ _ _ h not-0;
+  pool·add = λ κs a x e h not-0 not-7. press-untouched _ _ _ _ h not-0;
+  pool·remove = λ κs a x e h not-0 not-7. press-untouched _ _ _ _ h not-0;
 }
 
 a-collapsed-contour-only-zeroes-its-scratch : ACollapsedContourLeavesOutputUntouchedAndItsScratchZeroed

@@ -62,6 +62,14 @@ every-answer-equals-the-rules = record {
   salvage·mend = follows (λ κs a x e h. h);
   drawing·import = follows (λ κs a x e h. h);
   drawing·export = follows (λ κs a x e h. h);
+  difference·compare = follows (λ κs a x e h. h);
+  difference·walker·reached = follows (λ κs a x e h. h);
+  pool·add = follows (λ κs a x e h. h);
+  pool·remove = follows (λ κs a x e h. h);
+  pool·contours-count = follows (λ κs a x e h. h);
+  pool·held = follows (λ κs a x e h. h);
+  pool·free = follows (λ κs a x e h. h);
+  pool·contour-of = follows (λ κs a x e h. h);
 }
 
 reader-and-writer-undo-each-other : ReaderAndWriterUndoEachOther

@@ -38,6 +38,12 @@ no-export-traps = record {
   ukm-salvage = record { is-proved = ukmerelt.files.ukm_salvage.Met.met; asks-nothing = λ κs a. tt };
   ukm-import-mm = record { is-proved = ukmerelt.drawings.ukm_import_mm.Met.met; asks-nothing = λ κs a. tt };
   ukm-export-mm = record { is-proved = ukmerelt.drawings.ukm_export_mm.Met.met; asks-nothing = λ κs a. tt };
+  ukm-compare-sets = record { is-proved = ukmerelt.comparing.ukm_compare_sets.Met.met; asks-nothing = λ κs a. tt };
+  ukm-pool-add = record { is-proved = ukmerelt.pools.ukm_pool_add.Met.met; asks-nothing = λ κs a. tt };
+  ukm-pool-remove = record { is-proved = ukmerelt.pools.ukm_pool_remove.Met.met; asks-nothing = λ κs a. tt };
+  ukm-pool-contours = record { is-proved = ukmerelt.pools.ukm_pool_contours.Met.met; asks-nothing = λ κs a. tt };
+  ukm-pool-held = record { is-proved = ukmerelt.pools.ukm_pool_held.Met.met; asks-nothing = λ κs a. tt };
+  ukm-pool-free = record { is-proved = ukmerelt.pools.ukm_pool_free.Met.met; asks-nothing = λ κs a. tt };
 }
 
 pub every-export-hands-on : EveryExportHandsOn
@@ -76,4 +82,10 @@ every-export-hands-on = record {
   ukm-salvage = λ κs a x e h. h;
   ukm-import-mm = λ κs a x e h. h;
   ukm-export-mm = λ κs a x e h. h;
+  ukm-compare-sets = λ κs a x e h. h;
+  ukm-pool-add = λ κs a x e h. h;
+  ukm-pool-remove = λ κs a x e h. h;
+  ukm-pool-contours = λ κs a x e h. h;
+  ukm-pool-held = λ κs a x e h. h;
+  ukm-pool-free = λ κs a x e h. h;
 }

@@ -34,7 +34,12 @@ use Rattle.setfile.specs.Writing2 as Writing2
 use Rattle.salvage.specs.Outcome as Salvage
 use Rattle.drawing.specs.declared.command.Command.{Command}
 use Rattle.drawing.specs.Exporting as Exporting
-use Rattle.promises.specs.Calls.{cleanings, packings, readings, set-cleanings, writings, salvagings, drawings, Numbered, _and_, OnlyZeroed, ShapeOnlyZeroed}
+use Rattle.difference.specs.Lines.{lines-of}
+use Rattle.difference.specs.Outcome as Comparing
+use Rattle.pool.specs.Calls.{Call, done}
+use Rattle.pool.specs.Rows.{Lent, contents}
+use Rattle.pool.specs.Outcome as Pool
+use Rattle.promises.specs.Calls.{numbers, cleanings, packings, readings, set-cleanings, writings, salvagings, drawings, comparisons, Numbered, _and_, OnlyZeroed, ShapeOnlyZeroed}
 use Rattle.promises.specs.Demand1.{first-refusals, cleaning-refusals, shape-refusals, shapes-refusals, packed, read-refusals, write-refusals, write-2-refusals, export-refusals}
 use Rattle.promises.proofs.Calls.{numbered}
 
@@ -178,5 +183,38 @@ module _ (p : List ℤ) (ranges : List (List ℕ)) (kinds : List ℕ) (floats : 
   export-untouched bad = go (first-of (export-refusals p ranges kinds floats)) is
     where
       go : (k : ℕ) → o ≡ Exporting.put k commands kinds floats → (o .kinds and o .floats) ≡ (kinds and floats)
+      go zero e = absurd (bad (rw e))
+      go (suc k) e = rw e
+
+-- Two sets that are compared.
+module _ (p : List ℤ) (rs : List (List ℕ)) (q : List ℤ) (ss listing : List (List ℕ)) (o : Comparing.Outcome) (is : o ≡ Comparing.outcome p rs q ss listing) where
+  abbrev whose : ℕ
+  whose = Comparing.whose (first-of (Contours.refusals p rs)) (first-of (Contours.refusals q ss))
+
+  pub comparison-numbered : Numbered (comparisons whose) (Comparing.all-refusals p rs q ss listing) (o .answer)
+  unfolding Comparing.outcome
+  comparison-numbered =
+      numbered (comparisons whose) (Comparing.all-refusals p rs q ss listing) (λ k. Comparing.answered k whose (lines-of p rs q ss) listing .answer) (λ k. refl) (inl refl)
+      (ap (λ (w : Comparing.Outcome). w .answer) is)
+
+  pub comparison-untouched : (o .answer .reply ≡ 0 → ⊥) → o .listing ≡ listing
+  unfolding Comparing.outcome
+  comparison-untouched bad = go (first-of (Comparing.all-refusals p rs q ss listing)) is
+    where
+      go : (k : ℕ) → o ≡ Comparing.answered k whose (lines-of p rs q ss) listing → o .listing ≡ listing
+      go zero e = absurd (bad (rw e))
+      go (suc k) e = rw e
+
+-- A call of a press.
+module _ (press : ℕ) (call : Call) (s : Lent) (o : Pool.Outcome) (is : o ≡ Pool.called press call s) where
+  pub press-numbered : Numbered numbers (Pool.rungs press call s) (o .reply)
+  unfolding Pool.called
+  press-numbered = numbered numbers _ (λ k. Pool.outcome k (done press call (contents s)) s .reply) (λ k. refl) (inl refl) (ap (λ (w : Pool.Outcome). w .reply) is)
+
+  pub press-untouched : (o .reply ≡ 0 → ⊥) → o .pool ≡ s
+  unfolding Pool.called
+  press-untouched bad = go (Pool.refused press call s) is
+    where
+      go : (k : ℕ) → o ≡ Pool.outcome k (done press call (contents s)) s → o .pool ≡ s
       go zero e = absurd (bad (rw e))
       go (suc k) e = rw e

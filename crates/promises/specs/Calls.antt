@@ -23,6 +23,7 @@ use Rattle.setfile.specs.declared.answer.Read.{Read}
 use Rattle.setfile.specs.declared.answer.Written.{Written}
 use Rattle.salvage.specs.declared.answer.Salvaged.{Salvaged}
 use Rattle.drawing.specs.declared.answer.Drawn.{Drawn}
+use Rattle.difference.specs.declared.Compared.{Compared}
 
 infixr 10 _and_
 -- a function never traps: it is proved, so in every model of the logic its code is safe, ends and meets its contract; and the contract asks nothing, so that holds whatever it is called with
@@ -112,6 +113,10 @@ salvagings = record { Answer = Salvaged; reply = λ x. x .reply; only = λ k. re
 -- how long a drawing is
 abbrev pub drawings : Kind
 drawings = record { Answer = Drawn; reply = λ x. x .reply; only = λ k. record { reply = k; commands = 0; floats = 0 } }
+
+-- how many contours of two sets were listed; a refusal says whose it is too
+abbrev pub comparisons : ℕ → Kind
+comparisons refused = record { Answer = Compared; reply = λ x. x .reply; only = λ k. record { reply = k; refused = refused; contours = 0 } }
 
 -- an answer by a ladder: a bad input, of which a rung holds, gets the number of the first that holds, and nothing else; any other is done, 0, or has collapsed, 7
 pub record Numbered (kind : Kind) (ladder : List Rung) (x : kind .Answer) : Type 0 where

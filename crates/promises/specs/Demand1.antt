@@ -10,7 +10,7 @@ use lib.Ieee.{Float}
 use denote.Ref.{now}
 use Rattle.grid.specs.Limits.{limit}
 use Rattle.grid.specs.declared.Point.{Point}
-use Rattle.replies.specs.Ladder.{Rung, room}
+use Rattle.replies.specs.Ladder.{Rung, first-of, room}
 use Rattle.grid.specs.Domain.{count, domain}
 use Rattle.replies.proofs.OneOutcome.{three, four, five, six, eight}
 use Rattle.area.specs.Answers as Areas
@@ -20,7 +20,7 @@ use Rattle.buffer.specs.declared.ranges.Span.{Span}
 use Rattle.buffer.specs.Spans.{spans, sound, moved}
 use Rattle.buffer.specs.Sets.{joined, whole, every, contours, contour-spans, shape-spans}
 use Rattle.rows.specs.Parts.{part}
-use Rattle.buffer.specs.Refusals.{both}
+use Rattle.buffer.specs.Refusals.{both, unsound}
 use Rattle.buffer.specs.Answers.{enough}
 use Rattle.buffer.specs.Contours as Contours
 use Rattle.buffer.specs.Shapes as Shapes
@@ -38,6 +38,11 @@ use Rattle.drawing.specs.Commands.{items}
 use Rattle.drawing.specs.Faults.{first-fault}
 use Rattle.drawing.specs.Importing as Importing
 use Rattle.drawing.specs.Exporting as Exporting
+use Rattle.difference.specs.Outcome as Comparing
+use Rattle.pool.specs.Calls.Call.{add, remove}
+use Rattle.pool.specs.Rows as Pool
+use Rattle.pool.specs.Outcome as PoolCalls
+use Rattle.pool.specs.Outcome.{number}
 use Rattle.area.proofs as area
 use Rattle.path.proofs as path
 use Rattle.clean.proofs as clean
@@ -46,7 +51,9 @@ use Rattle.sets.proofs as sets
 use Rattle.setfile.proofs as setfile
 use Rattle.salvage.proofs as salvage
 use Rattle.drawing.proofs as drawing
-use Rattle.promises.specs.Calls.{of-contour, of-set, of-shapes, Always, NeverTraps, numbers, verdicts, areas, locations, counts, packings, readings, cleanings, set-cleanings, writings, salvagings, drawings, Refuses, HandsNothing, _and_, contour-lent, shape-lent, shapes-lent, OnlyZeroed, ShapeOnlyZeroed, Untouched, Collapses}
+use Rattle.difference.proofs as difference
+use Rattle.pool.proofs as pool
+use Rattle.promises.specs.Calls.{of-contour, of-set, of-shapes, Always, NeverTraps, numbers, verdicts, areas, locations, counts, packings, readings, cleanings, set-cleanings, writings, salvagings, drawings, comparisons, Numbered, Refuses, HandsNothing, _and_, contour-lent, shape-lent, shapes-lent, OnlyZeroed, ShapeOnlyZeroed, Untouched, Collapses}
 
 -- no function asks anything, and each is proved
 pub record NothingTraps : Type 2 where
@@ -103,6 +110,14 @@ pub record NothingTraps : Type 2 where
   pub salvage·mend : NeverTraps salvage.mend.Statement.statement salvage.mend.Reads.Asked
   pub drawing·import : NeverTraps drawing.import.Statement.statement drawing.import.Reads.Asked
   pub drawing·export : NeverTraps drawing.export.Statement.statement drawing.export.Reads.Asked
+  pub difference·compare : NeverTraps difference.compare.Statement.statement difference.compare.Reads.Asked
+  pub difference·walker·reached : NeverTraps difference.walker.reached.Statement.statement difference.walker.reached.Reads.Asked
+  pub pool·add : NeverTraps pool.add.Statement.statement pool.add.Reads.Asked
+  pub pool·remove : NeverTraps pool.remove.Statement.statement pool.remove.Reads.Asked
+  pub pool·contours-count : NeverTraps pool.contours_count.Statement.statement pool.contours_count.Reads.Asked
+  pub pool·held : NeverTraps pool.held.Statement.statement pool.held.Reads.Asked
+  pub pool·free : NeverTraps pool.free.Statement.statement pool.free.Reads.Asked
+  pub pool·contour-of : NeverTraps pool.contour_of.Statement.statement pool.contour_of.Reads.Asked
 
 -- the refusals of the first contour: those of a contour where there are no ranges, and of a set where there are
 abbrev pub first-refusals : List ℤ → List (List ℕ) → List Rung
@@ -157,6 +172,10 @@ abbrev pub export-refusals : List ℤ → List (List ℕ) → List ℕ → List 
 export-refusals points ranges kinds floats =
     Exporting.refusals points ranges ++ room (Exporting.enough (Exporting.commands (contours points (spans ranges))) kinds floats)
 
+-- the refusals of what is read of a pool
+abbrev pub pool-refusals : List ℤ → List (List ℕ) → ℕ → List Rung
+pool-refusals points records contours = unsound (Pool.sound (Pool.lent points records contours))
+
 -- the numbers of a ladder's rungs
 abbrev pub order : List Rung → List ℕ
 order ladder = map (λ (rung : Rung). rung .1) ladder
@@ -185,6 +204,10 @@ pub record TheOrderOfTheNumbers : Type 0 where
   pub a-file-to-be-salvaged : (f out : List ℕ) (dropped : List (List ℕ)) → order (Salvage.refusals f out dropped) ≡ 2 ∷ 10 ∷ 9 ∷ 5 ∷ []
   pub a-drawing-to-be-brought-in : (kinds : List ℕ) (floats : List Float) → order (Importing.refusals kinds floats) ≡ 13 ∷ first-fault false (items kinds floats) ∷ 2 ∷ []
   pub a-set-to-be-drawn : (points : List ℤ) (ranges : List (List ℕ)) (kinds : List ℕ) (floats : List Float) → order (export-refusals points ranges kinds floats) ≡ 1 ∷ 2 ∷ 6 ∷ 3 ∷ 5 ∷ []
+  pub two-sets-to-be-compared : (points : List ℤ) (ranges : List (List ℕ)) (others : List ℤ) (other-ranges listing : List (List ℕ))
+      → order (Comparing.all-refusals points ranges others other-ranges listing) ≡ 1 ∷ 2 ∷ 6 ∷ 3 ∷ 1 ∷ 2 ∷ 6 ∷ 3 ∷ 5 ∷ []
+  pub a-contour-to-be-put-in-a-pool : (press tool : ℕ) (contour : List ℤ) (s : Pool.Lent) → order (PoolCalls.rungs press (add tool contour) s) ≡ 1 ∷ 2 ∷ 6 ∷ 3 ∷ 17 ∷ 5 ∷ []
+  pub a-contour-to-be-taken-out : (press : ℕ) (s : Pool.Lent) → order (PoolCalls.rungs press remove s) ≡ 6 ∷ 18 ∷ []
 
 -- each function that answers with a number, and its ladder: the conditions of a bad input, in the order in which they decide
 pub record EveryBadInputGetsItsNumber : Type 0 where
@@ -256,12 +279,25 @@ pub record EveryBadInputGetsItsNumber : Type 0 where
   pub setfile·read : Refuses readings setfile.read.Reads.Learnt λ a. four a λ bytes out records groups. read-refusals (now bytes) (now out) (now records) (now groups)
   pub setfile·write : Refuses writings setfile.write.Reads.Learnt λ a. four a λ points contours shapes bytes. write-refusals (now points) (now contours) (now shapes) (now bytes)
   pub setfile·write-2 : Refuses writings setfile.write_2.Reads.Learnt λ a. four a λ points contours shapes bytes. write-2-refusals (now points) (now contours) (now shapes) (now bytes)
-  -- Beyond 01: where a point lies, and whether a shape has it; salvage of a file, and drawings in millimetres.
+  -- Beyond 01: where a point lies, and whether a shape has it; salvage of a file, drawings in millimetres, two sets compared, and a pool that two presses share.
   pub path·locate : Refuses locations path.locate.Reads.Learnt λ a. three a λ points x y. Contains.refusals (record { x = x; y = y }) (now points)
   pub sets·in-shape : Refuses verdicts sets.in_shape.Reads.Learnt λ a. four a λ points ranges x y. SetContains.shape-refusals (record { x = x; y = y }) (now points) (now ranges)
   pub salvage·mend : Refuses salvagings salvage.mend.Reads.Learnt λ a. three a λ bytes out dropped. Salvage.refusals (now bytes) (now out) (now dropped)
   pub drawing·import : Refuses packings drawing.import.Reads.Learnt λ a. four a λ kinds floats points ranges. import-refusals (now kinds) (now floats) (now points) (now ranges)
   pub drawing·export : Refuses drawings drawing.export.Reads.Learnt λ a. four a λ points ranges kinds floats. export-refusals (now points) (now ranges) (now kinds) (now floats)
+  pub difference·compare : Always difference.compare.Reads.Learnt λ a x e.
+      Numbered
+      (comparisons (five a λ points ranges others other-ranges listing.
+      Comparing.whose (first-of (Contours.refusals (now points) (now ranges))) (first-of (Contours.refusals (now others) (now other-ranges)))))
+      (five a λ points ranges others other-ranges listing. Comparing.all-refusals (now points) (now ranges) (now others) (now other-ranges) (now listing)) x
+  pub pool·add : Refuses numbers pool.add.Reads.Learnt λ a. five a λ points records contours second contour.
+      PoolCalls.rungs (number second) (add 0 (now contour)) (Pool.lent (now points) (now records) (now contours))
+  pub pool·remove : Refuses numbers pool.remove.Reads.Learnt λ a. four a λ points records contours second.
+      PoolCalls.rungs (number second) remove (Pool.lent (now points) (now records) (now contours))
+  pub pool·contours-count : Refuses counts pool.contours_count.Reads.Learnt λ a. three a λ points records contours. pool-refusals (now points) (now records) contours
+  pub pool·held : Refuses counts pool.held.Reads.Learnt λ a. three a λ points records contours. pool-refusals (now points) (now records) contours
+  pub pool·free : Refuses counts pool.free.Reads.Learnt λ a. three a λ points records contours. pool-refusals (now points) (now records) contours
+  pub pool·contour-of : HandsNothing pool.contour_of.Reads.Learnt (λ a. three a λ points records contours. pool-refusals (now points) (now records) contours) (λ a. part (a .0))
 
 -- each function that is lent rows to write to, and these rows, as they are before the call and after it
 pub record OutputAndScratchAreThenUntouched : Type 0 where
@@ -285,6 +321,9 @@ pub record OutputAndScratchAreThenUntouched : Type 0 where
   pub salvage·mend : Untouched salvagings salvage.mend.Reads.Learnt λ a. three a λ bytes out dropped. now out and now dropped
   pub drawing·import : Untouched packings drawing.import.Reads.Learnt λ a. four a λ kinds floats points ranges. now points and now ranges
   pub drawing·export : Untouched drawings drawing.export.Reads.Learnt λ a. four a λ points ranges kinds floats. now kinds and now floats
+  pub difference·compare : Untouched (comparisons 0) difference.compare.Reads.Learnt λ a. five a λ points ranges others other-ranges listing. now listing
+  pub pool·add : Untouched numbers pool.add.Reads.Learnt λ a. three a λ points records contours. Pool.lent (now points) (now records) (now contours)
+  pub pool·remove : Untouched numbers pool.remove.Reads.Learnt λ a. three a λ points records contours. Pool.lent (now points) (now records) (now contours)
 
 -- the cleaners, of a contour and of a shape; of shapes 7 is never the answer
 pub record ACollapsedContourLeavesOutputUntouchedAndItsScratchZeroed : Type 0 where

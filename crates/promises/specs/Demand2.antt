@@ -46,6 +46,11 @@ use Rattle.setfile.specs.Promises.{Fit, edition-file, write-refusals, write-out
 use Rattle.salvage.specs.Outcome as Salvage
 use Rattle.drawing.specs.Importing as Importing
 use Rattle.drawing.specs.Exporting as Exporting
+use Rattle.difference.specs.Outcome as Comparing
+use Rattle.difference.specs.Walking as Walking
+use Rattle.pool.specs.Calls.Call.{add, remove}
+use Rattle.pool.specs.Rows.{lent}
+use Rattle.pool.specs.Outcome as Pool
 use Rattle.area.proofs as area
 use Rattle.path.proofs as path
 use Rattle.clean.proofs as clean
@@ -54,6 +59,8 @@ use Rattle.sets.proofs as sets
 use Rattle.setfile.proofs as setfile
 use Rattle.salvage.proofs as salvage
 use Rattle.drawing.proofs as drawing
+use Rattle.difference.proofs as difference
+use Rattle.pool.proofs as pool
 use Rattle.ukmerelt.proofs as ukmerelt
 use Rattle.promises.specs.Calls.{of-contour, of-set, of-shapes, contour-lent, shape-lent, shapes-lent, Follows, Answers, HandsOut}
 
@@ -144,7 +151,7 @@ pub record EveryAnswerEqualsTheRules : Type 0 where
   pub setfile·write : Follows setfile.write.Reads.Learnt
       (λ x e. four e λ points contours shapes bytes. Writing.leaving (x .reply) (x .bytes) (now bytes))
       (λ a. four a λ points contours shapes bytes. Writing.outcome (now points) (now contours) (now shapes) (now bytes))
-  -- Beyond 01: where a point lies, and whether a shape has it, which 02 says in place of 01; a file of edition 2 written, salvage of a file, and drawings in millimetres.
+  -- Beyond 01: where a point lies, and whether a shape has it, which 02 says in place of 01; a file of edition 2 written, salvage of a file, drawings in millimetres, two sets compared, and a pool that two presses share.
   pub setfile·write-2 : Follows setfile.write_2.Reads.Learnt
       (λ x e. four e λ points contours shapes bytes. Writing.leaving (x .reply) (x .bytes) (now bytes))
       (λ a. four a λ points contours shapes bytes. Writing2.outcome (now points) (now contours) (now shapes) (now bytes))
@@ -159,6 +166,20 @@ pub record EveryAnswerEqualsTheRules : Type 0 where
   pub drawing·export : Follows drawing.export.Reads.Learnt
       (λ x e. four e λ points ranges kinds floats. Exporting.leaving x (now kinds) (now floats))
       (λ a. four a λ points ranges kinds floats. Exporting.outcome (now points) (now ranges) (now kinds) (now floats))
+  pub difference·compare : Follows difference.compare.Reads.Learnt
+      (λ x e. five e λ points ranges others other-ranges listing. Comparing.leaving x (now listing))
+      (λ a. five a λ points ranges others other-ranges listing. Comparing.outcome (now points) (now ranges) (now others) (now other-ranges) (now listing))
+  pub difference·walker·reached : HandsOut difference.walker.reached.Reads.Learnt λ a. three a λ points place end. Walking.handed (part points) place end
+  pub pool·add : Follows pool.add.Reads.Learnt
+      (λ x e. three e λ points records contours. Pool.leaving x (now points) (now records) (now contours))
+      (λ a. five a λ points records contours second contour. Pool.called (Pool.number second) (add 0 (now contour)) (lent (now points) (now records) (now contours)))
+  pub pool·remove : Follows pool.remove.Reads.Learnt
+      (λ x e. three e λ points records contours. Pool.leaving x (now points) (now records) (now contours))
+      (λ a. four a λ points records contours second. Pool.called (Pool.number second) remove (lent (now points) (now records) (now contours)))
+  pub pool·contours-count : Answers pool.contours_count.Reads.Learnt λ a. four a λ points records contours second. Pool.contours-count (Pool.number second) (lent (now points) (now records) contours)
+  pub pool·held : Answers pool.held.Reads.Learnt λ a. four a λ points records contours second. Pool.held-count (Pool.number second) (lent (now points) (now records) contours)
+  pub pool·free : Answers pool.free.Reads.Learnt λ a. three a λ points records contours. Pool.free-count (lent (now points) (now records) contours)
+  pub pool·contour-of : HandsOut pool.contour_of.Reads.Learnt λ a. five a λ points records contours second k. Pool.contour-of (part points) (now records) contours (Pool.number second) k
 
 -- a file is a row of bytes
 abbrev pub Bytes : List ℕ → Type 0

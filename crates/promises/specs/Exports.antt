@@ -7,6 +7,8 @@ use Rattle.sets.proofs as sets
 use Rattle.setfile.proofs as setfile
 use Rattle.salvage.proofs as salvage
 use Rattle.drawing.proofs as drawing
+use Rattle.difference.proofs as difference
+use Rattle.pool.proofs as pool
 use Rattle.ukmerelt.proofs as ukmerelt
 use Rattle.promises.specs.Calls.{NeverTraps, HandsOn}
 
@@ -46,6 +48,12 @@ pub record NoExportTraps : Type 2 where
   pub ukm-salvage : NeverTraps ukmerelt.files.ukm_salvage.Statement.statement ukmerelt.files.ukm_salvage.Reads.Asked
   pub ukm-import-mm : NeverTraps ukmerelt.drawings.ukm_import_mm.Statement.statement ukmerelt.drawings.ukm_import_mm.Reads.Asked
   pub ukm-export-mm : NeverTraps ukmerelt.drawings.ukm_export_mm.Statement.statement ukmerelt.drawings.ukm_export_mm.Reads.Asked
+  pub ukm-compare-sets : NeverTraps ukmerelt.comparing.ukm_compare_sets.Statement.statement ukmerelt.comparing.ukm_compare_sets.Reads.Asked
+  pub ukm-pool-add : NeverTraps ukmerelt.pools.ukm_pool_add.Statement.statement ukmerelt.pools.ukm_pool_add.Reads.Asked
+  pub ukm-pool-remove : NeverTraps ukmerelt.pools.ukm_pool_remove.Statement.statement ukmerelt.pools.ukm_pool_remove.Reads.Asked
+  pub ukm-pool-contours : NeverTraps ukmerelt.pools.ukm_pool_contours.Statement.statement ukmerelt.pools.ukm_pool_contours.Reads.Asked
+  pub ukm-pool-held : NeverTraps ukmerelt.pools.ukm_pool_held.Statement.statement ukmerelt.pools.ukm_pool_held.Reads.Asked
+  pub ukm-pool-free : NeverTraps ukmerelt.pools.ukm_pool_free.Statement.statement ukmerelt.pools.ukm_pool_free.Reads.Asked
 
 -- each hands on
 pub record EveryExportHandsOn : Type 0 where
@@ -83,3 +91,9 @@ pub record EveryExportHandsOn : Type 0 where
   pub ukm-salvage : HandsOn ukmerelt.files.ukm_salvage.Reads.Learnt salvage.mend.Reads.Learnt
   pub ukm-import-mm : HandsOn ukmerelt.drawings.ukm_import_mm.Reads.Learnt drawing.import.Reads.Learnt
   pub ukm-export-mm : HandsOn ukmerelt.drawings.ukm_export_mm.Reads.Learnt drawing.export.Reads.Learnt
+  pub ukm-compare-sets : HandsOn ukmerelt.comparing.ukm_compare_sets.Reads.Learnt difference.compare.Reads.Learnt
+  pub ukm-pool-add : HandsOn ukmerelt.pools.ukm_pool_add.Reads.Learnt pool.add.Reads.Learnt
+  pub ukm-pool-remove : HandsOn ukmerelt.pools.ukm_pool_remove.Reads.Learnt pool.remove.Reads.Learnt
+  pub ukm-pool-contours : HandsOn ukmerelt.pools.ukm_pool_contours.Reads.Learnt pool.contours_count.Reads.Learnt
+  pub ukm-pool-held : HandsOn ukmerelt.pools.ukm_pool_held.Reads.Learnt pool.held.Reads.Learnt
+  pub ukm-pool-free : HandsOn ukmerelt.pools.ukm_pool_free.Reads.Learnt pool.free.Reads.Learnt

@@ -63,6 +63,7 @@ fn of_parts(
         b'm' => files::mended(head, file),
         b'F' => files::written_2(head, points, contours, shapes),
         b'd' => difference_answers::lent(head, points, contours, shapes),
+        b'h' => pool_answers::lent(head, points, contours, shapes),
         _ => files::written(head, points, contours, shapes),
     }
 }

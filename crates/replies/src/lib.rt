@@ -1,4 +1,4 @@
-// The reply numbers. A call answers with the first whose condition holds, in the order 1, 2, 6, 3, 12, 4, 5, 8, 7; an import in the order 13, 14, 3, 2, 5, the first three by its first faulty command.
+// The reply numbers. A call answers with the first whose condition holds, in the order 1, 2, 6, 3, 12, 4, 5, 8, 7; an import in the order 13, 14, 3, 2, 5, the first three by its first faulty command; an addition to a pool in the order 1, 2, 6, 3, 17, 5.
 //
 // | No. | Given exactly when | Leaves |
 // |---|---|---|
@@ -19,6 +19,8 @@
 // | 14 | a place that is a NaN or an infinity | all unchanged |
 // | 15 | a contour of a file whose width is not the smallest, 1 to 32 | all unchanged |
 // | 16 | a fill bit of a file that is set | all unchanged |
+// | 17 | a press's held points would pass the pool less the other's part | all unchanged |
+// | 18 | removing with none left | all unchanged |
 ghost use mathlib.Core.Path.{_≡_};
 ghost use mathlib.Core.List.{_++_};
 ghost use Rattle.replies.specs.Ladder.{first-of, so-far, room as room-for};
@@ -57,6 +59,10 @@ pub const NOT_FINITE: u32 = 14;
 pub const WIDTH: u32 = 15;
 
 pub const FILL: u32 = 16;
+
+pub const FULL: u32 = 17;
+
+pub const NONE_LEFT: u32 = 18;
 
 // The answer to a question of yes or no: its reply number, and no where it is refused.
 #[repr(C)]

@@ -5,5 +5,6 @@ pub mod contours;
 pub mod drawings;
 pub mod files;
 pub mod packing;
+pub mod pools;
 pub mod shape_sets;
 pub mod shapes;

@@ -11,7 +11,7 @@ ghost use Rattle.buffer.specs.Refusals.{set};
 use crate::ranges;
 
 // What every call asks of a set, whose ranges are sound or not: 0, or the number of its first refusal.
-fn of_set(bound: u32, points: &[i32], sound: bool) -> u32
+pub fn of_set(bound: u32, points: &[i32], sound: bool) -> u32
     requires { ⌜ bound ≤ limit ⌝ }
     ensures { λ r. ⌜ r ≡ first-of (set bound (now (points .entry)) sound) ⌝ }
 {

@@ -1,0 +1,12 @@
+pub mod Cases
+pub mod RowLaws
+pub mod MovingLaws
+pub mod ListLaws
+pub mod FairLaws
+pub mod Theorems
+pub mod RecordLaws
+pub mod LayoutLaws
+pub mod SoundLaws
+pub mod CallLaws
+pub mod ReadLaws
+pub mod RowTheorems

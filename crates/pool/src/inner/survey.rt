@@ -1,0 +1,70 @@
+// A look at all records of a pool.
+ghost use mathlib.Core.Path.{_≡_};
+ghost use mathlib.Core.Bool.{false};
+ghost use Prim.Native.Nat.{_+_, _<_, _^_};
+ghost use Rattle.pool.specs.Rows.{lent, fair as fair-of};
+ghost use Rattle.pool.specs.Outcome.{number as number-of};
+ghost use Rattle.pool.specs.inside.Surveys.{Surveyed, share-of};
+use crate::inner::records;
+
+// What a survey finds: whether the records are sound, and then the points and what each press holds.
+pub struct Survey {
+    pub sound: bool,
+    pub points: usize,
+    pub first: usize,
+    pub second: usize,
+}
+
+// The number of a press.
+pub fn number(second: bool) -> usize
+    ensures { λ r. ⌜ r ≡ number-of second ⌝ }
+{
+    if second { 1 } else { 0 }
+}
+
+// What a press holds.
+pub fn share(found: Survey, second: bool) -> usize
+    ensures { λ r. ⌜ r ≡ share-of second found ⌝ }
+{
+    if second { found.second } else { found.first }
+}
+
+// Whether neither press holds any of what is kept for the other, and both no more than the pool.
+fn fair(first: usize, second: usize) -> bool
+    requires { ⌜ first + second < 2 ^ 64 ⌝ }
+    ensures { λ r. ⌜ r ≡ fair-of first second ⌝ }
+{
+    let most = records::CAPACITY - records::RESERVE;
+    ((first <= most) & (second <= most)) & (first + second <= records::CAPACITY)
+}
+
+fn unsound() -> Survey
+    ensures { λ r. ⌜ r ≡ record { sound = false; points = 0; first = 0; second = 0 } ⌝ }
+{
+    Survey {
+        sound: false,
+        points: 0,
+        first: 0,
+        second: 0,
+    }
+}
+
+pub fn surveyed(points: &[i32], records: &[[usize; 4]], n: usize) -> Survey
+    ensures { λ r. ⌜ Surveyed (lent (now (points .entry)) (now (records .entry)) n) r ⌝ }
+{
+    let places = points.len() / 2;
+    if records.len() < n {
+        return unsound();
+    }
+    if !records::chained(records, n, places) {
+        return unsound();
+    }
+    let first = records::held(records, n, places, 0);
+    let second = records::held(records, n, places, 1);
+    Survey {
+        sound: fair(first, second),
+        points: records::last_end(records, n),
+        first,
+        second,
+    }
+}
