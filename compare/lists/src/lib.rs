@@ -12,6 +12,7 @@ pub mod ends;
 pub mod files;
 pub mod line;
 pub mod point;
+pub mod pools;
 pub mod rng;
 pub mod scratch;
 pub mod sets;
@@ -33,6 +34,7 @@ pub fn list() -> Vec<String> {
         lines(once(files::list())),
         lines(once(drawings::list())),
         lines(once(comparing::list())),
+        lines(once(pools::list())),
     ]
     .concat()
 }
@@ -57,6 +59,7 @@ pub fn answer(line: &str) -> Result<String, String> {
         Some('r' | 'f' | 'F' | 'm') => answered(line, files::answer),
         Some('i' | 'e') => answered(line, drawings::answer),
         Some('d') => answered(line, comparing::answer),
+        Some('h') => answered(line, pools::answer),
         _ => Err(line::NO_KIND.into()),
     }
 }
@@ -70,7 +73,7 @@ where
 
 #[cfg(test)]
 mod tests {
-    use super::{answer, cleaning, comparing, contours, drawings, files, sets};
+    use super::{answer, cleaning, comparing, contours, drawings, files, pools, sets};
     use crate::line::tests::read_as_written;
     use crate::sets::chosen::wide;
 
@@ -82,6 +85,7 @@ mod tests {
         read_as_written(files::list());
         read_as_written(drawings::list());
         read_as_written(comparing::list());
+        read_as_written(pools::list());
     }
     #[test]
     fn what_is_off_the_narrow_grid_is_refused_by_files_and_drawings_alone() {

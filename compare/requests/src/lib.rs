@@ -1,6 +1,7 @@
 //! What the original does not have, written from the sentences of documents 01 and 02 alone:
 //! the replies, whether ranges are sound, the set file of both editions, what is sound of a damaged one,
-//! drawings in millimetres, where a point lies, the walk with its turns, and two sets compared.
+//! drawings in millimetres, where a point lies, the walk with its turns, two sets compared,
+//! and two presses that share a pool.
 
 pub mod bits;
 pub mod difference;
@@ -11,6 +12,7 @@ pub mod edition_2;
 pub mod exact;
 pub mod grid;
 pub mod locate;
+pub mod pool;
 pub mod ranges;
 pub mod reply;
 pub mod salvage;

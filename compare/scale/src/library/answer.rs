@@ -87,6 +87,13 @@ pub struct Drawn {
 
 #[repr(C)]
 #[derive(Debug, PartialEq, Eq)]
+pub struct Counted {
+    pub reply: u32,
+    pub count: usize,
+}
+
+#[repr(C)]
+#[derive(Debug, PartialEq, Eq)]
 pub struct Compared {
     pub reply: u32,
     pub refused: u32,

@@ -20,6 +20,9 @@ use requests::exact::Bits;
 /// A start and an end.
 type Range = Record;
 
+/// A start, an end, a tool and a press.
+type PoolRecord = [usize; 4];
+
 /// The scratch of a cleaning.
 #[derive(Debug)]
 pub struct Scratch {
