@@ -195,6 +195,28 @@ static void two_sets(void)
            compared.refused);
 }
 
+/* Two presses put contours in one pool; the first removes its newest, and the other's moves down. */
+static void two_presses(void)
+{
+    static int32_t points[2 * UKM_MOST];
+    static UkmRecord records[UKM_MOST];
+    const int32_t triangle[] = {0, 0, 4, 0, 0, 4}, pin[] = {7, 8};
+    size_t contours = 0;
+
+    ukm_pool_add(points, LENGTH(points), records, LENGTH(records), &contours, false, triangle, LENGTH(triangle));
+    ukm_pool_add(points, LENGTH(points), records, LENGTH(records), &contours, true, pin, LENGTH(pin));
+    UkmCounted free = ukm_pool_free(points, LENGTH(points), records, LENGTH(records), contours);
+    printf("pool: %zu contours, %zu points free\n", contours, free.count);
+
+    uint32_t reply = ukm_pool_remove(points, LENGTH(points), records, LENGTH(records), &contours, false);
+    printf("removed: reply %" PRIu32 ", the pin now at point %zu:", reply, records[0].start);
+    print_points(points, records[0].start, records[0].end);
+    reply = ukm_pool_remove(points, LENGTH(points), records, LENGTH(records), &contours, false);
+    printf("none left: reply %" PRIu32 "\n", reply);
+    reply = ukm_pool_add(points, LENGTH(points), records, 9, &contours, false, pin, LENGTH(pin));
+    printf("with 9 records: reply %" PRIu32 "\n", reply);
+}
+
 int main(void)
 {
     one_contour();
@@ -206,6 +228,7 @@ int main(void)
     a_drawing();
     a_damaged_file();
     two_sets();
+    two_presses();
 
     printf("area of nothing: reply %" PRIu32 "\n", ukm_area(NULL, 0).reply);
     return 0;

@@ -131,6 +131,9 @@ int main(void)
     DUE(ukm_compare_sets(NO, empty_contour, 1, NO, NO, NO), a.reply == 5 && a.refused == 0 && a.contours == 0);
     DUE(ukm_compare_sets(triangle, 6, NO, NO, NO, NO), a.reply == 6 && a.refused == 1);
     DUE(ukm_compare_sets(NO, NO, triangle, 6, NO, NO), a.reply == 6 && a.refused == 2);
+    DUE(ukm_pool_free(NO, NO, 0), a.reply == 0 && a.count == 65536);
+    DUE(ukm_pool_contours(NO, NO, 0, true), a.reply == 0 && a.count == 0);
+    DUE(ukm_pool_held(NO, NO, 1, false), a.reply == 6 && a.count == 0);
 
     printf("%d answers as due, %d not\n", right, wrong);
     return wrong != 0;

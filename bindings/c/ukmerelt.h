@@ -12,10 +12,10 @@
  * calls may run at the same time in many threads.
  *
  * Answers. `reply` is 0, or the number of the first refusal in the order 1, 2, 6, 3, 12, 4, 5, 8, 7; ukm_read_set,
- * ukm_write_set_2, ukm_salvage and ukm_import_mm have orders of their own. On a refusal every other field is 0 or
- * false and every row is as it was, but for 7, which reports its decisions and turns and leaves the scratch zeroed,
- * and for ukm_compare_sets, which says whose set was refused. Whatever numbers arrive are answered or refused; none
- * traps.
+ * ukm_write_set_2, ukm_salvage, ukm_import_mm and the calls on a pool have orders of their own. On a refusal every
+ * other field is 0 or false and every row is as it was, but for 7, which reports its decisions and turns and leaves the
+ * scratch zeroed, and for ukm_compare_sets, which says whose set was refused. Whatever numbers arrive are answered or
+ * refused; none traps.
  *
  * Scratch. A cleaner is lent three rows, next, prev and mark, with at least as many entries each as the input has
  * points. After 0 and 7 that many entries of each are 0; what they held before plays no part.
@@ -63,7 +63,9 @@ enum {
     UKM_NO_DRAWING = 13, /* kinds and floats whose lengths don't match, no kind, or a Line or Close with nothing open */
     UKM_NOT_FINITE = 14, /* a place that is a NaN or an infinity */
     UKM_WIDTH = 15,      /* a file with a width that is 0, over 32, or not the smallest for its contour */
-    UKM_FILL = 16        /* a file with a fill bit set in its last byte */
+    UKM_FILL = 16,       /* a file with a fill bit set in its last byte */
+    UKM_FULL = 17,       /* the press's held points would pass the pool less the other's part */
+    UKM_NONE_LEFT = 18   /* removing with none left */
 };
 
 /* The kinds of command in a drawing. */
@@ -85,6 +87,14 @@ typedef struct UkmRange {
     size_t start;
     size_t end;
 } UkmRange;
+
+/* A contour of a pool: a part of its points, the tool that cuts it, and its press, 0 or 1. */
+typedef struct UkmRecord {
+    size_t start;
+    size_t end;
+    size_t tool;
+    size_t press;
+} UkmRecord;
 
 typedef struct UkmVerdict {
     uint32_t reply;
@@ -189,6 +199,11 @@ enum {
     UKM_ONLY_FIRST = 3,  /* only the first set has so many contours */
     UKM_ONLY_SECOND = 4  /* only the second */
 };
+
+typedef struct UkmCounted {
+    uint32_t reply;
+    size_t count;
+} UkmCounted;
 
 /* One contour. */
 
@@ -448,6 +463,42 @@ UkmDrawn ukm_export_mm(const int32_t *points, size_t points_len,
                        const UkmRange *contours, size_t contours_len,
                        uint8_t *kinds, size_t kinds_len,
                        double *floats, size_t floats_len);
+
+/* A pool that two presses share. It lies in rows of the caller's: points, a record for each contour, and in contours how
+ * many records are in use, 0 at first. The pool holds 65,536 points; 16,384 are kept for each press, and the rest goes to
+ * whoever asks first. An empty contour counts as one point held. second is false for press 0 and true for press 1. The
+ * reply is 6 for a pool that is not sound: more records in use than there are, records that are not laid end to end from
+ * 0 or end past the points, a press over 1, a tool over 255, a press that holds over 49,152, or both over 65,536. */
+
+/* A press adds a contour behind the others, with tool 0. Refuses with 1; with 2 for the contour alone; with 6, 3; with 17
+ * if what the press then held would pass the pool less the other's part, which is what the other holds or 16,384,
+ * whichever is more; and with 5 if points has fewer than 131,072 numbers or records fewer than 65,536 entries, whatever
+ * the pool holds. */
+uint32_t ukm_pool_add(int32_t *points, size_t points_len,
+                      UkmRecord *records, size_t records_len,
+                      size_t *contours, bool second,
+                      const int32_t *contour, size_t contour_len);
+
+/* A press removes its newest contour; those behind it move down, and where nothing moved over them the old numbers stay.
+ * Refuses with 6, and with 18 if the press has none. */
+uint32_t ukm_pool_remove(int32_t *points, size_t points_len,
+                         UkmRecord *records, size_t records_len,
+                         size_t *contours, bool second);
+
+/* How many contours a press has. Refuses with 6. */
+UkmCounted ukm_pool_contours(const int32_t *points, size_t points_len,
+                             const UkmRecord *records, size_t records_len,
+                             size_t contours, bool second);
+
+/* How many points a press holds. Refuses with 6. */
+UkmCounted ukm_pool_held(const int32_t *points, size_t points_len,
+                         const UkmRecord *records, size_t records_len,
+                         size_t contours, bool second);
+
+/* The free count: 65,536 less all held. Refuses with 6. */
+UkmCounted ukm_pool_free(const int32_t *points, size_t points_len,
+                         const UkmRecord *records, size_t records_len,
+                         size_t contours);
 
 #ifdef __cplusplus
 }

@@ -24,6 +24,7 @@
 pub mod drawing;
 pub mod flat;
 pub mod int;
+pub mod pool;
 
 mod library;
 mod refused;

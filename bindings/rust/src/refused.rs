@@ -40,6 +40,10 @@ pub enum Refused {
     Width,
     /// 16
     Fill,
+    /// 17
+    Full,
+    /// 18
+    NoneLeft,
     /// A number that a later library has, and that this crate has no name for.
     Unknown { reply: u32 },
 }
@@ -64,6 +68,8 @@ impl Refused {
             Refused::NotFinite => 14,
             Refused::Width => 15,
             Refused::Fill => 16,
+            Refused::Full => 17,
+            Refused::NoneLeft => 18,
             Refused::Unknown { reply } => reply,
         }
     }
@@ -88,6 +94,8 @@ impl Refused {
             14 => Refused::NotFinite,
             15 => Refused::Width,
             16 => Refused::Fill,
+            17 => Refused::Full,
+            18 => Refused::NoneLeft,
             reply => Refused::Unknown { reply },
         })
     }
@@ -127,6 +135,8 @@ impl fmt::Display for Refused {
             Refused::NotFinite => "a place that is a NaN or an infinity",
             Refused::Width => "a file whose differences are not in the smallest width, 1 to 32",
             Refused::Fill => "a file whose last byte is not filled up with zero bits",
+            Refused::Full => "points that would pass the pool less the other press's part",
+            Refused::NoneLeft => "no contour of the press is left to remove",
             Refused::Unknown { reply } => {
                 return write!(f, "the library's reply {reply}, which has no words here");
             }
@@ -156,7 +166,7 @@ mod tests {
 
     #[test]
     fn debug_is_words() {
-        for reply in 1..=17 {
+        for reply in 1..=19 {
             let refused = Refused::read(reply, 0).unwrap_err();
             assert_eq!(format!("{refused:?}"), refused.to_string());
             assert!(refused.to_string().contains(' '));

@@ -90,6 +90,18 @@ pub struct Compared {
     contours: usize,
 }
 
+#[repr(C)]
+pub struct Counted {
+    reply: u32,
+    count: usize,
+}
+
+impl Counted {
+    pub fn read(self) -> Result<usize, Refused> {
+        Refused::read(self.reply, 0).map(|()| self.count)
+    }
+}
+
 impl Verdict {
     pub fn read(self) -> Result<bool, Refused> {
         Refused::read(self.reply, 0).map(|()| self.yes)

@@ -7,11 +7,15 @@ use crate::drawing::Place;
 use crate::int::point::IntPoint;
 use crate::refused::Refused;
 use answer::{
-    Area, Cleaned, CleanedSet, Compared, Drawn, Located, Packed, Read, Salvaged, Verdict, Written,
+    Area, Cleaned, CleanedSet, Compared, Counted, Drawn, Located, Packed, Read, Salvaged, Verdict,
+    Written,
 };
 
 /// A start and an end, laid as `UkmRange` of the header is.
 pub type Range = [usize; 2];
+
+/// A start, an end, a tool and a press, laid as `UkmRecord` of the header is.
+pub type PoolRecord = [usize; 4];
 
 /// The most points of a contour or a set, and the most bytes of a file.
 pub const MOST: usize = 65_536;
@@ -74,6 +78,10 @@ impl Element for f64 {
 
 impl Element for Range {
     type Number = Range;
+}
+
+impl Element for PoolRecord {
+    type Number = PoolRecord;
 }
 
 impl Element for u32 {
@@ -346,4 +354,46 @@ pub fn compare_sets(
     listing: &mut [[usize; 2]],
 ) -> Compared {
     call!(ukm_compare_sets(points, contours, others, other_contours; listing;))
+}
+
+pub fn pool_add(
+    points: &mut [IntPoint],
+    records: &mut [PoolRecord],
+    contours: &mut usize,
+    second: bool,
+    contour: &[IntPoint],
+) -> u32 {
+    let contour = row(contour);
+    call!(ukm_pool_add(; points, records; contours, second, contour.0, contour.1))
+}
+
+pub fn pool_remove(
+    points: &mut [IntPoint],
+    records: &mut [PoolRecord],
+    contours: &mut usize,
+    second: bool,
+) -> u32 {
+    call!(ukm_pool_remove(; points, records; contours, second))
+}
+
+pub fn pool_contours(
+    points: &[IntPoint],
+    records: &[PoolRecord],
+    contours: usize,
+    second: bool,
+) -> Counted {
+    call!(ukm_pool_contours(points, records; ; contours, second))
+}
+
+pub fn pool_held(
+    points: &[IntPoint],
+    records: &[PoolRecord],
+    contours: usize,
+    second: bool,
+) -> Counted {
+    call!(ukm_pool_held(points, records; ; contours, second))
+}
+
+pub fn pool_free(points: &[IntPoint], records: &[PoolRecord], contours: usize) -> Counted {
+    call!(ukm_pool_free(points, records; ; contours))
 }

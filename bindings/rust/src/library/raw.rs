@@ -1,9 +1,10 @@
 //! The functions of libukmerelt.a, as bindings/c/ukmerelt.h declares them.
 
 use super::answer::{
-    Area, Cleaned, CleanedSet, Compared, Drawn, Located, Packed, Read, Salvaged, Verdict, Written,
+    Area, Cleaned, CleanedSet, Compared, Counted, Drawn, Located, Packed, Read, Salvaged, Verdict,
+    Written,
 };
-use super::Range;
+use super::{PoolRecord, Range};
 
 extern "C" {
     pub fn ukm_area_two(points: *const i32, points_len: usize) -> Area;
@@ -311,4 +312,45 @@ extern "C" {
         listing: *mut [usize; 2],
         listing_len: usize,
     ) -> Compared;
+    pub fn ukm_pool_add(
+        points: *mut i32,
+        points_len: usize,
+        records: *mut PoolRecord,
+        records_len: usize,
+        contours: *mut usize,
+        second: bool,
+        contour: *const i32,
+        contour_len: usize,
+    ) -> u32;
+    pub fn ukm_pool_remove(
+        points: *mut i32,
+        points_len: usize,
+        records: *mut PoolRecord,
+        records_len: usize,
+        contours: *mut usize,
+        second: bool,
+    ) -> u32;
+    pub fn ukm_pool_contours(
+        points: *const i32,
+        points_len: usize,
+        records: *const PoolRecord,
+        records_len: usize,
+        contours: usize,
+        second: bool,
+    ) -> Counted;
+    pub fn ukm_pool_held(
+        points: *const i32,
+        points_len: usize,
+        records: *const PoolRecord,
+        records_len: usize,
+        contours: usize,
+        second: bool,
+    ) -> Counted;
+    pub fn ukm_pool_free(
+        points: *const i32,
+        points_len: usize,
+        records: *const PoolRecord,
+        records_len: usize,
+        contours: usize,
+    ) -> Counted;
 }
