@@ -5,51 +5,89 @@ use crate::flat::Flat;
 use crate::inputs;
 use crate::linked::call;
 use crate::plain::{self, Lost};
+use crate::plain_2;
 use crate::table::line;
 use i_shape::flat::buffer::FlatShapesBuffer;
 use i_shape::int::shape::IntShapes;
 use std::hint::black_box;
 use std::path::PathBuf;
 
-/// A kind of file: its name, and its bytes.
+/// An edition: what reads and writes it in plain Rust, and our writer of it, with its name. Our reader takes both.
+struct Edition {
+    read: fn(&[u8], &mut FlatShapesBuffer<i32>) -> Option<()>,
+    write: fn(&FlatShapesBuffer<i32>, &mut Vec<u8>),
+    name: &'static str,
+    ours: fn(&Flat, &mut [u8]) -> usize,
+}
+
+static EDITION_1: Edition = Edition {
+    read: plain::read,
+    write: plain::write,
+    name: "write_set",
+    ours: |Flat { points, contours, shapes }, out| call!(ukm_write_set(points, contours, shapes; out;)).bytes,
+};
+
+static EDITION_2: Edition = Edition {
+    read: plain_2::read,
+    write: plain_2::write,
+    name: "write_set_2",
+    ours: |Flat { points, contours, shapes }, out| call!(ukm_write_set_2(points, contours, shapes; out;)).bytes,
+};
+
+/// A kind of file: its name, its edition, and its bytes.
 pub struct Kind {
     pub name: String,
+    edition: &'static Edition,
     bytes: Vec<u8>,
 }
 
-fn file(name: &str, shapes: IntShapes<i32>) -> Kind {
+fn file(name: &str, edition: &'static Edition, shapes: IntShapes<i32>) -> Kind {
     let (mut set, mut bytes) = (FlatShapesBuffer::default(), vec![]);
     set.set_with_shapes(&shapes);
-    plain::write(&set, &mut bytes);
+    (edition.write)(&set, &mut bytes);
     assert!(bytes.len() <= 65_536);
-    Kind { name: name.into(), bytes }
+    Kind { name: name.into(), edition, bytes }
 }
 
-fn boxes() -> Kind {
+fn boxes(name: &str, edition: &'static Edition) -> Kind {
     let boxes = inputs::boxes(521288629, 1927);
-    file("file of 1927 boxes", boxes.into_iter().map(|contour| vec![contour]).collect())
+    file(name, edition, boxes.into_iter().map(|contour| vec![contour]).collect())
 }
 
-/// Files that the reader takes, as long as a file may be.
+fn boxes_1() -> Kind {
+    boxes("file of 1927 boxes", &EDITION_1)
+}
+
+/// Files of edition 1 that the reader takes, as long as a file may be.
 pub fn sound() -> [Kind; 3] {
-    let circle = file("file of 8191, circle", vec![vec![inputs::circle(8191)]]);
-    [circle, file("file of 58 shapes, mixed", inputs::job(58, false)), boxes()]
+    let circle = file("file of 8191, circle", &EDITION_1, vec![vec![inputs::circle(8191)]]);
+    [circle, file("file of 58 shapes, mixed", &EDITION_1, inputs::job(58, false)), boxes_1()]
+}
+
+/// As many points in files of edition 2: a circle whose differences take 12 bits, and the same shapes and boxes.
+pub fn sound_2() -> [Kind; 3] {
+    let circle = file("file 2 of 8191, circle", &EDITION_2, vec![vec![inputs::circle_of(2.0e6, 8191)]]);
+    let width = circle.bytes[4] >> 2;
+    assert_eq!(width, 12);
+    let shapes = file("file 2 of 58 shapes, mixed", &EDITION_2, inputs::job(58, false));
+    [circle, shapes, boxes("file 2 of 1927 boxes", &EDITION_2)]
 }
 
 /// One of which a tenth of the points go, for a listing.
 pub fn straight() -> Kind {
     let contour = inputs::with_straight(inputs::stairs, 8191, 10);
-    file("file of 8191, 10 % straight", vec![vec![contour]])
+    file("file of 8191, 10 % straight", &EDITION_1, vec![vec![contour]])
 }
 
 /// Boxes of which half are cut off, and boxes of which every tenth is off the grid.
 pub fn damaged() -> [Kind; 2] {
-    let Kind { name, mut bytes } = boxes();
+    let Kind { name, edition, mut bytes } = boxes_1();
     let half = bytes[..bytes.len() / 2].to_vec();
     for contour in bytes[2..].chunks_exact_mut(34).step_by(10) {
         contour[2] = 0x7f;
     }
-    [Kind { name: format!("{name}, cut"), bytes: half }, Kind { name: format!("{name}, off grid"), bytes }]
+    let kind = |what: &str, bytes| Kind { name: format!("{name}, {what}"), edition, bytes };
+    [kind("cut", half), kind("off grid", bytes)]
 }
 
 fn reading(kind: &Kind, set: &Flat) {
@@ -60,7 +98,7 @@ fn reading(kind: &Kind, set: &Flat) {
         "read_set",
         set.count(),
         &mut || {
-            plain::read(black_box(&kind.bytes), &mut buffer).expect("a sound file");
+            (kind.edition.read)(black_box(&kind.bytes), &mut buffer).expect("a sound file");
             buffer.points.len() as i64
         },
         &mut || {
@@ -72,21 +110,19 @@ fn reading(kind: &Kind, set: &Flat) {
 }
 
 fn writing(kind: &Kind, buffer: &FlatShapesBuffer<i32>, set: &Flat) {
+    let edition = kind.edition;
     let (mut plain, mut out) = (vec![], vec![0; kind.bytes.len()]);
     line(
         &kind.name,
-        "write_set",
+        edition.name,
         set.count(),
         &mut || {
-            plain::write(black_box(buffer), &mut plain);
+            (edition.write)(black_box(buffer), &mut plain);
             plain.len() as i64
         },
-        &mut || {
-            let Flat { points, contours, shapes } = black_box(set);
-            call!(ukm_write_set(points, contours, shapes; out;)).bytes as i64
-        },
+        &mut || (edition.ours)(black_box(set), &mut out) as i64,
     );
-    assert_eq!((&plain, &out), (&kind.bytes, &kind.bytes), "write_set differs on {}", kind.name);
+    assert_eq!((&plain, &out), (&kind.bytes, &kind.bytes), "{} differs on {}", edition.name, kind.name);
 }
 
 /// A line for the mending of a file, sound or not; its points are those that would fill it.
@@ -114,14 +150,13 @@ pub fn mending(kind: &Kind) {
     assert_eq!((plain, lost), (out, ours), "salvage differs on {}", kind.name);
 }
 
-/// The lines of a sound file.
+/// The lines of a sound file, read and written.
 pub fn lines(kind: &Kind) {
     let mut buffer = FlatShapesBuffer::default();
-    plain::read(&kind.bytes, &mut buffer).expect("a sound file");
+    (kind.edition.read)(&kind.bytes, &mut buffer).expect("a sound file");
     let set = Flat::from(&buffer);
     reading(kind, &set);
     writing(kind, &buffer, &set);
-    mending(kind);
 }
 
 /// Puts the file into the folder, by its kind's name.

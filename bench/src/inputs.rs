@@ -91,10 +91,14 @@ fn star(random: &mut Random, points: usize) -> Vec<Point> {
 }
 
 pub fn circle(points: usize) -> Vec<Point> {
+    circle_of(5.3e8, points)
+}
+
+pub fn circle_of(radius: f64, points: usize) -> Vec<Point> {
     (0..points)
         .map(|i| {
             let angle = i as f64 / points as f64 * TAU;
-            Point::new((5.3e8 * angle.cos()).round() as i32, (5.3e8 * angle.sin()).round() as i32)
+            Point::new((radius * angle.cos()).round() as i32, (radius * angle.sin()).round() as i32)
         })
         .collect()
 }

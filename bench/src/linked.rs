@@ -13,6 +13,9 @@ use crate::inputs::ASKED;
 /// A start and an end.
 pub type Range = [usize; 2];
 
+/// A contour of a pool: its start, its end, its tool and its press.
+pub type PoolRecord = [usize; 4];
+
 /// Calls a function with the rows that it reads, the rows that it is lent, and plain numbers.
 macro_rules! call {
     ($name:ident($($read:expr),*; $($lent:expr),*; $($number:expr),*)) => {

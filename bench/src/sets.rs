@@ -8,6 +8,7 @@ mod inputs;
 mod linked;
 mod packing;
 mod plain;
+mod plain_2;
 mod table;
 mod time;
 
@@ -23,8 +24,10 @@ fn main() {
     if asked("packing", packing::CONTOUR) {
         packing::line_of_a_contour();
     }
-    files::sound().iter().filter(|kind| asked("files", &kind.name)).for_each(files::lines);
-    files::damaged().iter().filter(|kind| asked("files", &kind.name)).for_each(files::mending);
+    let both = files::sound().into_iter().zip(files::sound_2()).flat_map(|(one, two)| [one, two]);
+    both.filter(|kind| asked("files", &kind.name)).for_each(|kind| files::lines(&kind));
+    let mended = files::sound().into_iter().chain(files::damaged());
+    mended.filter(|kind| asked("files", &kind.name)).for_each(|kind| files::mending(&kind));
     let listed = files::sound().into_iter().chain([files::straight()]);
     listed.filter(|kind| asked("listing", &kind.name)).for_each(|kind| files::put(&kind));
 }
