@@ -11,6 +11,7 @@ mod kinds;
 mod library;
 mod mending;
 mod moved;
+mod pools;
 mod ranges;
 mod sets;
 mod tally;

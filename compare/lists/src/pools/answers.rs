@@ -12,24 +12,13 @@ pub struct Told {
     pub replies: Vec<u8>,
 }
 
-/// The calls of a history, one after the other, on rows full of canaries behind the given records.
+/// The calls of a history, one after the other.
 pub fn run(case: &Case) -> Told {
     let numbers = case.numbers.all();
-    let [points, records] = case.lent;
-    let mut rows = Rows {
-        points: vec![-7; points],
-        records: vec![[7; 4]; records],
-        contours: case.contours,
-    };
-    for (record, &given) in rows.records.iter_mut().zip(&case.records) {
-        *record = given;
-    }
-    let mut told = |call: &Call| match *call {
-        Call::Add { press, start, end } => {
-            let end = end.min(numbers.len());
-            rows.add(press, &numbers[start.min(end)..end])
-        }
-        Call::Remove { press } => rows.remove(press),
+    let mut rows = case.rows();
+    let mut told = |call: &Call| match call.of(&numbers) {
+        (press, Some(contour)) => rows.add(press, contour),
+        (press, None) => rows.remove(press),
     };
     let replies = case.calls.iter().map(|call| told(call).err().unwrap_or(0));
     let replies = replies.collect();

@@ -1,7 +1,7 @@
 //! One line of the list of histories.
 
 use crate::line::{length, repeated, write_times, Part, Row, Words, NO_KIND};
-use requests::pool::Record;
+use requests::pool::{Record, Rows};
 use std::fmt;
 use std::str::FromStr;
 
@@ -27,6 +27,19 @@ pub enum Call {
     },
 }
 
+impl Call {
+    /// The press that calls, and the contour of these numbers that it adds, or none where it removes one.
+    pub fn of<'a>(&self, numbers: &'a [i32]) -> (usize, Option<&'a [i32]>) {
+        match *self {
+            Call::Add { press, start, end } => {
+                let end = end.min(numbers.len());
+                (press, Some(&numbers[start.min(end)..end]))
+            }
+            Call::Remove { press } => (press, None),
+        }
+    }
+}
+
 /// A history: the lengths of the lent rows, how many records are in use, those that stand in front of their row, the
 /// calls, and the numbers that the added contours are of.
 #[derive(Clone, Debug, PartialEq, Eq)]
@@ -36,6 +49,22 @@ pub struct Case {
     pub records: Vec<Record>,
     pub calls: Vec<Call>,
     pub numbers: Row,
+}
+
+impl Case {
+    /// The rows before the calls, full of canaries behind the given records.
+    pub fn rows(&self) -> Rows {
+        let [points, records] = self.lent;
+        let mut rows = Rows {
+            points: vec![-7; points],
+            records: vec![[7; 4]; records],
+            contours: self.contours,
+        };
+        for (record, &given) in rows.records.iter_mut().zip(&self.records) {
+            *record = given;
+        }
+        rows
+    }
 }
 
 type Pair = [usize; 2];

@@ -7,6 +7,7 @@ mod every;
 mod long;
 mod mending;
 mod moved;
+mod pools;
 mod ranges;
 mod short;
 
@@ -50,7 +51,7 @@ impl Kind {
     }
 }
 
-pub const KINDS: [Kind; 39] = [
+pub const KINDS: [Kind; 44] = [
     Kind::new("the list of contours", All(short::list_of_contours)),
     Kind::new("the list of sets", All(short::list_of_sets)),
     Kind::new(
@@ -179,6 +180,20 @@ pub const KINDS: [Kind; 39] = [
     Kind::new(
         "contours of up to 65,536 points compared",
         OneFor(5000, compared::long),
+    ),
+    Kind::new(
+        "the list of histories of a pool",
+        All(|tally| each(tally, once(lists::pools::list()))),
+    ),
+    Kind::new("histories of 40 calls", OneFor(400, pools::short)),
+    Kind::new("histories of 1,000 calls", OneFor(100_000, pools::long)),
+    Kind::new(
+        "pools full of contours of a point or none, 10 calls",
+        OneFor(100_000, pools::full),
+    ),
+    Kind::new(
+        "pools damaged, in short rows, or sound, 4 calls",
+        OneFor(500, pools::damaged),
     ),
 ];
 

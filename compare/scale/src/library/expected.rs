@@ -1,6 +1,6 @@
 //! What the library must answer, by the original's reply.
 
-use super::answer::{Area, Located, Verdict};
+use super::answer::{Area, Counted, Located, Verdict};
 use requests::locate::Place;
 use requests::reply::Reply;
 
@@ -23,6 +23,13 @@ impl From<Reply<i64>> for Area {
     fn from(reply: Reply<i64>) -> Area {
         let (reply, value) = said(reply);
         Area { reply, value }
+    }
+}
+
+impl From<Reply<usize>> for Counted {
+    fn from(reply: Reply<usize>) -> Counted {
+        let (reply, count) = said(reply);
+        Counted { reply, count }
     }
 }
 

@@ -18,6 +18,13 @@ impl<T: Copy + PartialEq> Lent<T> {
         }
     }
 
+    /// A row of these entries, with canaries on either side.
+    pub fn of(canary: T, entries: &[T]) -> Lent<T> {
+        let mut lent = Lent::new(canary, entries.len());
+        lent.row_mut().copy_from_slice(entries);
+        lent
+    }
+
     pub fn row(&self) -> &[T] {
         &self.all[GUARD..self.all.len() - GUARD]
     }

@@ -7,7 +7,8 @@ mod lent;
 mod raw;
 
 use answer::{
-    Area, Cleaned, CleanedSet, Compared, Drawn, Located, Packed, Read, Salvaged, Verdict, Written,
+    Area, Cleaned, CleanedSet, Compared, Counted, Drawn, Located, Packed, Read, Salvaged, Verdict,
+    Written,
 };
 pub use lent::Lent;
 use lists::cleaner::Cleaner;
@@ -16,12 +17,13 @@ use lists::sets::flat::Record;
 use lists::{scratch, sets};
 use requests::edition::Edition;
 use requests::exact::Bits;
+use requests::pool;
 
 /// A start and an end.
 type Range = Record;
 
 /// A start, an end, a tool and a press.
-type PoolRecord = [usize; 4];
+type PoolRecord = pool::Record;
 
 /// The scratch of a cleaning.
 #[derive(Debug)]
@@ -399,4 +401,60 @@ pub fn compare_sets(
     listing: &mut Lent<Record>,
 ) -> Compared {
     call!(ukm_compare_sets(points, contours, others, other_contours; listing;))
+}
+
+/// A pool that lies in lent rows, and how many records are in use.
+#[derive(Debug)]
+pub struct Pool {
+    pub points: Lent<i32>,
+    pub records: Lent<PoolRecord>,
+    pub contours: usize,
+}
+
+impl Pool {
+    pub fn new(rows: &pool::Rows) -> Pool {
+        Pool {
+            points: Lent::of(-7, &rows.points),
+            records: Lent::of([7; 4], &rows.records),
+            contours: rows.contours,
+        }
+    }
+
+    pub fn add(&mut self, second: bool, contour: &[i32]) -> u32 {
+        let Pool {
+            points,
+            records,
+            contours,
+        } = self;
+        let contour = row(contour);
+        call!(ukm_pool_add(; points, records; contours, second, contour.0, contour.1))
+    }
+
+    pub fn remove(&mut self, second: bool) -> u32 {
+        let Pool {
+            points,
+            records,
+            contours,
+        } = self;
+        call!(ukm_pool_remove(; points, records; contours, second))
+    }
+
+    pub fn own(&self, second: bool) -> Counted {
+        let (points, records) = self.rows();
+        call!(ukm_pool_contours(points, records; ; self.contours, second))
+    }
+
+    pub fn held(&self, second: bool) -> Counted {
+        let (points, records) = self.rows();
+        call!(ukm_pool_held(points, records; ; self.contours, second))
+    }
+
+    pub fn free(&self) -> Counted {
+        let (points, records) = self.rows();
+        call!(ukm_pool_free(points, records; ; self.contours))
+    }
+
+    fn rows(&self) -> (&[i32], &[PoolRecord]) {
+        (self.points.row(), self.records.row())
+    }
 }
