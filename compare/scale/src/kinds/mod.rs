@@ -185,8 +185,11 @@ pub const KINDS: [Kind; 44] = [
         "the list of histories of a pool",
         All(|tally| each(tally, once(lists::pools::list()))),
     ),
-    Kind::new("histories of 40 calls", OneFor(400, pools::short)),
-    Kind::new("histories of 1,000 calls", OneFor(100_000, pools::long)),
+    Kind::new("histories of a pool, 40 calls", OneFor(400, pools::short)),
+    Kind::new(
+        "histories of a pool, 1,000 calls",
+        OneFor(100_000, pools::long),
+    ),
     Kind::new(
         "pools full of contours of a point or none, 10 calls",
         OneFor(100_000, pools::full),

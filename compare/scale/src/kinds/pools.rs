@@ -35,8 +35,8 @@ pub fn long(tally: &mut Tally, rng: &mut Rng) {
     tally.compare(&history(PLACES, vec![], &calls, numbers));
 }
 
-/// Ten calls on a pool of contours of a point or none, in which a press has what is kept for it, one less or one more, and
-/// the other as many as then go in, or up to two less.
+/// Ten calls on a pool of contours of a point or none: a press has none of them, what is kept for it, all that it may have,
+/// or about as many, and the other as many as then go in, or up to two less.
 pub fn full(tally: &mut Tally, rng: &mut Rng) {
     let most = POOL - KEPT;
     let mine = rng.pick(&[0, 1, KEPT - 1, KEPT, KEPT + 1, most - 1, most]);
@@ -55,7 +55,7 @@ pub fn full(tally: &mut Tally, rng: &mut Rng) {
     tally.compare(&history(PLACES, with_tools(&first, rng), &calls, numbers));
 }
 
-/// Four calls on a pool with one number wrong, or in rows around the need, or sound.
+/// Four calls on a pool with a number or two wrong, or none, in rows with the pool's places or about as long as it needs.
 pub fn damaged(tally: &mut Tally, rng: &mut Rng) {
     let first = some(rng);
     let numbers = numbers(rng);
