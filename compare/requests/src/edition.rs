@@ -89,8 +89,16 @@ pub(crate) fn parts(numbers: &[i32], contours: &[Record], shapes: &[Record]) -> 
 }
 
 #[cfg(test)]
-mod tests {
-    use super::{read, Edition};
+pub(crate) mod tests {
+    use super::{read, Edition, Shape};
+    use crate::reply::Reply;
+
+    /// The shapes of a file, which is of this edition if it is read.
+    pub fn read_as(expected: Edition, file: &[u8]) -> Reply<Vec<Shape>> {
+        let (edition, shapes) = read(file)?;
+        assert_eq!(edition, expected);
+        Ok(shapes)
+    }
 
     #[test]
     fn the_first_four_bits_are_the_edition() {

@@ -70,14 +70,13 @@ pub fn written(
 #[cfg(test)]
 mod tests {
     use super::{write, written};
-    use crate::edition::{self, Edition, Shape};
+    use crate::edition::tests::read_as;
+    use crate::edition::{Edition, Shape};
     use crate::grid::{LIMIT, NARROW};
     use crate::reply::Reply;
 
     fn read(file: &[u8]) -> Reply<Vec<Shape>> {
-        let (edition, shapes) = edition::read(file)?;
-        assert_eq!(edition, Edition::One);
-        Ok(shapes)
+        read_as(Edition::One, file)
     }
 
     #[test]

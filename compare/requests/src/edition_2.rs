@@ -156,14 +156,13 @@ pub fn written(
 mod tests {
     use super::{need, smallest_width, write, written};
     use crate::bits::BitWriter;
-    use crate::edition::{self, Edition, Shape};
+    use crate::edition::tests::read_as;
+    use crate::edition::{Edition, Shape};
     use crate::grid::{Point, LIMIT, NARROW};
     use crate::reply::Reply;
 
     fn read(file: &[u8]) -> Reply<Vec<Shape>> {
-        let (edition, shapes) = edition::read(file)?;
-        assert_eq!(edition, Edition::Two);
-        Ok(shapes)
+        read_as(Edition::Two, file)
     }
 
     /// A header, and what stands behind it: numbers of 32 bits, and numbers in the width.
