@@ -5,6 +5,7 @@ use super::sound::{file, random_file, reading};
 use crate::point::OFF_NARROW;
 use crate::rng::Rng;
 use crate::sets::rows::Lengths;
+use requests::edition::Edition;
 
 /// With room for whatever a file of this length can carry, or with none, in turn.
 fn in_turn(files: Vec<Vec<u8>>) -> Vec<Case> {
@@ -37,7 +38,7 @@ fn files() -> Vec<Vec<u8>> {
         &[vec![1], vec![0, 2]],
         &[vec![0, 0], vec![3], vec![0]],
     ]
-    .map(file)
+    .map(|sizes| file(Edition::One, sizes))
     .to_vec()
 }
 
@@ -110,13 +111,14 @@ pub fn counts() -> Vec<Case> {
     let mut damaged = vec![];
     for file in files() {
         let count = pair(&file, 0) & 0xfff;
-        for other in around(count, 0xfff) {
-            damaged.push(with_pair(&file, 0, 0x1000 | other));
+        for other in around(count.into(), 0xfff) {
+            damaged.push(with_pair(&file, 0, 0x1000 | other as u16));
         }
         for place in headers(&file) {
             let header = pair(&file, place);
-            for other in around(header & 0x7fff, 0x7fff) {
-                damaged.push(with_pair(&file, place, header & 0x8000 | other));
+            let count = header & 0x7fff;
+            for other in around(count.into(), 0x7fff) {
+                damaged.push(with_pair(&file, place, header & 0x8000 | other as u16));
             }
         }
     }
@@ -124,7 +126,7 @@ pub fn counts() -> Vec<Case> {
 }
 
 /// A little more than the count, a little less, and the ends.
-fn around(count: u16, most: u16) -> Vec<u16> {
+pub fn around(count: usize, most: usize) -> Vec<usize> {
     let less = [count.saturating_sub(1), count.saturating_sub(2), 0];
     let more = [count + 1, count + 2, count + 8, most / 2, most - 1, most];
     [less.to_vec(), more.to_vec()].concat()
@@ -161,7 +163,7 @@ fn with_first_off(file: &[u8]) -> Vec<u8> {
 /// A file of which one coordinate is off the grid, in each place in turn: whole, short,
 /// and with bytes left over.
 pub fn off_in_one_place() -> Vec<Case> {
-    let file = file(&[vec![2, 0, 1], vec![3]]);
+    let file = file(Edition::One, &[vec![2, 0, 1], vec![3]]);
     let mut damaged = vec![];
     for header in headers(&file) {
         let points = usize::from(pair(&file, header) & 0x7fff);

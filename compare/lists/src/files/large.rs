@@ -6,7 +6,7 @@ use super::writings::beside;
 use crate::line::Row;
 use crate::point::{Point, MOST_POINTS, NARROW};
 use crate::sets::flat::{Record, Set};
-use requests::edition::{MOST_BYTES, MOST_CONTOURS};
+use requests::edition::{Edition, MOST_BYTES, MOST_CONTOURS};
 
 /// The most points of a file.
 pub const MOST_IN_A_FILE: usize = 8191;
@@ -79,8 +79,9 @@ fn not_carried() -> Vec<Set> {
 /// Files of the most contours and of the most points, and those cut, made longer and
 /// otherwise spoilt.
 pub fn readings() -> Vec<Case> {
-    let mut cases = vec![exact(&file(&[vec![MOST_IN_A_FILE]]))];
-    for file in carried().iter().map(file_of) {
+    let mut cases = vec![exact(&file(Edition::One, &[vec![MOST_IN_A_FILE]]))];
+    for set in carried() {
+        let file = file_of(Edition::One, &set);
         let lengths = around(need(&file));
         cases.extend(lengths.into_iter().map(|lent| reading(lent, &file)));
         cases.extend(spoilt_file(&file).iter().map(|file| reading(LONGEST, file)));
@@ -118,6 +119,7 @@ fn spoilt_file(file: &[u8]) -> Vec<Vec<u8>> {
 pub fn writings() -> Vec<Case> {
     let mut cases = vec![];
     for set in [carried(), not_carried()].concat() {
+        let beside = |set, more| beside(Edition::One, set, more);
         cases.extend([0, -1, 5, isize::MIN].map(|more| beside(&set, more)));
         cases.extend(spoilt_set(&set).iter().map(|set| beside(set, 0)));
     }

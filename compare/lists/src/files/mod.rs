@@ -18,6 +18,9 @@ pub use case::Case;
 pub use listing::write_listings;
 pub use mend::{Lent, Mending};
 
+use crate::point::OFF_NARROW;
+use requests::edition::Edition;
+
 /// How many contours a file has, if it is read.
 pub fn contours_read(file: &[u8]) -> Option<usize> {
     let (_, shapes) = requests::edition::read(file).ok()?;
@@ -39,10 +42,10 @@ pub fn list() -> Vec<Case> {
 
 fn readings() -> Vec<Case> {
     [
-        sound::small(),
+        sound::small(Edition::One),
         sound::coordinates(),
         sound::random(),
-        sound::rows(),
+        sound::rows(Edition::One),
         damaged::cut_and_longer(),
         damaged::bits(),
         damaged::editions(),
@@ -57,12 +60,12 @@ fn readings() -> Vec<Case> {
 
 fn writings() -> Vec<Case> {
     [
-        writings::small(),
+        writings::small(Edition::One),
         writings::ranges(),
-        writings::off_in_one_place(),
+        writings::off_in_one_place(Edition::One, &OFF_NARROW),
         writings::off_the_narrow_grid(),
         writings::random(),
-        writings::rows(),
+        writings::rows(Edition::One),
         large::writings(),
     ]
     .concat()

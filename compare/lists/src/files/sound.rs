@@ -7,8 +7,8 @@ use crate::sets::flat::Set;
 use crate::sets::random;
 use crate::sets::rows::{Lengths, OFFSETS};
 use crate::sets::small::{rows_up_to, set};
-use requests::edition::{read, MOST_BYTES};
-use requests::edition_1::{write, written};
+use requests::edition::{read, Edition, MOST_BYTES};
+use requests::edition_1::write;
 
 pub fn reading(lent: Lengths, file: &[u8]) -> Case {
     let file = file.to_vec();
@@ -32,22 +32,24 @@ pub fn need(file: &[u8]) -> Lengths {
 }
 
 /// The file of a set that a file can carry.
-pub fn file_of(set: &Set) -> Vec<u8> {
+pub fn file_of(edition: Edition, set: &Set) -> Vec<u8> {
     let points = set.points.all();
-    written(&points, &set.contours, &set.shapes, MOST_BYTES).expect("a file carries it")
+    let file = edition.written(&points, &set.contours, &set.shapes, MOST_BYTES);
+    file.expect("a file carries it")
 }
 
 /// The file of the shapes whose contours have so many points.
-pub fn file(sizes: &[Vec<usize>]) -> Vec<u8> {
-    file_of(&set(sizes))
+pub fn file(edition: Edition, sizes: &[Vec<usize>]) -> Vec<u8> {
+    file_of(edition, &set(sizes))
 }
 
 /// All files of up to two shapes of up to two contours of no point, one or three.
-pub fn small() -> Vec<Case> {
+pub fn small(edition: Edition) -> Vec<Case> {
     let mut shapes = rows_up_to(2, &[0, 1, 3]);
     shapes.retain(|sizes| !sizes.is_empty());
     let files = rows_up_to(2, &shapes);
-    files.iter().map(|sizes| exact(&file(sizes))).collect()
+    let case = |sizes: &Vec<_>| exact(&file(edition, sizes));
+    files.iter().map(case).collect()
 }
 
 /// Coordinates at the ends of the narrow grid, around zero, and with ones and zeros in every byte.
@@ -72,7 +74,7 @@ pub fn random() -> Vec<Case> {
 pub fn random_file(rng: &mut Rng) -> Vec<u8> {
     let mut set = random::set(NARROW, rng);
     set.shapes.retain(|[start, end]| start < end);
-    file_of(&set)
+    file_of(Edition::One, &set)
 }
 
 /// Rows around the need, none, and the longest.
@@ -83,7 +85,7 @@ pub fn around(need: Lengths) -> Vec<Lengths> {
 }
 
 /// Chosen files with every choice of rows.
-pub fn rows() -> Vec<Case> {
+pub fn rows(edition: Edition) -> Vec<Case> {
     let mut cases = vec![];
     for sizes in [
         &[][..],
@@ -92,12 +94,9 @@ pub fn rows() -> Vec<Case> {
         &[vec![0, 0], vec![0]],
         &[vec![4, 3], vec![0], vec![3]],
     ] {
-        let file = file(sizes);
-        cases.extend(
-            around(need(&file))
-                .into_iter()
-                .map(|lent| reading(lent, &file)),
-        );
+        let file = file(edition, sizes);
+        let lengths = around(need(&file));
+        cases.extend(lengths.into_iter().map(|lent| reading(lent, &file)));
     }
     cases
 }

@@ -1,6 +1,7 @@
 //! Sets to be written, into rows as long as needed, longer and shorter.
 
 use super::case::{Case, MOST_FILE};
+use super::edition_2;
 use crate::line::Row;
 use crate::point::{LIMIT, NARROW, OFF_NARROW};
 use crate::rng::Rng;
@@ -10,21 +11,22 @@ use crate::sets::random;
 use crate::sets::ranges::{contour_ranges, shape_ranges};
 use crate::sets::small::{rows_up_to, set};
 use requests::edition::Edition;
-use requests::edition_1::need;
+use requests::edition_1;
 
-pub fn writing(room: usize, set: &Set) -> Case {
-    let (edition, set) = (Edition::One, set.clone());
+/// So many bytes more than needed, or less.
+pub fn beside(edition: Edition, set: &Set, more: isize) -> Case {
+    let need = match edition {
+        Edition::One => edition_1::need(set.contours.len(), set.points.all().len() / 2),
+        Edition::Two => edition_2::writings::need(set),
+    };
+    let room = need.saturating_add_signed(more).min(MOST_FILE);
+    let set = set.clone();
     Case::Writing { edition, room, set }
 }
 
-/// So many bytes more than needed, or less.
-pub fn beside(set: &Set, more: isize) -> Case {
-    let need = need(set.contours.len(), set.points.all().len() / 2);
-    writing(need.saturating_add_signed(more).min(MOST_FILE), set)
-}
-
 /// Each set with exactly the room it needs, and every third also with less and with more.
-fn in_turn(sets: &[Set]) -> Vec<Case> {
+pub fn in_turn(edition: Edition, sets: &[Set]) -> Vec<Case> {
+    let beside = |set, more| beside(edition, set, more);
     let mut cases = vec![];
     for (turn, set) in sets.iter().enumerate() {
         cases.push(beside(set, 0));
@@ -36,30 +38,22 @@ fn in_turn(sets: &[Set]) -> Vec<Case> {
 }
 
 /// All sets of up to two shapes, and of three of which some are empty.
-pub fn small() -> Vec<Case> {
-    in_turn(&small_sets())
-}
-
-pub fn small_sets() -> Vec<Set> {
+pub fn small(edition: Edition) -> Vec<Case> {
     let two = rows_up_to(2, &rows_up_to(2, &[0, 1, 3]));
     let three = rows_up_to(3, &[vec![], vec![0], vec![2], vec![3, 0]]);
     let sizes = [two, three].concat();
-    sizes.iter().map(|sizes| set(sizes)).collect()
+    let sets: Vec<Set> = sizes.iter().map(|sizes| set(sizes)).collect();
+    in_turn(edition, &sets)
 }
 
 /// Ranges of every kind, of contours and of shapes.
 pub fn ranges() -> Vec<Case> {
-    in_turn(&[contour_ranges(), shape_ranges()].concat())
+    in_turn(Edition::One, &[contour_ranges(), shape_ranges()].concat())
 }
 
-/// A set of which one number is off the grid, in each place in turn: sound, with an empty
+/// A set of which one number, one of these off the edition's grid, stands in each place in turn: sound, with an empty
 /// shape, unsound, and of an odd count.
-pub fn off_in_one_place() -> Vec<Case> {
-    in_turn(&off_sets(&OFF_NARROW))
-}
-
-/// That number is one of these.
-pub fn off_sets(off: &[i32; 8]) -> Vec<Set> {
+pub fn off_in_one_place(edition: Edition, off: &[i32; 8]) -> Vec<Case> {
     let mut sets = vec![];
     let sound = set(&[vec![3, 0], vec![2], vec![1]]);
     for place in 0..sound.points.numbers.len() {
@@ -77,12 +71,12 @@ pub fn off_sets(off: &[i32; 8]) -> Vec<Set> {
         set.points.numbers.push(1);
         sets.push(set);
     }
-    sets
+    in_turn(edition, &sets)
 }
 
 /// Sets that are on the grid and off the narrow one.
 pub fn off_the_narrow_grid() -> Vec<Case> {
-    in_turn(&wide())
+    in_turn(Edition::One, &wide())
 }
 
 /// Random sets, sound, with damages, and on the grid where it is wider than the narrow one.
@@ -93,22 +87,22 @@ pub fn random() -> Vec<Case> {
         .map(|_| random::spoil(random::set(NARROW, rng), &OFF_NARROW, rng))
         .collect();
     let wide: Vec<Set> = (0..50).map(|_| random::set(LIMIT, rng)).collect();
-    in_turn(&[sound, damaged, wide].concat())
+    in_turn(Edition::One, &[sound, damaged, wide].concat())
 }
 
 /// Chosen sets with every choice of the row.
-pub fn rows() -> Vec<Case> {
+pub fn rows(edition: Edition) -> Vec<Case> {
     let mut cases = vec![];
     for set in chosen() {
         for more in [0, -1, -2, -8, 1, 2, 9, isize::MIN, isize::MAX] {
-            cases.push(beside(&set, more));
+            cases.push(beside(edition, &set, more));
         }
     }
     cases
 }
 
 /// Small sets, one with points without ranges, and one with contours without shapes.
-pub fn chosen() -> Vec<Set> {
+fn chosen() -> Vec<Set> {
     let mut sets = [
         &[][..],
         &[vec![]],

@@ -1,6 +1,6 @@
 //! Random files of edition 2 to be read, and random sets to be written as such.
 
-use super::short::wide_set;
+use super::short::{self, wide_set};
 use crate::tally::Tally;
 use lists::files::case::LONGEST;
 use lists::files::contours_read;
@@ -8,10 +8,12 @@ use lists::files::damaged::damage;
 use lists::files::edition_2::damaged::{damaged_file, rows};
 use lists::files::edition_2::raw::{file_of, first_bits, Contour};
 use lists::files::edition_2::sound::{random_file, stroll};
-use lists::files::edition_2::writings::{beside, stepped};
-use lists::files::sound::{around, need, reading};
+use lists::files::edition_2::writings::stepped;
+use lists::files::sound::{need, reading};
+use lists::files::writings::beside;
 use lists::rng::Rng;
 use lists::sets::flat::Set;
+use requests::edition::Edition;
 
 /// The most bytes and contours of a file, and the most points of a contour in one.
 const MOST_BYTES: usize = 65_536;
@@ -20,29 +22,16 @@ const MOST_IN_ONE: usize = 32_767;
 
 /// Half of them damaged.
 pub fn read(tally: &mut Tally, rng: &mut Rng) {
-    let case = match rng.below(2) {
-        0 => {
-            let file = random_file(rng);
-            reading(rng.pick(&around(need(&file))), &file)
-        }
-        _ => {
-            let file = damaged_file(rng);
-            reading(rows(rng.below(3), file.len()), &file)
-        }
-    };
-    tally.compare(&case);
+    tally.compare(&short::read(random_file, damaged_file, rows, rng));
 }
 
-/// Half the sets have no empty shapes.
+/// Half the sets go in steps of a width of their own.
 pub fn written(tally: &mut Tally, rng: &mut Rng) {
-    let mut set = match rng.below(2) {
+    let set = match rng.below(2) {
         0 => wide_set(rng),
         _ => stepped(rng),
     };
-    if rng.below(2) == 0 {
-        set.shapes.retain(|[start, end]| start != end);
-    }
-    tally.compare(&beside(&set, rng.pick(&[-1, 0, 0, 1, 5])));
+    tally.compare(&short::written(Edition::Two, set, rng));
 }
 
 /// A file of up to 65,537 bytes, half of them damaged, and the set of as many contours.
@@ -70,7 +59,8 @@ pub fn long(tally: &mut Tally, rng: &mut Rng) {
             .collect()
     };
     let set = Set::of(&[contours.iter().map(shape).collect()]);
-    tally.compare(&beside(&set, rng.pick(&[-1, 0, 0, 1, 5])));
+    let more = rng.pick(&[-1, 0, 0, 1, 5]);
+    tally.compare(&beside(Edition::Two, &set, more));
 }
 
 /// Few contours of many points or many of few, as many as a file has bits for, and now and then a contour more.

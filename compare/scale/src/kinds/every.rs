@@ -6,14 +6,15 @@ use lists::contours::tiny::square;
 use lists::drawings::back;
 use lists::drawings::sound::exact;
 use lists::files::damaged::rows;
+use lists::files::edition_2::damaged;
 use lists::files::edition_2::raw::{one, Contour};
-use lists::files::edition_2::{damaged, writings as second};
 use lists::files::mendings::{file_of, mending};
 use lists::files::sound::reading;
-use lists::files::writings;
+use lists::files::writings::beside;
 use lists::point::{Point, LIMIT, NARROW};
 use lists::sets::flat::Set;
 use requests::drawing::Drawing;
+use requests::edition::Edition;
 
 /// Asked in turn about the points in the grid and around it.
 pub fn on_three_by_three(tally: &mut Tally) {
@@ -50,11 +51,11 @@ pub fn carried_at_the_ends(tally: &mut Tally) {
         let set = Set::of(&[vec![contour.clone()]]);
         tally.compare(&reading(rows(0, file.len()), &file));
         tally.compare(&mending(&file, [0, 0]));
-        tally.compare(&writings::beside(&set, 0));
+        tally.compare(&beside(Edition::One, &set, 0));
         let file = one(&Contour::of_points(true, &contour));
         tally.compare(&reading(damaged::rows(0, file.len()), &file));
         tally.compare(&mending(&file, [0, 0]));
-        tally.compare(&second::beside(&set, 0));
+        tally.compare(&beside(Edition::Two, &set, 0));
         tally.compare(&back::around(&set, [0, 0]));
         tally.compare(&exact(&Drawing::of(&[contour])));
     });

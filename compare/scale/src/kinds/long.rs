@@ -17,6 +17,7 @@ use lists::shapes::{
     at_ends, convex, flat, scattered, star, there_and_back, turned, with_repeats, with_spike,
 };
 use lists::{cleaning, scratch};
+use requests::edition::Edition;
 
 /// A count of points: around a power of two, around the most, or any.
 pub fn length(rng: &mut Rng) -> usize {
@@ -105,6 +106,7 @@ pub fn set(tally: &mut Tally, rng: &mut Rng) {
     for form in PACKINGS.into_iter().filter_map(Packing::numbered) {
         tally.compare(&chosen::added(form, lent.rows, &set, &[], &[]));
     }
-    tally.compare(&beside(&set, 1));
-    tally.compare(&beside(&set_of(count, NARROW, rng), 1));
+    tally.compare(&beside(Edition::One, &set, 1));
+    let narrow = set_of(count, NARROW, rng);
+    tally.compare(&beside(Edition::One, &narrow, 1));
 }

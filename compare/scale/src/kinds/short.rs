@@ -9,6 +9,7 @@ use lists::cleaning::rims;
 use lists::contours::case::{self, Case};
 use lists::contours::lent::around_a_need;
 use lists::contours::{asked, damaged, located, random, unclean};
+use lists::files;
 use lists::files::damaged::{damaged_file, rows};
 use lists::files::sound::{around, need, random_file, reading};
 use lists::files::writings::beside;
@@ -21,6 +22,7 @@ use lists::sets::packing::Form as Packing;
 use lists::sets::random::{set, spoil};
 use lists::sets::rows::Lengths;
 use lists::{once, sets};
+use requests::edition::Edition;
 
 /// The forms of packing that the library has: it packs into shape sets.
 pub const PACKINGS: [usize; 5] = [3, 4, 5, 6, 7];
@@ -126,27 +128,41 @@ pub fn packed(tally: &mut Tally, rng: &mut Rng) {
 }
 
 pub fn file_read(tally: &mut Tally, rng: &mut Rng) {
-    let case = match rng.below(2) {
+    tally.compare(&read(random_file, damaged_file, rows, rng));
+}
+
+/// A sound file, read into rows around the need, or a damaged one, as often.
+pub fn read(
+    sound: fn(&mut Rng) -> Vec<u8>,
+    damaged: fn(&mut Rng) -> Vec<u8>,
+    rows: fn(usize, usize) -> Lengths,
+    rng: &mut Rng,
+) -> files::Case {
+    match rng.below(2) {
         0 => {
-            let file = random_file(rng);
+            let file = sound(rng);
             reading(rng.pick(&around(need(&file))), &file)
         }
         _ => {
-            let file = damaged_file(rng);
+            let file = damaged(rng);
             reading(rows(rng.below(3), file.len()), &file)
         }
-    };
-    tally.compare(&case);
+    }
 }
 
-/// Half the sets have no empty shapes, and one in eight is from all over the grid.
+/// One set in eight is from all over the grid.
 pub fn file_written(tally: &mut Tally, rng: &mut Rng) {
-    let mut set = match rng.below(8) {
+    let set = match rng.below(8) {
         0 => wide_set(rng),
         _ => any_set(NARROW, &OFF_NARROW, rng),
     };
+    tally.compare(&written(Edition::One, set, rng));
+}
+
+/// In a row around the need; of half the sets without the empty shapes.
+pub fn written(edition: Edition, mut set: Set, rng: &mut Rng) -> files::Case {
     if rng.below(2) == 0 {
         set.shapes.retain(|[start, end]| start != end);
     }
-    tally.compare(&beside(&set, rng.pick(&[-1, 0, 0, 1, 5])));
+    beside(edition, &set, rng.pick(&[-1, 0, 0, 1, 5]))
 }

@@ -1,7 +1,7 @@
 //! Files of edition 2 that are damaged, and some that are sound in spite of it.
 
 use super::super::case::{Case, LONGEST};
-use super::super::damaged::damage;
+use super::super::damaged::{around, damage};
 use super::super::sound::reading;
 use super::raw::{
     file_of, first_bits, headers, one, turned, with_count, with_field, with_width, Contour, Place,
@@ -117,13 +117,6 @@ pub fn counts() -> Vec<Case> {
         }
     }
     in_turn(damaged)
-}
-
-/// A little more than the count, a little less, and the ends.
-fn around(count: usize, most: usize) -> Vec<usize> {
-    let less = [count.saturating_sub(1), count.saturating_sub(2), 0];
-    let more = [count + 1, count + 2, count + 8, most / 2, most - 1, most];
-    [less.to_vec(), more.to_vec()].concat()
 }
 
 /// Each file with a contour that begins a shape or not, contrary to before; that cut at its header's end, cut short,

@@ -4,13 +4,13 @@
 use super::super::case::{Case, LONGEST};
 use super::super::listing::MOST_LISTED;
 use super::super::sound::{exact, need, reading};
+use super::super::writings::beside;
 use super::raw::{self, first_bits, headers, with_count, with_width, Contour, Place};
-use super::writings::beside;
 use crate::line::Row;
 use crate::point::{Point, LIMIT, MOST_POINTS};
 use crate::sets::flat::Set;
 use crate::sets::rows::Lengths;
-use requests::edition::{MOST_BYTES, MOST_CONTOURS, MOST_IN_ONE};
+use requests::edition::{Edition, MOST_BYTES, MOST_CONTOURS, MOST_IN_ONE};
 use requests::edition_2::write;
 
 /// So many points that go down by one, by turns along x and along y: no two edges in line. In one bit each, 1001 over
@@ -205,6 +205,7 @@ fn sets_not_carried() -> Vec<Set> {
 }
 
 pub fn writings() -> Vec<Case> {
+    let beside = |set: &Set, more| beside(Edition::Two, set, more);
     let mut cases = vec![];
     for set in sets_carried() {
         cases.extend([0, -1, 5].map(|more| beside(&set, more)));

@@ -8,15 +8,17 @@ mod widths;
 pub mod writings;
 
 use super::case::Case;
+use crate::point::OFF_GRID;
+use requests::edition::Edition;
 
 /// Files to be read, sound ones first.
 pub fn readings() -> Vec<Case> {
     [
         sound::example(),
-        sound::small(),
+        super::sound::small(Edition::Two),
         sound::coordinates(),
         sound::random(),
-        sound::rows(),
+        super::sound::rows(Edition::Two),
         widths::both_ends(),
         widths::others(),
         widths::without_differences(),
@@ -35,17 +37,21 @@ pub fn readings() -> Vec<Case> {
 
 /// Files that are not mended, being of edition 2.
 pub fn not_mended() -> Vec<Case> {
-    [sound::small(), widths::without_differences()].concat()
+    [
+        super::sound::small(Edition::Two),
+        widths::without_differences(),
+    ]
+    .concat()
 }
 
 pub fn writings() -> Vec<Case> {
     [
-        writings::small(),
+        super::writings::small(Edition::Two),
         writings::ranges(),
         writings::differences(),
-        writings::off_in_one_place(),
+        super::writings::off_in_one_place(Edition::Two, &OFF_GRID),
         writings::random(),
-        writings::rows(),
+        super::writings::rows(Edition::Two),
         large::writings(),
     ]
     .concat()

@@ -1,33 +1,13 @@
-//! Sound files of edition 2, read into rows as long as needed, longer and shorter.
+//! Sound files of edition 2.
 
 use super::super::case::Case;
-use super::super::sound::{around, exact, need, reading};
+use super::super::sound::{exact, file_of};
 use crate::point::{Point, LIMIT, NARROW};
 use crate::rng::Rng;
 use crate::sets::flat::Set;
 use crate::sets::random;
-use crate::sets::small::{rows_up_to, set};
-use requests::edition::MOST_BYTES;
-use requests::edition_2::{write, written};
-
-/// The file of a set that a file can carry.
-pub fn file_of(set: &Set) -> Vec<u8> {
-    let points = set.points.all();
-    written(&points, &set.contours, &set.shapes, MOST_BYTES).expect("a file carries it")
-}
-
-/// The file of the shapes whose contours have so many points.
-pub fn file(sizes: &[Vec<usize>]) -> Vec<u8> {
-    file_of(&set(sizes))
-}
-
-/// All files of up to two shapes of up to two contours of no point, one or three.
-pub fn small() -> Vec<Case> {
-    let mut shapes = rows_up_to(2, &[0, 1, 3]);
-    shapes.retain(|sizes| !sizes.is_empty());
-    let files = rows_up_to(2, &shapes);
-    files.iter().map(|sizes| exact(&file(sizes))).collect()
-}
+use requests::edition::Edition;
+use requests::edition_2::write;
 
 /// The file that the programs are shown with.
 pub fn example() -> Vec<Case> {
@@ -63,7 +43,7 @@ pub fn random_file(rng: &mut Rng) -> Vec<u8> {
         _ => stepped(rng),
     };
     set.shapes.retain(|[start, end]| start < end);
-    file_of(&set)
+    file_of(Edition::Two, &set)
 }
 
 /// Up to three shapes of up to three contours of up to nine points.
@@ -98,21 +78,4 @@ pub fn stroll(count: usize, rng: &mut Rng) -> Vec<Point> {
         }
     }
     points
-}
-
-/// Chosen files with every choice of rows.
-pub fn rows() -> Vec<Case> {
-    let mut cases = vec![];
-    for sizes in [
-        &[][..],
-        &[vec![0]],
-        &[vec![1]],
-        &[vec![0, 0], vec![0]],
-        &[vec![4, 3], vec![0], vec![3]],
-    ] {
-        let file = file(sizes);
-        let lengths = around(need(&file));
-        cases.extend(lengths.into_iter().map(|lent| reading(lent, &file)));
-    }
-    cases
 }
