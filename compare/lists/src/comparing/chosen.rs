@@ -9,15 +9,14 @@ const BOX: [Point; 4] = [[0, 0], [4, 0], [4, 4], [0, 4]];
 
 /// A box beside itself, started elsewhere, reversed, cut short, longer, moved; and beside the empty contour.
 pub fn worked() -> Vec<Case> {
-    let own = BOX.to_vec();
     let started = |start: usize| [&BOX[start..], &BOX[..start]].concat();
-    let mut reversed = own.clone();
+    let mut reversed = BOX.to_vec();
     reversed.reverse();
     let moved: Vec<Point> = BOX.iter().map(|[x, y]| [x + 1, *y]).collect();
     let longer = [&BOX[..], &[[0, 2]]].concat();
     let corner = vec![[-LIMIT, LIMIT], [LIMIT, -LIMIT], [LIMIT, LIMIT]];
     let others = vec![
-        own.clone(),
+        BOX.to_vec(),
         started(1),
         started(2),
         started(3),
@@ -28,11 +27,12 @@ pub fn worked() -> Vec<Case> {
         vec![],
         corner,
     ];
+    let own = &others[..1];
     let mut cases = vec![];
-    for other in &others {
+    for other in others.chunks(1) {
         for offset in [0, -1, 2] {
-            cases.push(beside(&[own.clone()], std::slice::from_ref(other), offset));
-            cases.push(beside(std::slice::from_ref(other), &[own.clone()], offset));
+            cases.push(beside(own, other, offset));
+            cases.push(beside(other, own, offset));
         }
     }
     cases.push(beside(&others, &others, 0));

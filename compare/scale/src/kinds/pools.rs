@@ -8,7 +8,7 @@ use lists::pools::chosen::{history, laid, remove, PLACES};
 use lists::pools::Case;
 use lists::rng::Rng;
 use requests::pool::{Contour, Pool, Record, KEPT, POOL};
-use requests::reply::on_grid;
+use requests::reply::domain;
 
 const MAX: usize = usize::MAX;
 
@@ -128,7 +128,7 @@ fn calls(
         let left = POOL.saturating_sub(others_part + pool.held(press));
         let call = adding(press, points(left, rng), numbers.len(), rng);
         let contour = call.of(numbers).1.unwrap_or_default();
-        if left > 0 && contour.len() % 2 == 0 && on_grid(contour).is_ok() {
+        if left > 0 && domain(contour).is_ok() {
             let _ = pool.add(press, contour, true);
         }
         call
