@@ -6,7 +6,7 @@ mod linked;
 mod table;
 mod time;
 
-use inputs::Point;
+use inputs::{numbers, Point};
 use linked::{call, Range};
 use std::hint::black_box;
 
@@ -32,12 +32,8 @@ fn plain(first: &[Point], second: &[Point]) -> bool {
     first.len() == second.len() && first.iter().zip(second).all(|(a, b)| a.x == b.x && a.y == b.y)
 }
 
-fn row(contour: &[Point]) -> Vec<i32> {
-    contour.iter().flat_map(|point| [point.x, point.y]).collect()
-}
-
 fn line(pair: &Pair) {
-    let (first, second) = (row(&pair.first), row(&pair.second));
+    let (first, second) = (numbers(&pair.first), numbers(&pair.second));
     let ranges: [Range; 1] = [[0, pair.first.len()]];
     let others: [Range; 1] = [[0, pair.second.len()]];
     let (equal, mut listing) = (pair.first.clone(), [[0, 0]]);

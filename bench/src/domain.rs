@@ -27,8 +27,7 @@ fn ours(row: &[i32]) -> bool {
 }
 
 fn line(kind: &Kind) {
-    let rows: Vec<Vec<i32>> =
-        kind.contours.iter().map(|c| c.iter().flat_map(|p| [p.x, p.y]).collect()).collect();
+    let rows = kind.rows();
     table::line(
         &kind.name,
         "domain",

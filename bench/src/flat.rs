@@ -1,6 +1,6 @@
 //! Shape sets in rows, as the library takes them.
 
-use crate::inputs::Point;
+use crate::inputs::numbers;
 use crate::linked::Range;
 use i_shape::flat::buffer::FlatShapesBuffer;
 use i_shape::int::shape::IntShape;
@@ -47,8 +47,4 @@ impl From<&FlatShapesBuffer<i32>> for Flat {
         let ranges = |row: &[std::ops::Range<usize>]| row.iter().map(|r| [r.start, r.end]).collect();
         Flat { points: numbers(&set.points), contours: ranges(&set.contour_ranges), shapes: ranges(&set.shape_ranges) }
     }
-}
-
-pub fn numbers(points: &[Point]) -> Vec<i32> {
-    points.iter().flat_map(|p| [p.x, p.y]).collect()
 }

@@ -22,6 +22,16 @@ impl Kind {
     pub fn points(&self) -> usize {
         self.contours.iter().map(Vec::len).sum()
     }
+
+    /// The contours as the library takes them.
+    pub fn rows(&self) -> Vec<Vec<i32>> {
+        self.contours.iter().map(|contour| numbers(contour)).collect()
+    }
+}
+
+/// The row of these points: x y x y ….
+pub fn numbers(points: &[Point]) -> Vec<i32> {
+    points.iter().flat_map(|point| [point.x, point.y]).collect()
 }
 
 struct Random(u64);

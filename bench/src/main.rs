@@ -14,8 +14,7 @@ use linked::Rows;
 use std::hint::black_box;
 
 fn lines(kind: &Kind) {
-    let rows: Vec<Vec<i32>> =
-        kind.contours.iter().map(|c| c.iter().flat_map(|p| [p.x, p.y]).collect()).collect();
+    let rows = kind.rows();
     let mut lent = Rows::new(kind.contours.iter().map(Vec::len).max().unwrap_or(0));
     for ((function, rust), (same, ours)) in original::FUNCTIONS.into_iter().zip(linked::FUNCTIONS) {
         assert_eq!(function, same);

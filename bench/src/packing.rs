@@ -1,8 +1,8 @@
 //! Sets packed and enlarged, their ranges tested, and their contours read back.
 
 use crate::cleaning::Kind;
-use crate::flat::{numbers, Flat};
-use crate::inputs;
+use crate::flat::Flat;
+use crate::inputs::{self, numbers};
 use crate::linked::{call, Range};
 use crate::table::line;
 use i_shape::flat::buffer::{FlatContoursBuffer, FlatShapesBuffer};

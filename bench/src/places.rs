@@ -53,8 +53,7 @@ fn contains(row: &[i32], (x, y): (i32, i32)) -> i64 {
 /// A line beside the plain test, and one beside `contains`, which must say yes where a point is inside and no where it is
 /// outside; none is on a boundary.
 fn lines(kind: &Kind, asked: (i32, i32)) {
-    let rows: Vec<Vec<i32>> =
-        kind.contours.iter().map(|c| c.iter().flat_map(|p| [p.x, p.y]).collect()).collect();
+    let rows = kind.rows();
     let point = Point::new(asked.0, asked.1);
     let (name, points) = (&kind.name, kind.points());
     table::line(

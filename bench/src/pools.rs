@@ -6,7 +6,7 @@ mod linked;
 mod table;
 mod time;
 
-use inputs::Point;
+use inputs::{numbers, Point};
 use linked::{raw, PoolRecord};
 use std::hint::black_box;
 
@@ -56,18 +56,14 @@ impl Lent {
     }
 }
 
-fn row(contour: &[Point]) -> Vec<i32> {
-    contour.iter().flat_map(|point| [point.x, point.y]).collect()
-}
-
 /// The calls that are measured, behind some that are not, and that leave as many contours as they found.
 fn line(name: &str, function: &str, points: usize, before: &[Call], calls: &[Call]) {
     let (mut plain, mut lent) = (Plain::default(), Lent::new());
     for &(second, contour) in before {
         plain.call((second, contour));
-        lent.call(second, contour.map(row).as_deref());
+        lent.call(second, contour.map(numbers).as_deref());
     }
-    let rows: Vec<(bool, Option<Vec<i32>>)> = calls.iter().map(|&(second, contour)| (second, contour.map(row))).collect();
+    let rows: Vec<(bool, Option<Vec<i32>>)> = calls.iter().map(|&(second, contour)| (second, contour.map(numbers))).collect();
     table::line(
         name,
         function,

@@ -21,7 +21,7 @@ impl program::Library for Ours {
     const FUNCTIONS: [(&'static str, Self::Function); 8] = linked::FUNCTIONS;
 
     fn made(points: &[Point]) -> Vec<i32> {
-        points.iter().flat_map(|p| [p.x, p.y]).collect()
+        inputs::numbers(points)
     }
 
     fn answer(&mut self, function: Self::Function, contour: &Vec<i32>) -> i64 {
