@@ -94,10 +94,10 @@ module _ (c : List ℤ) (s : ℕ) (long : length c ≡ 2 * count c) (some : 0 < 
   d = started-at s c
 
   as-many : count c ≡ count d
-  as-many = omega (arith, started-length c (count c) s long (omega arith))
+  as-many = omega (arith, started-length s c)
 
   d-long : length d ≡ 2 * count d
-  d-long = omega (arith, started-length c (count c) s long (omega arith), as-many)
+  d-long = omega (arith, started-length s c, as-many)
 
   c-long : length c ≡ 2 * count d
   c-long = omega (arith, long, as-many)

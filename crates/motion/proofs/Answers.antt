@@ -17,8 +17,10 @@ use Rattle.grid.proofs.DomainLaws.{in-domain}
 use Rattle.replies.proofs.LadderLaws.{front-clear}
 use Rattle.area.specs.Answers.{empty, refusals as area-refusals}
 use Rattle.path.specs.Contains.{refusals as asked-refusals}
-use Rattle.motion.specs.Moves.{shifted, reversed, started, StillOn}
-use Rattle.motion.proofs.Rows.{shifted-length, reversed-length, reversed-on, started-length, started-on}
+use Rattle.turned.specs.Starts.{started-at}
+use Rattle.turned.proofs.StartedLaws.{started-length}
+use Rattle.motion.specs.Moves.{shifted, reversed, StillOn}
+use Rattle.motion.proofs.Rows.{shifted-length, reversed-length, reversed-on, started-on}
 
 -- a row has as many numbers as another, and lies on the grid where that one does
 pub record Alike (row other : List ℤ) : Type 0 where
@@ -31,7 +33,7 @@ shifted-alike d row on = record { long = shifted-length d row; on = on .after �
 pub reversed-alike : (row : List ℤ) → Alike (reversed row) row
 reversed-alike row = record { long = reversed-length row; on = reversed-on limit row }
 
-pub started-alike : (k : ℕ) (row : List ℤ) → Alike (started k row) row
+pub started-alike : (k : ℕ) (row : List ℤ) → Alike (started-at k row) row
 started-alike k row = record { long = started-length k row; on = started-on k row limit }
 
 -- an answer by the number of the first refusal, which leaves the rest open

@@ -1,7 +1,6 @@
 -- The words, on worked cases.
 use mathlib.Core.Path.{_≡_, refl}
 use mathlib.Core.List.{List, [], _∷_, _++_}
-use Prim.Native.Nat.{ℕ}
 use lib.ListN.{replicate}
 use lib.IntN.{ℤ, pos, negsuc}
 use Rattle.integers.specs.Modulo.{mod64}
@@ -17,7 +16,8 @@ use Rattle.ring.specs.declared.Rule.the-variants.{Collinear}
 use Rattle.ring.specs.Walk.{survivors-from, others, successor, predecessor, occurrences, unmark, unmark-about, remove, decide, look, looks, walk}
 use Rattle.ring.specs.Rule.{goes-at}
 use Rattle.clean.specs.Outcome.{chosen, answer, lent, leaving, outcome-by, outcome}
-use Rattle.motion.specs.Moves.{shifted, reversed, started, kept-shifted, negated}
+use Rattle.turned.specs.Starts.{started-at}
+use Rattle.motion.specs.Moves.{shifted, reversed, kept-shifted, negated}
 
 -- 3 to the right and 1 down
 abbrev step : Edge
@@ -32,7 +32,7 @@ unfolding reversed
 w3-reversed = refl
 
 -- from its second point on, from its third, and from a fourth that it has not
-w3-started : (started 1 W3 ≡ row (4 ∷ 0 ∷ 0 ∷ 4 ∷ 0 ∷ 0 ∷ [])) × (started 2 W3 ≡ row (0 ∷ 4 ∷ 0 ∷ 0 ∷ 4 ∷ 0 ∷ [])) × (started 3 W3 ≡ W3)
+w3-started : (started-at 1 W3 ≡ row (4 ∷ 0 ∷ 0 ∷ 4 ∷ 0 ∷ 0 ∷ [])) × (started-at 2 W3 ≡ row (0 ∷ 4 ∷ 0 ∷ 0 ∷ 4 ∷ 0 ∷ [])) × (started-at 3 W3 ≡ W3)
 w3-started = (refl, refl, refl)
 
 -- W4 cleaned into a row one number longer than need be: what is written is shifted, and the last 9 stays

@@ -10,13 +10,13 @@ use Rattle.ring.specs.Walk.{Walked, survivors-from, others, successor, predeces
 use Rattle.ring.specs.Walk.End.{kept, collapsed}
 use Rattle.ring.specs.Rule.{goes-at}
 use Rattle.clean.specs.Outcome.{walked}
-use Rattle.motion.specs.Moves.{started}
+use Rattle.turned.specs.Starts.{started-at}
 
 -- three points in a line, despiked: 2 decisions, or 1
 abbrev three : List ℤ
 three = row (1 ∷ 0 ∷ 0 ∷ 0 ∷ 2 ∷ 0 ∷ [])
 
-pub the-despiker-may-decide-less-from-another-start : (walked Spike three ≡ ending collapsed (tally 2 2)) × (walked Spike (started 2 three) ≡ ending collapsed (tally 1 1))
+pub the-despiker-may-decide-less-from-another-start : (walked Spike three ≡ ending collapsed (tally 2 2)) × (walked Spike (started-at 2 three) ≡ ending collapsed (tally 1 1))
 unfolding survivors-from others successor predecessor occurrences unmark unmark-about remove decide look looks walk goes-at cross dot
 the-despiker-may-decide-less-from-another-start = (refl, refl)
 
@@ -25,13 +25,13 @@ abbrev four : List ℤ
 four = row (0 ∷ 0 ∷ 0 ∷ 0 ∷ 0 ∷ 1 ∷ 1 ∷ 0 ∷ [])
 
 pub the-collinear-walk-may-decide-more-from-another-start :
-    (walked Collinear four ≡ ending (kept (1 ∷ 2 ∷ 3 ∷ [])) (tally 4 4)) × (walked Collinear (started 2 four) ≡ ending (kept (0 ∷ 1 ∷ 3 ∷ [])) (tally 6 6))
+    (walked Collinear four ≡ ending (kept (1 ∷ 2 ∷ 3 ∷ [])) (tally 4 4)) × (walked Collinear (started-at 2 four) ≡ ending (kept (0 ∷ 1 ∷ 3 ∷ [])) (tally 6 6))
 unfolding survivors-from others successor predecessor occurrences unmark unmark-about remove decide look looks walk goes-at cross dot
 the-collinear-walk-may-decide-more-from-another-start = (refl, refl)
 
 -- five points, despiked from each start: four are kept, or three
 abbrev from : ℕ → Walked
-from k = walked Spike (started k (row (0 ∷ 0 ∷ 0 ∷ 1 ∷ 2 ∷ 0 ∷ 0 ∷ 0 ∷ 1 ∷ 0 ∷ [])))
+from k = walked Spike (started-at k (row (0 ∷ 0 ∷ 0 ∷ 1 ∷ 2 ∷ 0 ∷ 0 ∷ 0 ∷ 1 ∷ 0 ∷ [])))
 
 pub the-despiker-may-keep-fewer-from-another-start :
     (from 0 ≡ ending (kept (0 ∷ 1 ∷ 2 ∷ 4 ∷ [])) (tally 7 8))

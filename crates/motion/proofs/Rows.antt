@@ -12,7 +12,8 @@ use Rattle.grid.specs.Limits.{all-on-grid}
 use Rattle.grid.specs.Points.{at, points}
 use Rattle.grid.specs.Domain.{count}
 use Rattle.grid.proofs.LimitLaws.{on-joined}
-use Rattle.motion.specs.Moves.{shift, shifted, reversed, started}
+use Rattle.turned.specs.Starts.{started-at}
+use Rattle.motion.specs.Moves.{shift, shifted, reversed}
 
 -- two numbers more
 two-more : (n : ℕ) → 2 * suc n ≡ suc (suc (2 * n))
@@ -117,22 +118,14 @@ reversed-points (x ∷ y ∷ row) h =
     ∙ sym (reverse-cons (record { x = x; y = y }) (points row))
 
 module _ (k : ℕ) (row : List ℤ) where
-  pub started-length : length (started k row) ≡ length row
-  started-length = omega (
-    arith,
-    length-append (drop (2 * k) row) (take (2 * k) row),
-    length-append (take (2 * k) row) (drop (2 * k) row),
-    ap length (take-append-drop (2 * k) row),
-  )
-
-  pub started-on : (bound : ℕ) → all-on-grid bound (started k row) ≡ all-on-grid bound row
+  pub started-on : (bound : ℕ) → all-on-grid bound (started-at k row) ≡ all-on-grid bound row
   started-on bound =
       on-joined bound (drop (2 * k) row) (take (2 * k) row)
       ∙ and-comm (all-on-grid bound (drop (2 * k) row)) (all-on-grid bound (take (2 * k) row))
       ∙ sym (on-joined bound (take (2 * k) row) (drop (2 * k) row))
       ∙ ap (all-on-grid bound) (take-append-drop (2 * k) row)
 
-  pub started-points : length row ≡ 2 * count row → points (started k row) ≡ drop k (points row) ++ take k (points row)
+  pub started-points : length row ≡ 2 * count row → points (started-at k row) ≡ drop k (points row) ++ take k (points row)
   started-points h =
       points-joined (drop (2 * k) row) (take (2 * k) row) (omega (arith, length-drop (2 * k) row))
       ∙ ap₂ _++_ (points-dropped k row) (points-taken k row)

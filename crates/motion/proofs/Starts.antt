@@ -14,7 +14,7 @@ use Rattle.grid.proofs.Round.{AnyStart}
 use Rattle.grid.proofs.StartLaws.{length-any-start, some-any-start, distinct-any-start}
 use Rattle.path.specs.Convex.{convex-distinct, is-convex}
 use Rattle.clean.specs.Verdicts.{is-simple, spike-free-distinct, no-spikes}
-use Rattle.motion.specs.Moves.{started}
+use Rattle.turned.specs.Starts.{started-at}
 use Rattle.motion.proofs.Rows.{started-points}
 
 pub simple-any-start : AnyStart is-simple
@@ -37,5 +37,5 @@ pub convex-any-start : AnyStart is-convex
 unfolding is-convex
 convex-any-start l m = ap₂ (λ (n : ℕ) (t : Bool). leb n 2 || t) (length-any-start l m) (distinct-any-start convex-distinct convex-distinct-any-start l m)
 
-pub from-start : {X : Type 0} (f : List Point → X) → AnyStart f → (k : ℕ) (row : List ℤ) → length row ≡ 2 * count row → f (points (started k row)) ≡ f (points row)
+pub from-start : {X : Type 0} (f : List Point → X) → AnyStart f → (k : ℕ) (row : List ℤ) → length row ≡ 2 * count row → f (points (started-at k row)) ≡ f (points row)
 from-start f any k row h = ap f (started-points k row h) ∙ any (take k (points row)) (drop k (points row)) ∙ ap f (take-append-drop k (points row))

@@ -43,7 +43,8 @@ use Rattle.sets.specs.Area.{filled, reported-sum, area-refusals, doubled-by, ha
 use Rattle.sets.specs.Area as SetArea
 use Rattle.sets.specs.Contains.{has, in-shape, shape-refusals as asked-refusals}
 use Rattle.sets.specs.Outcome as Sets
-use Rattle.motion.specs.Moves.{shift, shifted, reversed, started, StillOn, AskedStillOn, kept-shifted, set-shifted, negated}
+use Rattle.turned.specs.Starts.{started-at}
+use Rattle.motion.specs.Moves.{shift, shifted, reversed, StillOn, AskedStillOn, kept-shifted, set-shifted, negated}
 use Rattle.motion.proofs.Rows.{shifted-length, shifted-points, reversed-points}
 use Rattle.motion.proofs.Shifts.{convex-shifted, contained-shifted, exact-shifted}
 use Rattle.motion.proofs.Cleanings.{shifted-count, walked-shifted, outcome-shifted}
@@ -239,38 +240,38 @@ reversing-keeps-where-a-point-is-located row p = asked-alike
 
 -- Another start, whichever point it is.
 module _ (k : ℕ) (row : List ℤ) where
-  pub another-start-keeps-the-exact-area : length row ≡ 2 * count row → exact (points (started k row)) ≡ exact (points row)
+  pub another-start-keeps-the-exact-area : length row ≡ 2 * count row → exact (points (started-at k row)) ≡ exact (points row)
   another-start-keeps-the-exact-area = from-start exact exact-any-start k row
 
-  pub another-start-keeps-the-doubled-area : doubled (started k row) ≡ doubled row
+  pub another-start-keeps-the-doubled-area : doubled (started-at k row) ≡ doubled row
   unfolding doubled
   another-start-keeps-the-doubled-area = area-alike (started-alike k row) area-answer (λ k a b. refl) (λ v. v) another-start-keeps-the-exact-area
 
-  pub another-start-keeps-the-half : half (started k row) ≡ half row
+  pub another-start-keeps-the-half : half (started-at k row) ≡ half row
   unfolding half
   another-start-keeps-the-half = area-alike (started-alike k row) area-answer (λ k a b. refl) halved another-start-keeps-the-exact-area
 
-  pub another-start-keeps-clockwise : clockwise (started k row) ≡ clockwise row
+  pub another-start-keeps-clockwise : clockwise (started-at k row) ≡ clockwise row
   unfolding clockwise
   another-start-keeps-clockwise = area-alike (started-alike k row) verdict (λ k a b. refl) (λ v. leZ v (pos 0)) another-start-keeps-the-exact-area
 
-  pub another-start-keeps-simple : simple (started k row) ≡ simple row
+  pub another-start-keeps-simple : simple (started-at k row) ≡ simple row
   unfolding simple
   another-start-keeps-simple = verdict-alike (started-alike k row) is-simple (from-start is-simple simple-any-start k row)
 
-  pub another-start-keeps-no-spikes : spike-free (started k row) ≡ spike-free row
+  pub another-start-keeps-no-spikes : spike-free (started-at k row) ≡ spike-free row
   unfolding spike-free
   another-start-keeps-no-spikes = verdict-alike (started-alike k row) no-spikes (from-start no-spikes no-spikes-any-start k row)
 
-  pub another-start-keeps-convex : convex (started k row) ≡ convex row
+  pub another-start-keeps-convex : convex (started-at k row) ≡ convex row
   unfolding convex
   another-start-keeps-convex = verdict-alike (started-alike k row) is-convex (from-start is-convex convex-any-start k row)
 
-  pub another-start-keeps-contains : (p : Point) → contains (started k row) (p .x) (p .y) ≡ contains row (p .x) (p .y)
+  pub another-start-keeps-contains : (p : Point) → contains (started-at k row) (p .x) (p .y) ≡ contains row (p .x) (p .y)
   unfolding contains
   another-start-keeps-contains p = asked-alike (started-alike k row) verdict (λ k a b. refl) p p refl contained (from-start (contained p) (contained-any-start p) k row)
 
-  pub another-start-keeps-where-a-point-is-located : (p : Point) → located (started k row) (p .x) (p .y) ≡ located row (p .x) (p .y)
+  pub another-start-keeps-where-a-point-is-located : (p : Point) → located (started-at k row) (p .x) (p .y) ≡ located row (p .x) (p .y)
   unfolding located
   another-start-keeps-where-a-point-is-located p = asked-alike
       (started-alike k row) located-answer (λ k a b. refl)

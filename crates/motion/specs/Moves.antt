@@ -1,4 +1,4 @@
--- Outlines that are shifted by one step, reversed, or started elsewhere.
+-- Outlines that are shifted by one step, or reversed; `turned/specs/Starts` has those that start elsewhere.
 use mathlib.Core.Path.{_≡_}
 use mathlib.Core.Bool.{true}
 use mathlib.Core.List.{List, [], _∷_, _++_}
@@ -29,10 +29,6 @@ unfoldable pub reversed : List ℤ → List ℤ
 reversed [] = []
 reversed (x ∷ []) = x ∷ []
 reversed (x ∷ y ∷ row) = reversed row ++ x ∷ y ∷ []
-
--- a row started at its point number k; where there is none, at its first
-abbrev pub started : ℕ → List ℤ → List ℤ
-started k row = drop (2 * k) row ++ take (2 * k) row
 
 -- a row lies on the grid, and still does when it is shifted
 pub record StillOn (d : Edge) (row : List ℤ) : Type 0 where

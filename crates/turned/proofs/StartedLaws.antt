@@ -6,8 +6,8 @@ use Prim.Native.Nat.{ℕ, _+_, _-_, _*_, _/_, _%_, _<_, _≤_}
 use native.Mathlib.Omega.{arith}
 use native.Mathlib.Decide.{decLt, ℕ-discrete}
 use native.Mathlib.Nat.{mod-eq-of-lt, mod-eq-sub-mod, mod-lt}
-use lib.ListN.{length, getD, take, drop, length-drop, length-append, List·getD-append}
-use lib.Seq.{getD-take, getD-drop, getD-append-add, ext-getD, length-take-le}
+use lib.ListN.{length, getD, take, drop, length-drop, length-append, take-append-drop, List·getD-append}
+use lib.Seq.{getD-take, getD-drop, getD-append-add, ext-getD}
 use lib.IntN.{ℤ, pos}
 use Rattle.integers.proofs.Equal.{eqZ-same}
 use Rattle.grid.specs.declared.Point.{Point}
@@ -31,10 +31,15 @@ points-tell a b n la lb e = ext-getD (pos 0) a b (la ∙ sym lb) (λ j h. go j h
         let k : 2 * (j / 2) + 1 ≡ j = omega arith in
         ap (λ (i : ℕ). getD a i (pos 0)) (sym k) ∙ ap (λ (p : Point). p .y) (e (j / 2) (omega (arith, la))) ∙ ap (λ (i : ℕ). getD b i (pos 0)) k
 
-module _ (row : List ℤ) (n s : ℕ) (long : length row ≡ 2 * n) (h : s ≤ n) where
-  pub started-length : length (started-at s row) ≡ 2 * n
-  started-length = length-append (drop (2 * s) row) (take (2 * s) row) ∙ omega (arith, length-drop (2 * s) row, length-take-le (2 * s) row (omega (arith, long)), long)
+pub started-length : (s : ℕ) (row : List ℤ) → length (started-at s row) ≡ length row
+started-length s row = omega (
+  arith,
+  length-append (drop (2 * s) row) (take (2 * s) row),
+  length-append (take (2 * s) row) (drop (2 * s) row),
+  ap length (take-append-drop (2 * s) row),
+)
 
+module _ (row : List ℤ) (n s : ℕ) (long : length row ≡ 2 * n) (h : s ≤ n) where
   -- the number j behind the start
   number-ahead : (j : ℕ) → 2 * s + j < 2 * n → getD (started-at s row) j (pos 0) ≡ getD row (2 * s + j) (pos 0)
   number-ahead j l = List·getD-append (drop (2 * s) row) (take (2 * s) row) (pos 0) j (omega (arith, length-drop (2 * s) row, long)) ∙ getD-drop (2 * s) row j (pos 0)
@@ -68,7 +73,7 @@ module _ (row : List ℤ) (n s : ℕ) (long : length row ≡ 2 * n) (h : s ≤ n
 pub starts-is : (first second : List ℤ) (n t : ℕ) → length first ≡ 2 * n → length second ≡ 2 * n → t ≤ n → starts-at first second n t ≡ true → started-at t second ≡ first
 unfolding starts-at
 starts-is first second n t lf ls h e =
-    points-tell (started-at t second) first n (started-length second n t ls h) lf
+    points-tell (started-at t second) first n (started-length t second ∙ ls) lf
     (λ i l. started-point second n t ls h i l ∙ same-is (at second ((t + i) % n)) (at first i) (true-all _ n e i l))
 
 -- what is started at s is the contour itself from n - s on

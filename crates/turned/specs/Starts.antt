@@ -15,6 +15,6 @@ starts-at first second n s = all-below (λ i. same (at second ((s + i) % n)) (at
 abbrev pub smallest-start : List ℤ → List ℤ → ℕ → ℕ
 smallest-start first second n = first-below (starts-at first second n) n
 
--- a contour that starts at its position s
+-- a contour that starts at its position s; where there is none, at its first
 abbrev pub started-at : ℕ → List ℤ → List ℤ
 started-at s row = drop (2 * s) row ++ take (2 * s) row
