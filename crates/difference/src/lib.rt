@@ -4,7 +4,7 @@ pub mod kind;
 pub mod walker;
 
 ghost use mathlib.Core.Path.{_≡_};
-ghost use Rattle.difference.specs.Outcome.{leaving, outcome};
+ghost use Rattle.difference.specs.Outcome.{answer, leaving, outcome};
 use crate::inner::listing;
 
 // How a comparison ended: its reply number; whose set was refused, 1 or 2, and 0 where none was; and how many contours are listed, 0 where it is refused.
@@ -13,6 +13,17 @@ pub struct Compared {
     pub reply: u32,
     pub refused: u32,
     pub contours: usize,
+}
+
+// Nothing was listed.
+fn refused(reply: u32, whose: u32) -> Compared
+    ensures { λ r. ⌜ r ≡ answer reply whose 0 ⌝ }
+{
+    Compared {
+        reply,
+        refused: whose,
+        contours: 0,
+    }
 }
 
 // Lists what two sets are to each other: line k is of contour k, and behind the lines the row is as it was.
@@ -31,27 +42,15 @@ pub fn compare(
 {
     let first = buffer::contours::refused(points, ranges);
     if first != 0 {
-        return Compared {
-            reply: first,
-            refused: 1,
-            contours: 0,
-        };
+        return refused(first, 1);
     }
     let second = buffer::contours::refused(others, other_ranges);
     if second != 0 {
-        return Compared {
-            reply: second,
-            refused: 2,
-            contours: 0,
-        };
+        return refused(second, 2);
     }
     let n = turned::inner::larger(ranges.len(), other_ranges.len());
     if listing.len() < n {
-        return Compared {
-            reply: replies::ROOM,
-            refused: 0,
-            contours: 0,
-        };
+        return refused(replies::ROOM, 0);
     }
     listing::fill(points, ranges, others, other_ranges, n, listing);
     Compared {
