@@ -1,5 +1,5 @@
 -- Digits in groups: a number is put group by group.
-use mathlib.Core.Path.{_≡_, refl, sym, _∙_, ap, ap₂, subst}
+use mathlib.Core.Path.{_≡_, refl, sym, _∙_, ap, ap₂}
 use mathlib.Core.List.{List, [], _∷_, _++_, append-assoc, append-nil}
 use Prim.Native.Nat.{ℕ, zero, suc, _+_, _-_, _*_, _/_, _%_, _^_, _≤_, _<_}
 use native.Mathlib.Nat.{add-zero, add-suc, div-one, pow-succ', mul-comm, mod-lt, div-div-eq-div-mul, div-lt-iff-lt-mul, div-mul-le-self, div-le-self, le-trans, mul-le-mul-right, pow-le-pow-right}

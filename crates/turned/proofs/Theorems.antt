@@ -55,15 +55,6 @@ module _ (first second : List ℤ) (n : ℕ) (f : Contour first n) (s : Contour 
     homeward : (x : ℕ) → u (home + x) ≡ v x
     homeward = starts-words second first (s .on) (f .on) n home h (is-first (starts-at second first n) n .passes (a-way-there-is-a-way-back m))
 
-    pub the-way-back-is-not-none : 0 < home
-    the-way-back-is-not-none = go (decLe home 0)
-      where
-        go : Dec (home ≤ 0) → 0 < home
-        go (no z) = omega arith
-        go (yes z) =
-            let e : (x : ℕ) → v (0 + x) ≡ u x = λ x. let a : home + x ≡ 0 + x = omega arith in let b : 0 + x ≡ x = omega arith in ap v b ∙ sym (homeward x) ∙ ap u a ∙ ap u b in
-            absurd (omega (arith, first-least (starts-at first second n) n 0 (words-start first second (f .on) (s .on) n 0 e)))
-
     -- no start comes before the first, either way
     none-before : (q : ℕ) → q < there → ((x : ℕ) → v (q + x) ≡ u x) → ⊥
     none-before q l e = omega (arith, first-least (starts-at first second n) n q (words-start first second (f .on) (s .on) n q e))
