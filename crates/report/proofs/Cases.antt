@@ -50,7 +50,7 @@ none = refl
 w4 : listing (16 ∷ 1 ∷ 128 ∷ 5 ∷ 0 ∷ 0 ∷ 0 ∷ 0 ∷ 0 ∷ 0 ∷ 0 ∷ 0 ∷ 0 ∷ 0 ∷ 0 ∷ 2 ∷ 0 ∷ 0 ∷ 0 ∷ 0 ∷ 0 ∷ 0 ∷ 0 ∷ 4 ∷ 0 ∷ 0 ∷ 0 ∷ 0 ∷ 0 ∷ 0 ∷ 0 ∷ 4 ∷ 0 ∷ 0 ∷ 0 ∷ 4 ∷ 0 ∷ 0 ∷ 0 ∷ 0 ∷ 0 ∷ 0 ∷ 0 ∷ 4 ∷ [])
     ≡ heading ++ 49 ∷ 32 ∷ 53 ∷ 32 ∷ 52 ∷ 32 ∷ 54 ∷ 32 ∷ 51 ∷ 50 ∷ 10 ∷ []
 unfolding listing parsed bits field value first-of decimal places contours-in numbers some-set lines line narrow on-grid all-on-grid joined
-    survivors-from others successor predecessor occurrences unmark unmark-about remove decide look looks walk goes-at cross points around exact wrapped mod64
+    survivors-from others successor predecessor occurrences unmark unmark-about remove decide look looks walk goes-at cross dot points around exact wrapped mod64
 w4 = refl
 
 -- the same square in edition 2 keeps that point
