@@ -7,7 +7,7 @@ use native.Mathlib.Omega.{arith}
 use lib.Dec.{leb, ltb}
 use lib.ListN.{length, length-map}
 use lib.IntN.{ℤ}
-use borrow.Author.Tests.{not-false, leb-true, ltb-false, eqb-false}
+use borrow.Author.Tests.{not-false, leb-true, eqb-false}
 use Rattle.integers.proofs.Logic.{and-left, and-right}
 use Rattle.replies.specs.Ladder.{Rung, first-of, room}
 use Rattle.replies.proofs.LadderLaws.{First, first-is, clear, stopped, onward}
@@ -24,8 +24,8 @@ use Rattle.pool.specs.inside.Records.{Holds, Newest}
 use Rattle.pool.specs.inside.Surveys.{Surveyed, share-of, grown}
 use Rattle.pool.specs.declared.inner.survey.Survey.{Survey}
 use Rattle.pool.proofs.ListLaws.{held-both, total-held, length-held, none-own}
-use Rattle.pool.proofs.FairLaws.{held-all}
-use Rattle.pool.proofs.LayoutLaws.{contours-are, records-long, some-newest, none-newest}
+use Rattle.pool.proofs.FairLaws.{held-all, fits}
+use Rattle.pool.proofs.LayoutLaws.{contours-are, some-newest, none-newest}
 use Rattle.pool.proofs.SoundLaws.{there, sound-lies, sound-fair}
 
 -- down the ladder of adding, with the part that every set has behind
@@ -123,7 +123,7 @@ module _ (s : Lent) (f : Survey) (u : Surveyed s f) where
       sound-then = not-false (f .sound) (clear as-found tt z .1 .1 .0)
 
       not-over : share-of b f + holding (count contour) ≤ capacity - max (share-of (not b) f) reserve
-      not-over = ltb-false (capacity - max (share-of (not b) f) reserve) (share-of b f + holding (count contour)) (clear as-found tt z .1 .1 .1 .1 .0)
+      not-over = fits contour (f .sound) (share-of b f) (share-of (not b) f) (enough s) z
 
       points-fit : 2 * f .points + length contour ≤ 2 * capacity
       points-fit =
@@ -211,6 +211,10 @@ added-there p tool contour s r t e z =
     let l = rungs p (add tool contour) s in
     there s (not-false (sound s) (clear l tt (sym (sym z ∙ ap (λ (o : Outcome). o .reply) e ∙ outcome-reply s _ (first-of l))) .1 .1 .0))
 
+-- the records in use are there, where a survey found the rows sound
+pub records-there : (points : List ℤ) (records : List (List ℕ)) (n : ℕ) (f : Survey) → Surveyed (lent points records n) f → f .sound ≡ true → n ≤ length records
+records-there points records n f u e = omega (arith, there (lent points records n) (is-sound _ f u e), length-map records slot)
+
 -- removing, step by step
 module _ (points : List ℤ) (records : List (List ℕ)) (n : ℕ) (b : Bool) (f : Survey) (u : Surveyed (lent points records n) f) where
   abbrev rows : Lent
@@ -223,9 +227,6 @@ module _ (points : List ℤ) (records : List (List ℕ)) (n : ℕ) (b : Bool) (f
   module _ (e : f .sound ≡ true) where
     pub remove-holds : Holds rows (f .points)
     remove-holds = holds rows f u e
-
-    pub remove-within : n ≤ length records
-    remove-within = records-long (contents rows) points records n (remove-holds .lies)
 
     module _ (press r : ℕ) (g : press ≡ number b) (w : Newest press n records r) where
       own-none : (t : Bool) → has press (contents rows) ≡ t → none (own (number b) (contents rows)) ≡ not t

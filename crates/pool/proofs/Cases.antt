@@ -56,25 +56,13 @@ replies = refl
 abbrev passes : ℕ → ℕ → ℕ → ℕ
 passes mine others n = first-of (full mine others n)
 
-alone-most : passes 0 0 49152 ≡ 0
+alone-most : (passes 0 0 49152 ≡ 0) × (passes 0 0 49153 ≡ 17) × (passes 0 0 65536 ≡ 17)
 unfolding first-of
-alone-most = refl
+alone-most = (refl, refl, refl)
 
-alone-over : passes 0 0 49153 ≡ 17
+beside-most : (passes 16384 40000 9152 ≡ 0) × (passes 16384 40000 9153 ≡ 17)
 unfolding first-of
-alone-over = refl
-
-all-at-once : passes 0 0 65536 ≡ 17
-unfolding first-of
-all-at-once = refl
-
-beside-more : passes 16384 40000 9152 ≡ 0
-unfolding first-of
-beside-more = refl
-
-beside-over : passes 16384 40000 9153 ≡ 17
-unfolding first-of
-beside-over = refl
+beside-most = (refl, refl)
 
 empty-over : passes 49152 0 0 ≡ 17
 unfolding first-of

@@ -1,12 +1,12 @@
 -- Neither press ever passes what the other leaves it.
 use mathlib.Core.Path.{_≡_, refl, _∙_, ap}
 use mathlib.Core.Bool.{Bool, true, false}
-use mathlib.Core.List.{List, [], _++_}
+use mathlib.Core.List.{List, []}
 use Prim.Native.Nat.{ℕ, zero, suc, _+_, _-_, _≤_, max}
 use native.Mathlib.Omega.{arith}
 use lib.Dec.{eqb}
 use lib.IntN.{ℤ}
-use borrow.Author.Tests.{ltb-false, eq-eqb, ne-eqb, eqb-true, eqb-false}
+use borrow.Author.Tests.{ltb-false, eqb-true, eqb-false}
 use Rattle.replies.specs.Ladder.{first-of}
 use Rattle.replies.proofs.LadderLaws.{clear}
 use Rattle.grid.specs.Domain.{count}
@@ -24,31 +24,22 @@ pub fits : (contour : List ℤ) (sound : Bool) (mine others : ℕ) (enough : Boo
 fits contour sound mine others enough e = ltb-false _ _ (clear (of-adding contour sound mine others enough) tt e .1 .1 .1 .1 .0)
 
 -- what a press holds once a contour is added, if it is its own or the other's
-module _ (p q tool : ℕ) (contour : List ℤ) (l : List Entry) where
-  held-if : (t : Bool) → eqb q p ≡ t → held (own q (added (entry p tool contour) l)) ≡ held (own q l) + held (if-so t (entry p tool contour) [])
-  held-if t e =
-      ap held (own-added q (entry p tool contour) l ∙ ap (λ (b : Bool). own q l ++ if-so b (entry p tool contour) []) e)
-      ∙ held-append (own q l) (if-so t (entry p tool contour) [])
-
-  pub held-one : q ≡ p → held (own q (added (entry p tool contour) l)) ≡ held (own q l) + holding (count contour)
-  unfolding held
-  held-one e = held-if true (eq-eqb q p e) ∙ omega arith
-
-  pub held-other : (q ≡ p → ⊥) → held (own q (added (entry p tool contour) l)) ≡ held (own q l)
-  unfolding held
-  held-other n = held-if false (ne-eqb q p n) ∙ omega arith
+pub held-added : (p q tool : ℕ) (contour : List ℤ) (l : List Entry)
+    → held (own q (added (entry p tool contour) l)) ≡ held (own q l) + held (if-so (eqb q p) (entry p tool contour) [])
+held-added p q tool contour l = ap held (own-added q (entry p tool contour) l) ∙ held-append (own q l) (if-so (eqb q p) (entry p tool contour) [])
 
 fair-added : (p tool : ℕ) (contour : List ℤ) (l : List Entry) → p ≤ 1 → Fair l
     → held (own p l) + holding (count contour) ≤ capacity - max (held (own (other p) l)) reserve → Fair (added (entry p tool contour) l)
+unfolding held
 fair-added zero tool contour l b f h = record {
   pressed = every-append Pressed l _ (f .pressed) (b, tt);
-  first = omega (arith, held-one 0 0 tool contour l refl, held-other 0 1 tool contour l (λ e. omega arith), f .first);
-  second = omega (arith, held-one 0 0 tool contour l refl, held-other 0 1 tool contour l (λ e. omega arith), f .second);
+  first = omega (arith, held-added 0 0 tool contour l, held-added 0 1 tool contour l, f .first);
+  second = omega (arith, held-added 0 0 tool contour l, held-added 0 1 tool contour l, f .second);
 }
 fair-added (suc zero) tool contour l b f h = record {
   pressed = every-append Pressed l _ (f .pressed) (b, tt);
-  first = omega (arith, held-one 1 1 tool contour l refl, held-other 1 0 tool contour l (λ e. omega arith), f .first);
-  second = omega (arith, held-one 1 1 tool contour l refl, held-other 1 0 tool contour l (λ e. omega arith), f .second);
+  first = omega (arith, held-added 1 0 tool contour l, held-added 1 1 tool contour l, f .first);
+  second = omega (arith, held-added 1 0 tool contour l, held-added 1 1 tool contour l, f .second);
 }
 fair-added (suc (suc p)) tool contour l b f h = absurd (omega arith)
 

@@ -25,8 +25,8 @@ use Rattle.pool.specs.inside.Records.{Found}
 use Rattle.pool.specs.inside.Surveys.{Surveyed, share-of}
 use Rattle.pool.specs.declared.inner.survey.Survey.{Survey}
 use Rattle.pool.proofs.RecordLaws.{lain}
-use Rattle.pool.proofs.SoundLaws.{there, chain, read-own}
-use Rattle.pool.proofs.CallLaws.{share-is, both-held, all-held}
+use Rattle.pool.proofs.SoundLaws.{chain, read-own}
+use Rattle.pool.proofs.CallLaws.{share-is, both-held, all-held, records-there}
 
 -- a count of the pool, by the survey
 module _ (s : Lent) (f : Survey) (u : Surveyed s f) where
@@ -79,8 +79,8 @@ module _ (points : Part) (records : List (List ℕ)) (n : ℕ) (f : Survey) (u :
     unfolding contour-of first-of
     handed-sound q h = h ∙ ap (λ (t : Bool). Parts.handed (first-of (unsound t)) points part-of-own) (sym is-sound)
 
-    pub records-there : n ≤ length records
-    records-there = omega (arith, there rows is-sound, length-map records slot)
+    within : n ≤ length records
+    within = records-there (points .numbers) records n f u e
 
     module _ (r : ℕ) (w : Found p k n records r) where
       spans-long : length (map (Parts.named points) own-spans) ≡ length (own-slots p (used rows))
@@ -94,8 +94,8 @@ module _ (points : Part) (records : List (List ℕ)) (n : ℕ) (f : Survey) (u :
       module _ (z : r ≡ 0 → ⊥) where
         pub part-names : Names (points .numbers) records (r - 1)
         part-names =
-            let j = lain (count (points .numbers)) n records (r - 1) records-there (chain rows is-sound) (omega (arith, w .within)) in
-            record { there = omega (arith, w .within, records-there); forward = j .forward; fits = omega (arith, j .ends) }
+            let j = lain (count (points .numbers)) n records (r - 1) within (chain rows is-sound) (omega (arith, w .within)) in
+            record { there = omega (arith, w .within, within); forward = j .forward; fits = omega (arith, j .ends) }
 
         pub part-there : Parts.named points (span (getD records (r - 1) [])) ≡ contour-of points records n p k
         part-there =

@@ -1,25 +1,25 @@
 -- Records that are read one after the other.
 use mathlib.Core.Path.{_≡_, refl, sym, _∙_, ap, subst}
-use mathlib.Core.Bool.{Bool, true, false, _&&_, and-assoc}
+use mathlib.Core.Bool.{Bool, true, false, _&&_, and-assoc, and-false}
 use mathlib.Core.List.{List, [], _∷_}
-use Prim.Native.Nat.{ℕ, zero, suc, _+_, _-_, _≤_, _<_}
+use Prim.Native.Nat.{ℕ, zero, suc, _+_, _-_, _*_, _≤_, _<_}
 use native.Mathlib.Omega.{arith}
 use native.Mathlib.Numerals.{add-one}
 use lib.Dec.{leb, eqb}
 use lib.ListN.{length, getD, take, drop, drop-of-length-le, length-map}
 use lib.Seq.{drop-cons, length-take-le, getD-take}
-use borrow.Author.Tests.{eqb-true, eqb-false, leb-true, eq-eqb, ne-eqb}
+use borrow.Author.Tests.{eqb-true, eqb-false, leb-true, le-leb, eq-eqb, ne-eqb}
 use Rattle.integers.proofs.Logic.{and-left, and-right}
 use Rattle.buffer.specs.Spans as Spans
 use Rattle.buffer.proofs.ListLaws.{map-at}
 use Rattle.pool.specs.Lists.{holding}
-use Rattle.pool.specs.Rows.{Slot, slot, slots, span-of, follows, chained, share, held-by}
+use Rattle.pool.specs.Rows.{Slot, slot, slots, span-of, follows, chained, if-mine, held-by}
 use Rattle.pool.specs.Outcome.{own-slots}
 use Rattle.pool.specs.inside.Records.{end-of, press-at, Found}
 
 -- what is left of the first n records from i on
 module _ (records : List (List ℕ)) (n i : ℕ) (fit : n ≤ length records) where
-  pub taken : length (take n (slots records)) ≡ n
+  taken : length (take n (slots records)) ≡ n
   taken = length-take-le n (slots records) (omega (arith, length-map records slot))
 
   here : i < n → drop i (take n (slots records)) ≡ slot (getD records i []) ∷ drop (i + 1) (take n (slots records))
@@ -31,31 +31,8 @@ module _ (records : List (List ℕ)) (n i : ℕ) (fit : n ≤ length records) wh
   nothing : n ≤ i → drop i (take n (slots records)) ≡ []
   nothing h = let k : length (take n (slots records)) ≤ i = omega (arith, taken) in drop-of-length-le (take n (slots records)) k
 
-  pub chained-more : (places : ℕ) (all : Bool) (p : ℕ) → i < n
-      → (all && chained places p (drop i (take n (slots records))))
-      ≡ ((all && follows p (slot (getD records i []))) && chained places (getD (getD records i []) 1 0) (drop (i + 1) (take n (slots records))))
-  unfolding chained
-  chained-more places all p h = rw (here h) (sym (and-assoc all _ _))
-
-  pub chained-done : (places : ℕ) (all : Bool) (p : ℕ) → n ≤ i → (all && chained places p (drop i (take n (slots records)))) ≡ (all && leb p places)
-  unfolding chained
-  chained-done places all p e = rw (nothing e)
-
   -- the rest of a press's records, if the next is its own, or not, or none is left
   module _ (press : ℕ) where
-    pub held-mine : i < n → press-at records i ≡ press
-        → held-by press (drop i (take n (slots records))) ≡ holding (getD (getD records i []) 1 0 - getD (getD records i []) 0 0) + held-by press (drop (i + 1) (take n (slots records)))
-    unfolding held-by
-    held-mine h e = rw (here h, eq-eqb press (press-at records i) (sym e))
-
-    pub held-others : i < n → (press-at records i ≡ press → ⊥) → held-by press (drop i (take n (slots records))) ≡ held-by press (drop (i + 1) (take n (slots records)))
-    unfolding held-by
-    held-others h f = rw (here h, ne-eqb press (press-at records i) (λ e. f (sym e))) (omega arith)
-
-    pub held-done : n ≤ i → held-by press (drop i (take n (slots records))) ≡ 0
-    unfolding held-by
-    held-done e = rw (nothing e)
-
     pub own-mine : i < n → press-at records i ≡ press → own-slots press (drop i (take n (slots records))) ≡ slot (getD records i []) ∷ own-slots press (drop (i + 1) (take n (slots records)))
     unfolding own-slots
     own-mine h e = rw (here h, eq-eqb press (press-at records i) (sym e))
@@ -146,17 +123,110 @@ pub rises : (places p : ℕ) (l : List Slot) → chained places p l ≡ true →
 rises places p [] e = ends-within places p e
 rises places p (s ∷ l) e = let j = next places p s l e in omega (arith, j .starts, j .forward, rises places (s .end) l (j .rest))
 
--- sound records hold no more than the places and one for each
-pub held-small : (places p press : ℕ) (l : List Slot) → chained places p l ≡ true → p + held-by press l ≤ places + length l
-unfolding held-by
-held-small places p press [] e = omega (arith, ends-within places p e)
-held-small places p press (s ∷ l) e =
-    let j = next places p s l e in
-    omega (arith, j .starts, j .forward, part-of (eqb press (s .press)) (holding (s .end - s .start)), held-small places (s .end) press l (j .rest))
+-- a record that follows and ends within the places, and what is chained behind it
+first-chained : (places p : ℕ) (s : Slot) (l : List Slot) → chained places p (s ∷ l) ≡ ((follows p s && leb (s .end) places) && chained places (s .end) l)
+unfolding chained
+first-chained places p s l = ap (λ (t : Bool). follows p s && t) (go (chained places (s .end) l) refl) ∙ sym (and-assoc (follows p s) _ _)
   where
-    part-of : (t : Bool) (n : ℕ) → share t n ≤ n
-    part-of true n = omega arith
-    part-of false n = omega arith
+    go : (t : Bool) → chained places (s .end) l ≡ t → chained places (s .end) l ≡ (leb (s .end) places && chained places (s .end) l)
+    go true e = rw (le-leb (s .end) places (rises places (s .end) l e))
+    go false e = rw e (sym (and-false (leb (s .end) places)))
+
+-- a record that starts at a point runs forward from there
+pub along : (at start end : ℕ) → (eqb at start && leb at end) ≡ (eqb at start && leb start end)
+along at start end = go (eqb at start) refl
+  where
+    go : (t : Bool) → eqb at start ≡ t → (t && leb at end) ≡ (t && leb start end)
+    go true e = ap (λ (k : ℕ). leb k end) (eqb-true at start e)
+    go false e = refl
+
+-- a number that counts for either press, and for the second by its number
+either-mine : (press k : ℕ) → press ≤ 1 → if-mine (eqb 0 press) k + if-mine (eqb 1 press) k ≡ k
+either-mine zero k h = omega arith
+either-mine (suc zero) k h = omega arith
+either-mine (suc (suc press)) k h = absurd (omega arith)
+
+second-mine : (press k : ℕ) → press ≤ 1 → press * k ≡ if-mine (eqb 1 press) k
+second-mine zero k h = omega arith
+second-mine (suc zero) k h = omega arith
+second-mine (suc (suc press)) k h = absurd (omega arith)
+
+-- a survey of the first n records that has come to record i and to point `at`: with what is left from there on it is the whole
+pub record Surveying (records : List (List ℕ)) (n places at all second i : ℕ) : Type 0 where
+  pub within : i ≤ n
+  pub ends : at ≤ places
+  pub small : all ≤ at + i
+  pub part : second ≤ all
+  pub chain : chained places 0 (take n (slots records)) ≡ chained places at (drop i (take n (slots records)))
+  pub end : end-of 0 (take n (slots records)) ≡ end-of at (drop i (take n (slots records)))
+  pub both : all + held-by 0 (drop i (take n (slots records))) + held-by 1 (drop i (take n (slots records)))
+      ≡ held-by 0 (take n (slots records)) + held-by 1 (take n (slots records))
+  pub one : second + held-by 1 (drop i (take n (slots records))) ≡ held-by 1 (take n (slots records))
+
+pub surveying-none : (records : List (List ℕ)) (n places : ℕ) → Surveying records n places 0 0 0 0
+surveying-none records n places = record {
+  within = omega arith;
+  ends = omega arith;
+  small = omega arith;
+  part = omega arith;
+  chain = refl;
+  end = refl;
+  both = omega arith;
+  one = omega arith;
+}
+
+module _ {records : List (List ℕ)} {n places at all second i : ℕ} (fit : n ≤ length records) (s : Surveying records n places at all second i) where
+  abbrev this : Slot
+  this = slot (getD records i [])
+
+  module _ (h : i < n) where
+    chain-next : chained places 0 (take n (slots records))
+        ≡ ((follows at this && leb (this .end) places) && chained places (this .end) (drop (i + 1) (take n (slots records))))
+    chain-next = s .chain ∙ ap (chained places at) (here records n i fit h) ∙ first-chained places at this _
+
+    pub surveying-broken : (follows at this && leb (this .end) places) ≡ false → chained places 0 (take n (slots records)) ≡ false
+    surveying-broken e = rw e at chain-next
+
+    module _ (e : (follows at this && leb (this .end) places) ≡ true) where
+      pub followed : Next places at this []
+      unfolding chained
+      followed = next places at this [] e
+
+      pub surveying-more : (size : ℕ) → size ≡ holding (this .end - at) → Surveying records n places (this .end) (all + size) (second + this .press * size) (i + 1)
+      unfolding end-of held-by
+      surveying-more size g =
+          let j = followed in
+          let f : size ≡ holding (this .end - this .start) = g ∙ ap (λ (k : ℕ). holding (this .end - k)) (j .starts) in
+          let m = second-mine (this .press) size (j .press) in
+          let t = either-mine (this .press) size (j .press) in
+          let rest = here records n i fit h in
+          record {
+            within = omega arith;
+            ends = ends-within places (this .end) (j .rest);
+            small = omega (arith, s .small, j .starts, j .forward);
+            part = omega (arith, s .part);
+            chain = rw e at chain-next;
+            end = s .end ∙ ap (end-of at) rest;
+            both = omega (arith, s .both, ap (held-by 0) rest, ap (held-by 1) rest, ap (if-mine (eqb 0 (this .press))) f, ap (if-mine (eqb 1 (this .press))) f);
+            one = omega (arith, s .one, ap (held-by 1) rest, ap (if-mine (eqb 1 (this .press))) f);
+          }
+
+  module _ (h : n ≤ i) where
+    pub surveyed-chain : chained places 0 (take n (slots records)) ≡ true
+    unfolding chained
+    surveyed-chain = s .chain ∙ ap (chained places at) (nothing records n i fit h) ∙ le-leb at places (s .ends)
+
+    pub surveyed-end : at ≡ end-of 0 (take n (slots records))
+    unfolding end-of
+    surveyed-end = sym (s .end ∙ ap (end-of at) (nothing records n i fit h))
+
+    pub surveyed-second : second ≡ held-by 1 (take n (slots records))
+    unfolding held-by
+    surveyed-second = omega (arith, s .one, ap (held-by 1) (nothing records n i fit h))
+
+    pub surveyed-first : all - second ≡ held-by 0 (take n (slots records))
+    unfolding held-by
+    surveyed-first = omega (arith, s .both, s .part, surveyed-second, ap (held-by 0) (nothing records n i fit h), ap (held-by 1) (nothing records n i fit h))
 
 -- record number i runs forward, and ends within the places
 pub record Lain (places : ℕ) (s : Slot) : Type 0 where
@@ -174,26 +244,6 @@ lain places n records i fit e h =
     let k : i < length (take n (slots records)) = omega (arith, taken records n i fit) in
     subst (Lain places) (getD-take n (slots records) i (slot []) h ∙ map-at slot records i (slot []) [] (omega arith))
     (lain-at places 0 (take n (slots records)) i (slot []) e k)
-
--- where the last of the first n records ends
-last-end : (p : ℕ) (l : List Slot) (d : Slot) → 0 < length l → end-of p l ≡ getD l (length l - 1) d .end
-unfolding end-of
-last-end p [] d h = absurd (omega arith)
-last-end p (s ∷ []) d h = refl
-last-end p (s ∷ t ∷ l) d h =
-    let i : suc (suc (length l)) - 1 ≡ suc (suc (length l) - 1) = omega arith in
-    last-end (s .end) (t ∷ l) d (omega arith) ∙ ap (λ (k : ℕ). getD (s ∷ t ∷ l) k d .end) (sym i)
-
-pub last-taken : (records : List (List ℕ)) (n : ℕ) → n ≤ length records → 0 < n → end-of 0 (take n (slots records)) ≡ getD (getD records (n - 1) []) 1 0
-last-taken records n fit h =
-    let k = taken records n 0 fit in
-    last-end 0 (take n (slots records)) (slot []) (omega arith)
-    ∙ ap (λ (m : ℕ). getD (take n (slots records)) (m - 1) (slot []) .end) k
-    ∙ ap (λ (s : Slot). s .end) (getD-take n (slots records) (n - 1) (slot []) (omega arith) ∙ map-at slot records (n - 1) (slot []) [] (omega arith))
-
-pub none-taken : (records : List (List ℕ)) (n : ℕ) → n ≡ 0 → end-of 0 (take n (slots records)) ≡ 0
-unfolding end-of
-none-taken records n e = rw e
 
 -- what holds of no number from i on, nor of the one before, holds of none from there on
 pub one-below : (P : ℕ → Type 0) (i n : ℕ) → ((j : ℕ) → i ≤ j → j < n → P j → ⊥) → (P (i - 1) → ⊥) → (j : ℕ) → i - 1 ≤ j → j < n → P j → ⊥

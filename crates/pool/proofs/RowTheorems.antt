@@ -19,14 +19,14 @@ use Rattle.buffer.specs.Sets.{joined}
 use Rattle.pool.specs.Lists.{Entry, entry, capacity, reserve, holding, held, if-so, own, other, free, added, removed, Every, Pressed, Tooled, Even, Fair}
 use Rattle.pool.specs.Calls.{refusals, Call, told, done, unless, after}
 use Rattle.pool.specs.Calls.Call.{add, remove}
-use Rattle.pool.specs.Rows.{Lent, slots-from, numbers, laid-out, named, contents, chained, share, held-by, sound}
+use Rattle.pool.specs.Rows.{Lent, slots-from, numbers, laid-out, named, contents, chained, if-mine, held-by, sound}
 use Rattle.pool.specs.Outcome.{Outcome, outcome, enough, rungs, refused, called, number}
 use Rattle.pool.specs.Promises.{Made, Fit, ByTwo, AllFit, run, run-rows, heard, heard-rows, told-free}
 use Rattle.pool.specs.inside.Records.{total, Lies}
 use Rattle.pool.specs.inside.Surveys.{Surveyed, with-more}
 use Rattle.pool.specs.declared.inner.survey.Survey.{Survey}
 use Rattle.pool.proofs.ListLaws.{total-append, total-held, length-held, total-removed, length-removed, every-append, every-removed}
-use Rattle.pool.proofs.FairLaws.{fair-after, held-all, held-one, held-other}
+use Rattle.pool.proofs.FairLaws.{fair-after, held-all, held-added}
 use Rattle.pool.proofs.LayoutLaws.{slots-length, numbers-length}
 use Rattle.pool.proofs.SoundLaws.{sound-lies, sound-fair, sound-tooled}
 use Rattle.pool.proofs.CallLaws.{outcome-reply}
@@ -65,11 +65,11 @@ unfolding held-by slots-from held own
 laid-held press p [] = refl
 laid-held press p (e ∷ l) = one (eqb press (e .press)) (own press l) _ (laid-held press (p + count (e .contour)) l)
   where
-    one : (t : Bool) (k : List Entry) (n : ℕ) → n ≡ held k → share t (holding (p + count (e .contour) - p)) + n ≡ held (if-so t e k)
+    one : (t : Bool) (k : List Entry) (n : ℕ) → n ≡ held k → if-mine t (holding (p + count (e .contour) - p)) + n ≡ held (if-so t e k)
     one true k n h = let m : p + count (e .contour) - p ≡ count (e .contour) = omega arith in ap₂ (λ (a b : ℕ). holding a + b) m h
     one false k n h = omega arith
 
-pub sound-laid : (l : List Entry) (s : Lent) → Fair l → Every Even l → Every Tooled l → sound (laid-out l s) ≡ true
+sound-laid : (l : List Entry) (s : Lent) → Fair l → Every Even l → Every Tooled l → sound (laid-out l s) ≡ true
 unfolding sound
 sound-laid l s f v t =
     let u : take (length l) (front (slots-from 0 l) (s .records)) ≡ slots-from 0 l = take-at (slots-from 0 l) _ (length l) (slots-length 0 l) in
@@ -123,7 +123,7 @@ module _ (s : Lent) (ok : sound s ≡ true) (p : ℕ) where
   called-out c = refl
 
   -- what the press is told is told of the list
-  pub called-told : (c : Call) → called p c s .reply ≡ told (enough s) p before c
+  called-told : (c : Call) → called p c s .reply ≡ told (enough s) p before c
   called-told c = ap (λ (o : Outcome). o .reply) (called-out c) ∙ outcome-reply s (done p c before) (refused p c s) ∙ asked-told c
 
   done-even : (c : Call) → refused p c s ≡ 0 → Every Even (done p c before)
@@ -174,7 +174,7 @@ module _ (s : Lent) (ok : sound s ≡ true) (p : ℕ) where
           omega (arith, a .1, length-removed p before),
         )
 
-    pub called-enough : (c : Call) → enough (called p c s .pool) ≡ enough s
+    called-enough : (c : Call) → enough (called p c s .pool) ≡ enough s
     called-enough c = ap (λ (o : Outcome). enough (o .pool)) (called-out c) ∙ outcome-enough s (done p c before) (refused p c s) (done-fits c)
 
 -- the state after any number of calls is that of the plain list after the same calls
@@ -213,21 +213,20 @@ module _ (s : Lent) (f : Survey) (u : Surveyed s f) (tool : ℕ) (contour : List
       called-list s ok p (add tool contour)
       ∙ ap (λ (r : ℕ). unless r (added (entry p tool contour) (contents s)) (contents s)) (sym (called-told s ok p (add tool contour)) ∙ z)
 
+  more : (p x y : ℕ) → p ≤ 1 → called p (add tool contour) s .reply ≡ 0
+      → x ≡ f .first + held (if-so (eqb 0 p) (entry p tool contour) []) → y ≡ f .second + held (if-so (eqb 1 p) (entry p tool contour) [])
+      → Surveyed (called p (add tool contour) s .pool) (record { sound = f .sound; points = f .points + count contour; first = x; second = y })
+  more p x y b z g h =
+      let q = one-more p z in
+      record {
+        sound-is = e ∙ sym (called-sound s ok p b (add tool contour) small);
+        points-are = λ w. omega (arith, ap total q, total-append (contents s) (entry p tool contour ∷ []), u .points-are e);
+        first-holds = λ w. omega (arith, g, ap (λ (l : List Entry). held (own 0 l)) q, held-added p 0 tool contour (contents s), u .first-holds e);
+        second-holds = λ w. omega (arith, h, ap (λ (l : List Entry). held (own 1 l)) q, held-added p 1 tool contour (contents s), u .second-holds e);
+      }
+
   pub surveyed-more : (b : Bool) → called (number b) (add tool contour) s .reply ≡ 0
       → Surveyed (called (number b) (add tool contour) s .pool) (with-more b (count contour) f)
-  surveyed-more false z =
-      let q = one-more 0 z in
-      record {
-        sound-is = e ∙ sym (called-sound s ok 0 (omega arith) (add tool contour) small);
-        points-are = λ w. omega (arith, ap total q, total-append (contents s) (entry 0 tool contour ∷ []), u .points-are e);
-        first-holds = λ w. omega (arith, ap (λ (l : List Entry). held (own 0 l)) q, held-one 0 0 tool contour (contents s) refl, u .first-holds e);
-        second-holds = λ w. omega (arith, ap (λ (l : List Entry). held (own 1 l)) q, held-other 0 1 tool contour (contents s) (λ i. omega arith), u .second-holds e);
-      }
-  surveyed-more true z =
-      let q = one-more 1 z in
-      record {
-        sound-is = e ∙ sym (called-sound s ok 1 (omega arith) (add tool contour) small);
-        points-are = λ w. omega (arith, ap total q, total-append (contents s) (entry 1 tool contour ∷ []), u .points-are e);
-        first-holds = λ w. omega (arith, ap (λ (l : List Entry). held (own 0 l)) q, held-other 1 0 tool contour (contents s) (λ i. omega arith), u .first-holds e);
-        second-holds = λ w. omega (arith, ap (λ (l : List Entry). held (own 1 l)) q, held-one 1 1 tool contour (contents s) refl, u .second-holds e);
-      }
+  unfolding held
+  surveyed-more false z = more 0 _ _ (omega arith) z (omega arith) (omega arith)
+  surveyed-more true z = more 1 _ _ (omega arith) z (omega arith) (omega arith)

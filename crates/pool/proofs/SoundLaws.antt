@@ -13,11 +13,11 @@ use Rattle.integers.proofs.Logic.{and-left, and-right}
 use Rattle.grid.specs.Domain.{count}
 use Rattle.buffer.specs.Sets.{joined}
 use Rattle.pool.specs.Lists.{Entry, capacity, reserve, holding, held, if-so, own, Every, Pressed, Tooled, Even, Fair}
-use Rattle.pool.specs.Rows.{Slot, slot, slots, Lent, lent, used, slots-from, numbers, named, contents, chained, share, held-by, fair, sound}
+use Rattle.pool.specs.Rows.{Slot, slot, slots, Lent, lent, used, slots-from, numbers, named, contents, chained, if-mine, held-by, fair, sound}
 use Rattle.pool.specs.Outcome.{own-slots}
 use Rattle.pool.specs.inside.Records.{end-of, total, Lies}
 use Rattle.pool.specs.inside.Surveys.{Surveyed}
-use Rattle.pool.proofs.RecordLaws.{Next, next, rises}
+use Rattle.pool.proofs.RecordLaws.{Next, next, rises, Surveying, surveyed-chain, surveyed-end, surveyed-first, surveyed-second}
 use Rattle.pool.proofs.RowLaws.{front-self}
 use Rattle.pool.proofs.LayoutLaws.{lent-is}
 
@@ -33,7 +33,7 @@ module _ (points : List ℤ) (places : ℕ) (long : 2 * places ≤ length points
     end-is : p + count (named points s .contour) ≡ s .end
     end-is = omega (arith, size-is, j .starts, j .forward)
 
-  pub read-slots : (p : ℕ) (l : List Slot) → chained places p l ≡ true → slots-from p (map (named points) l) ≡ l
+  read-slots : (p : ℕ) (l : List Slot) → chained places p l ≡ true → slots-from p (map (named points) l) ≡ l
   unfolding slots-from
   read-slots p [] e = refl
   read-slots p (s ∷ l) e =
@@ -42,7 +42,7 @@ module _ (points : List ℤ) (places : ℕ) (long : 2 * places ≤ length points
       (ap₂ (λ (x y : ℕ). record { start = x; end = y; tool = s .tool; press = s .press }) (j .starts) (end-is p s l j))
       (ap (λ (q : ℕ). slots-from q (map (named points) l)) (end-is p s l j) ∙ read-slots (s .end) l (j .rest))
 
-  pub read-numbers : (p : ℕ) (l : List Slot) → chained places p l ≡ true → drop (2 * p) points ≡ numbers (map (named points) l) ++ drop (2 * end-of p l) points
+  read-numbers : (p : ℕ) (l : List Slot) → chained places p l ≡ true → drop (2 * p) points ≡ numbers (map (named points) l) ++ drop (2 * end-of p l) points
   unfolding joined end-of
   read-numbers p [] e = refl
   read-numbers p (s ∷ l) e =
@@ -55,25 +55,25 @@ module _ (points : List ℤ) (places : ℕ) (long : 2 * places ≤ length points
       (drop-drop n (2 * s .start) points ∙ ap (λ (k : ℕ). drop k points) q ∙ read-numbers (s .end) l (j .rest))
       ∙ sym (append-assoc (named points s .contour) (numbers (map (named points) l)) (drop (2 * end-of (s .end) l) points))
 
-  pub read-total : (p : ℕ) (l : List Slot) → chained places p l ≡ true → p + total (map (named points) l) ≡ end-of p l
+  read-total : (p : ℕ) (l : List Slot) → chained places p l ≡ true → p + total (map (named points) l) ≡ end-of p l
   unfolding end-of
   read-total p [] e = omega arith
   read-total p (s ∷ l) e =
       let j = next places p s l e in
       omega (arith, end-is p s l j, read-total (s .end) l (j .rest))
 
-  pub read-held : (p : ℕ) (l : List Slot) (press : ℕ) → chained places p l ≡ true → held (own press (map (named points) l)) ≡ held-by press l
+  read-held : (p : ℕ) (l : List Slot) (press : ℕ) → chained places p l ≡ true → held (own press (map (named points) l)) ≡ held-by press l
   unfolding held-by own held
   read-held p [] press e = refl
   read-held p (s ∷ l) press e =
       let j = next places p s l e in
       counted (eqb press (s .press)) (named points s) _ _ _ (ap holding (size-is p s l j)) (read-held (s .end) l press (j .rest))
     where
-      counted : (t : Bool) (x : Entry) (k : List Entry) (n m : ℕ) → holding (count (x .contour)) ≡ n → held k ≡ m → held (if-so t x k) ≡ share t n + m
+      counted : (t : Bool) (x : Entry) (k : List Entry) (n m : ℕ) → holding (count (x .contour)) ≡ n → held k ≡ m → held (if-so t x k) ≡ if-mine t n + m
       counted true x k n m a b = ap₂ (λ (u v : ℕ). u + v) a b
       counted false x k n m a b = omega arith
 
-  pub read-every : (P : Entry → Type 0) → ((p : ℕ) (s : Slot) (l : List Slot) → Next places p s l → P (named points s))
+  read-every : (P : Entry → Type 0) → ((p : ℕ) (s : Slot) (l : List Slot) → Next places p s l → P (named points s))
       → (p : ℕ) (l : List Slot) → chained places p l ≡ true → Every P (map (named points) l)
   read-every P f p [] e = tt
   read-every P f p (s ∷ l) e = let j = next places p s l e in (f p s l j, read-every P f (s .end) l (j .rest))
@@ -127,10 +127,10 @@ module _ (s : Lent) (e : sound s ≡ true) where
         (sym (length-map (used s) (named (s .points)) ∙ length-take-le (s .contours) (s .records) there));
   }
 
-  pub sound-held : (press : ℕ) → held (own press (contents s)) ≡ held-by press (used s)
+  sound-held : (press : ℕ) → held (own press (contents s)) ≡ held-by press (used s)
   sound-held press = read-held (s .points) places long 0 (used s) press chain
 
-  pub sound-total : total (contents s) ≡ end-of 0 (used s)
+  sound-total : total (contents s) ≡ end-of 0 (used s)
   sound-total = omega (arith, read-total (s .points) places long 0 (used s) chain)
 
   pub sound-fair : Fair (contents s)
@@ -170,20 +170,19 @@ module _ (points : List ℤ) (records : List (List ℕ)) (n : ℕ) where
       no-more true b = refl
       no-more false b = refl
 
-  pub found : (first second end : ℕ) (whether : Bool) → n ≤ length records → chained (count points) 0 (take n (slots records)) ≡ true
-      → first ≡ held-by 0 (take n (slots records)) → second ≡ held-by 1 (take n (slots records)) → whether ≡ fair first second
-      → end ≡ end-of 0 (take n (slots records)) → Surveyed rows (record { sound = whether; points = end; first = first; second = second })
+  pub found : {at all second i : ℕ} (whether : Bool) → n ≤ length records → Surveying records n (count points) at all second i → n ≤ i
+      → whether ≡ fair (all - second) second → Surveyed rows (record { sound = whether; points = at; first = all - second; second = second })
   unfolding sound
-  found first second end whether fit e f g h k =
+  found whether fit s d h =
       record {
         sound-is = is;
-        points-are = λ w. k ∙ sym (sound-total rows (sym is ∙ w));
-        first-holds = λ w. f ∙ sym (sound-held rows (sym is ∙ w) 0);
-        second-holds = λ w. g ∙ sym (sound-held rows (sym is ∙ w) 1);
+        points-are = λ w. surveyed-end fit s d ∙ sym (sound-total rows (sym is ∙ w));
+        first-holds = λ w. surveyed-first fit s d ∙ sym (sound-held rows (sym is ∙ w) 0);
+        second-holds = λ w. surveyed-second fit s d ∙ sym (sound-held rows (sym is ∙ w) 1);
       }
     where
+      whole-test : sound rows ≡ fair (held-by 0 (take n (slots records))) (held-by 1 (take n (slots records)))
+      whole-test = rw (surveyed-chain fit s d, le-leb n (length (slots records)) (omega (arith, length-map records slot)))
+
       is : whether ≡ sound rows
-      is = h ∙ ap₂ fair f g ∙ sym whole-test
-        where
-          whole-test : sound rows ≡ fair (held-by 0 (take n (slots records))) (held-by 1 (take n (slots records)))
-          whole-test = rw (e, le-leb n (length (slots records)) (omega (arith, length-map records slot)))
+      is = h ∙ ap₂ fair (surveyed-first fit s d) (surveyed-second fit s d) ∙ sym whole-test

@@ -79,15 +79,15 @@ unfoldable pub chained : ℕ → ℕ → List Slot → Bool
 chained places p [] = leb p places
 chained places p (s ∷ l) = follows p s && chained places (s .end) l
 
--- a number that counts, or not
-abbrev pub share : Bool → ℕ → ℕ
-share true n = n
-share false n = 0
+-- a number that counts only for what is the press's
+abbrev pub if-mine : Bool → ℕ → ℕ
+if-mine true n = n
+if-mine false n = 0
 
 -- the points that a press's records hold
 unfoldable pub held-by : ℕ → List Slot → ℕ
 held-by p [] = 0
-held-by p (s ∷ l) = share (eqb p (s .press)) (holding (Spans.size (span-of s))) + held-by p l
+held-by p (s ∷ l) = if-mine (eqb p (s .press)) (holding (Spans.size (span-of s))) + held-by p l
 
 -- neither press holds any of what is kept for the other, and both together no more than the pool
 abbrev pub fair : ℕ → ℕ → Bool

@@ -4,7 +4,7 @@ use Prim.Native.Nat.{ℕ}
 use borrow.Author.Tests.{not-true, not-false}
 use Rattle.rows.specs.Parts.{part}
 use Rattle.pool.specs.Outcome.{number, contour-of}
-use Rattle.pool.proofs.CallLaws.{remove-within}
+use Rattle.pool.proofs.CallLaws.{records-there}
 use Rattle.pool.proofs.ReadLaws.{part-unsound, part-absent, part-names, part-there}
 use borrow.Author.Needs.{needs}
 use Rattle.pool.proofs.contour_of.Statement.{statement}
@@ -30,7 +30,7 @@ find-requires c κs =
     let sound = c .before in
     let found = sound .before .before in
     let s = found .before .args in
-    remove-within (s .points .now) (s .records .now) (s .contours) (s .second) _ (found .surveyed .ensures) (not-false _ (sound .if1 .left))
+    records-there (s .points .now) (s .records .now) (s .contours) _ (found .surveyed .ensures) (not-false _ (sound .if1 .left))
 
 slice-aggregate-result-2 : tie.Need-slice-aggregate-result-2
 slice-aggregate-result-2 c = search needs

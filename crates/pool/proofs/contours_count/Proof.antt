@@ -6,7 +6,7 @@ use borrow.Author.Tests.{not-true, not-false}
 use Rattle.pool.specs.Lists.{own}
 use Rattle.pool.specs.Rows.{lent}
 use Rattle.pool.specs.Outcome.{number, contours-count}
-use Rattle.pool.proofs.CallLaws.{remove-within}
+use Rattle.pool.proofs.CallLaws.{records-there}
 use Rattle.pool.proofs.ReadLaws.{count-unsound, contours-given}
 use borrow.Author.Needs.{needs}
 use Rattle.pool.proofs.contours_count.Statement.{statement}
@@ -33,7 +33,7 @@ count-requires c κs =
     let sound = c .before in
     let found = sound .before .before in
     let s = found .before .args in
-    remove-within (s .points .now) (s .records .now) (s .contours) (s .second) _ (found .surveyed .ensures) (not-false _ (sound .if1 .left))
+    records-there (s .points .now) (s .records .now) (s .contours) _ (found .surveyed .ensures) (not-false _ (sound .if1 .left))
 
 how-many-requires-2 : tie.Need-how-many-requires-2
 how-many-requires-2 c κs = search needs

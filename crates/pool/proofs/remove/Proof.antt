@@ -1,7 +1,7 @@
 -- `pool::remove` meets its contract.
 use native.Mathlib.Omega.{arith}
 use borrow.Author.Tests.{not-true, not-false}
-use Rattle.pool.proofs.CallLaws.{remove-unsound, remove-holds, remove-within, remove-none, remove-done}
+use Rattle.pool.proofs.CallLaws.{records-there, remove-unsound, remove-holds, remove-none, remove-done}
 use borrow.Author.Needs.{needs}
 use Rattle.pool.proofs.remove.Statement.{statement}
 use Rattle.pool.proofs.remove.Tie as tie
@@ -29,7 +29,7 @@ newest-requires c κs =
     let sound = c .before .before in
     let found = sound .before .before in
     let s = found .before .before .before .before .args in
-    remove-within (s .points .now) (s .records .now) (s .contours .now) (s .second) _ (found .surveyed .ensures) (not-false _ (sound .if1 .left))
+    records-there (s .points .now) (s .records .now) (s .contours .now) _ (found .surveyed .ensures) (not-false _ (sound .if1 .left))
 
 same-length-3 : tie.Need-same-length-3
 same-length-3 c = search needs

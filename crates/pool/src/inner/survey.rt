@@ -49,6 +49,7 @@ fn unsound() -> Survey
     }
 }
 
+// One pass over the first n records, up to one that does not follow, so that all held so far is within the places; the press, 0 or 1, tells what the second has of it.
 pub fn surveyed(points: &[i32], records: &[[usize; 4]], n: usize) -> Survey
     ensures { λ r. ⌜ Surveyed (lent (now (points .entry)) (now (records .entry)) n) r ⌝ }
 {
@@ -56,14 +57,27 @@ pub fn surveyed(points: &[i32], records: &[[usize; 4]], n: usize) -> Survey
     if records.len() < n {
         return unsound();
     }
-    if !records::chained(records, n, places) {
-        return unsound();
+    let mut at: usize = 0;
+    let mut all: usize = 0;
+    let mut second: usize = 0;
+    let mut i: usize = 0;
+    while i < n {
+        let start = records[i][0];
+        let end = records[i][1];
+        let press = records[i][3];
+        if !records::follows(at, places, start, end, records[i][2], press) {
+            return unsound();
+        }
+        let size = records::holding(end - at);
+        all += size;
+        second += press * size;
+        at = end;
+        i += 1;
     }
-    let first = records::held(records, n, places, 0);
-    let second = records::held(records, n, places, 1);
+    let first = all - second;
     Survey {
         sound: fair(first, second),
-        points: records::last_end(records, n),
+        points: at,
         first,
         second,
     }
