@@ -17,6 +17,7 @@ use Rattle.pool.specs.Rows.{Slot, slot, slots, Lent, lent, used, slots-f
 use Rattle.pool.specs.Outcome.{own-slots}
 use Rattle.pool.specs.inside.Records.{end-of, total, Lies}
 use Rattle.pool.specs.inside.Surveys.{Surveyed}
+use Rattle.pool.specs.declared.inner.survey.Survey.{Survey}
 use Rattle.pool.proofs.RecordLaws.{Next, next, rises, Surveying, surveyed-chain, surveyed-end, surveyed-first, surveyed-second}
 use Rattle.pool.proofs.RowLaws.{front-self}
 use Rattle.pool.proofs.LayoutLaws.{lent-is}
@@ -150,12 +151,12 @@ module _ (points : List ℤ) (records : List (List ℕ)) (n : ℕ) where
   abbrev rows : Lent
   rows = lent points records n
 
-  pub not-sound : sound rows ≡ false → Surveyed rows (record { sound = false; points = 0; first = 0; second = 0 })
-  not-sound e = record {
-    sound-is = sym e;
-    points-are = λ h. absurd (true≢false (sym h));
-    first-holds = λ h. absurd (true≢false (sym h));
-    second-holds = λ h. absurd (true≢false (sym h));
+  pub not-sound : (f : Survey) → f .sound ≡ false → sound rows ≡ false → Surveyed rows f
+  not-sound f h e = record {
+    sound-is = h ∙ sym e;
+    points-are = λ w. absurd (true≢false (sym w ∙ h));
+    first-holds = λ w. absurd (true≢false (sym w ∙ h));
+    second-holds = λ w. absurd (true≢false (sym w ∙ h));
   }
 
   pub too-few : length records < n → sound rows ≡ false

@@ -62,11 +62,10 @@ pub fn surveyed(points: &[i32], records: &[[usize; 4]], n: usize) -> Survey
     let mut second: usize = 0;
     let mut i: usize = 0;
     while i < n {
-        let start = records[i][0];
         let end = records[i][1];
         let press = records[i][3];
-        if !records::follows(at, places, start, end, records[i][2], press) {
-            return unsound();
+        if !records::follows(at, places, records[i][0], end, records[i][2], press) {
+            break;
         }
         let size = records::holding(end - at);
         all += size;
@@ -76,7 +75,7 @@ pub fn surveyed(points: &[i32], records: &[[usize; 4]], n: usize) -> Survey
     }
     let first = all - second;
     Survey {
-        sound: fair(first, second),
+        sound: (i == n) & fair(first, second),
         points: at,
         first,
         second,

@@ -1,14 +1,16 @@
 -- `pool::inner::survey::surveyed` meets its contract.
-use mathlib.Core.Path.{_≡_, sym, _∙_}
+use mathlib.Core.Path.{_≡_, sym, _∙_, ap}
 use mathlib.Core.Bool.{true, _&&_}
 use mathlib.Core.List.{[]}
+use mathlib.Core.Logic.{⊎-elim}
 use Prim.Native.Nat.{ℕ, _+_, _*_, _-_, _/_, _^_, _≤_, _<_}
 use native.Mathlib.Omega.{arith}
 use lib.Dec.{leb}
 use lib.ListN.{length, getD}
-use borrow.Author.Tests.{not-true, not-false}
+use borrow.Author.Tests.{not-true, not-false, eq-eqb, ne-eqb}
 use Rattle.pool.specs.Lists.{holding}
 use Rattle.pool.specs.Rows.{Slot, slot, follows}
+use Rattle.pool.specs.declared.inner.survey.Survey.{Survey}
 use Rattle.pool.proofs.RecordLaws.{Surveying, surveying-none, surveying-broken, followed, surveying-more}
 use Rattle.pool.proofs.SoundLaws.{not-sound, too-few, broken, found}
 use borrow.Author.Needs.{needs}
@@ -64,19 +66,10 @@ unsound-requires c κs = search needs
 returns : tie.Need-returns Inv-loop μ-loop
 returns c =
     let s = c .before .before .args in
-    rw (c .unsound .ensures) (not-sound (s .points .now) (s .records .now) (s .n) (too-few (s .points .now) (s .records .now) (s .n) (c .before .if1 .taken)))
+    not-sound (s .points .now) (s .records .now) (s .n) _ (ap (λ (f : Survey). f .sound) (c .unsound .ensures)) (too-few (s .points .now) (s .records .now) (s .n) (c .before .if1 .taken))
 
 loop-holds : tie.Need-loop-holds Inv-loop μ-loop
 loop-holds c = surveying-none _ _ _
-
-mul-start : tie.Need-mul-start Inv-loop μ-loop
-mul-start c = search needs
-
-index-1-start : tie.Need-index-1-start Inv-loop μ-loop
-index-1-start c = search needs
-
-index-2-start : tie.Need-index-2-start Inv-loop μ-loop
-index-2-start c = search needs
 
 mul-end : tie.Need-mul-end Inv-loop μ-loop
 mul-end c = search needs
@@ -105,22 +98,17 @@ index-1-follows c = search needs
 index-2-follows : tie.Need-index-2-follows Inv-loop μ-loop
 index-2-follows c = search needs
 
+mul-follows-2 : tie.Need-mul-follows-2 Inv-loop μ-loop
+mul-follows-2 c = search needs
+
+index-1-follows-2 : tie.Need-index-1-follows-2 Inv-loop μ-loop
+index-1-follows-2 c = search needs
+
+index-2-follows-2 : tie.Need-index-2-follows-2 Inv-loop μ-loop
+index-2-follows-2 c = search needs
+
 follows-requires : tie.Need-follows-requires Inv-loop μ-loop
 follows-requires c κs = search needs
-
-unsound-requires-2 : tie.Need-unsound-requires-2 Inv-loop μ-loop
-unsound-requires-2 c κs = search needs
-
-returns-2 : tie.Need-returns-2 Inv-loop μ-loop
-returns-2 c =
-    let f = c .before .before in
-    let i = f .before .before .before .before .before in
-    let l = i .before in
-    let s = l .before .before .args in
-    rw (c .unsound2 .ensures)
-    (not-sound (s .points .now) (s .records .now) (s .n)
-    (broken (s .points .now) (s .records .now) (s .n)
-    (surveying-broken (l .before .if1 .left) (l .loop .inv) (i .loop-test .taken) (sym (f .follows .ensures) ∙ not-true _ (c .before .if2 .taken)))))
 
 sub-holding : tie.Need-sub-holding Inv-loop μ-loop
 sub-holding c = forward c
@@ -155,11 +143,17 @@ fair-requires c κs =
     let s = l .before .before in
     omega (arith, l .loop .inv .part, l .loop .inv .small, l .loop .inv .ends, l .loop .inv .within, s .good .0 .1, s .good .1 .0 .1)
 
-returns-3 : tie.Need-returns-3 Inv-loop μ-loop
-returns-3 c =
+returns-2 : tie.Need-returns-2 Inv-loop μ-loop
+returns-2 c =
     let l = c .before .before in
     let s = l .before .before .args in
-    found (s .points .now) (s .records .now) (s .n) _ (l .before .if1 .left) (l .loop .inv) (c .before .loop-test .left) (c .fair .ensures)
+    let i = l .loop .i in
+    ⊎-elim
+    (λ w. found (s .points .now) (s .records .now) (s .n) _ (l .before .if1 .left) (l .loop .inv) (w .left) (rw (eq-eqb i (s .n) (omega (arith, l .loop .inv .within))) (c .fair .ensures)))
+    (λ w. not-sound (s .points .now) (s .records .now) (s .n) _ (rw (ne-eqb i (s .n) (λ e. omega (arith, w .0 .taken))))
+    (broken (s .points .now) (s .records .now) (s .n)
+    (surveying-broken (l .before .if1 .left) (l .loop .inv) (w .0 .taken) (sym (w .5 .ensures) ∙ not-true _ (w .6 .taken)))))
+    (c .before .loop-test .came)
 
 pub surveyed-spec : {M : Type 1} → statement M
 surveyed-spec =
@@ -170,9 +164,6 @@ surveyed-spec =
     unsound-requires
     returns
     loop-holds
-    mul-start
-    index-1-start
-    index-2-start
     mul-end
     index-1-end
     index-2-end
@@ -182,9 +173,10 @@ surveyed-spec =
     mul-follows
     index-1-follows
     index-2-follows
+    mul-follows-2
+    index-1-follows-2
+    index-2-follows-2
     follows-requires
-    unsound-requires-2
-    returns-2
     sub-holding
     holding-requires
     add-all
@@ -195,4 +187,4 @@ surveyed-spec =
     loop-again
     sub-first
     fair-requires
-    returns-3)
+    returns-2)
