@@ -49,7 +49,7 @@ fn unsound() -> Survey
     }
 }
 
-// One pass over the first n records, up to one that does not follow, so that all held so far is within the places; the press, 0 or 1, tells what the second has of it.
+// One look at each of the first n records, up to one that does not follow, so that what is summed up lies within the places.
 pub fn surveyed(points: &[i32], records: &[[usize; 4]], n: usize) -> Survey
     ensures { λ r. ⌜ Surveyed (lent (now (points .entry)) (now (records .entry)) n) r ⌝ }
 {
@@ -69,6 +69,7 @@ pub fn surveyed(points: &[i32], records: &[[usize; 4]], n: usize) -> Survey
         }
         let size = records::holding(end - at);
         all += size;
+        // The press is 0 or 1.
         second += press * size;
         at = end;
         i += 1;
