@@ -32,7 +32,7 @@ lent-is {q = q} {r = r} {n = n} a b c =
 numbers-append : (a b : List Entry) → numbers (a ++ b) ≡ numbers a ++ numbers b
 numbers-append a b = ap joined (map-append (λ e. e .contour) a b) ∙ joined-append (map (λ e. e .contour) a) (map (λ e. e .contour) b)
 
-slots-append : (p : ℕ) (a b : List Entry) → slots-from p (a ++ b) ≡ slots-from p a ++ slots-from (p + total a) b
+pub slots-append : (p : ℕ) (a b : List Entry) → slots-from p (a ++ b) ≡ slots-from p a ++ slots-from (p + total a) b
 unfolding slots-from
 slots-append p [] b = ap (λ (q : ℕ). slots-from q b) (omega arith)
 slots-append p (e ∷ a) b =
@@ -51,23 +51,23 @@ numbers-length (e ∷ l) h = omega (arith, length-append (e .contour) (numbers l
 
 -- rows in which a pool lies
 module _ (l : List Entry) (points : List ℤ) (records : List (List ℕ)) (n : ℕ) (h : Lies l (lent points records n)) where
-  points-are : points ≡ front (numbers l) points
+  pub points-are : points ≡ front (numbers l) points
   points-are = ap (λ (s : Lent). s .points) (h .is)
 
-  records-are : slots records ≡ front (slots-from 0 l) (slots records)
+  pub records-are : slots records ≡ front (slots-from 0 l) (slots records)
   records-are = ap (λ (s : Lent). s .records) (h .is)
 
   pub contours-are : n ≡ length l
   contours-are = ap (λ (s : Lent). s .contours) (h .is)
 
-  records-long : n ≤ length records
+  pub records-long : n ≤ length records
   records-long =
       omega (arith, length-map records slot, ap length records-are, length-append (slots-from 0 l) (drop (length (slots-from 0 l)) (slots records)), slots-length 0 l, contours-are)
 
-  points-long : 2 * total l ≤ length points
+  pub points-long : 2 * total l ≤ length points
   points-long = omega (arith, ap length points-are, length-append (numbers l) (drop (length (numbers l)) points), numbers-length l (h .even))
 
-  slot-is : (j : ℕ) → j < n → slot (getD records j []) ≡ getD (slots-from 0 l) j (slot [])
+  pub slot-is : (j : ℕ) → j < n → slot (getD records j []) ≡ getD (slots-from 0 l) j (slot [])
   slot-is j k =
       let m : j < length (slots-from 0 l) = omega (arith, slots-length 0 l, contours-are) in
       sym (map-at slot records j (slot []) [] (omega (arith, records-long)))
@@ -143,7 +143,7 @@ module _ (press : ℕ) (a : List Entry) (e : Entry) (b : List Entry) (points : L
       ∙ ap (λ (x : List Slot). x ++ rest) (slots-append 0 a (e ∷ b))
       ∙ append-assoc (slots-from 0 a) (slot-at (0 + total a) e ∷ slots-from behind b) rest
 
-  taken-out : (p : List ℤ) (r : List (List ℕ))
+  pub taken-out : (p : List ℤ) (r : List (List ℕ))
       → p ≡ placed (2 * total a) (take (2 * total b) (drop (2 * total a + 2 * count (e .contour)) points)) points
       → r ≡ placed (length a) (map (lowered (count (e .contour))) (take (length b) (drop (length a + 1) records))) records
       → lent p r (n - 1) ≡ laid-out (removed press (a ++ e ∷ b)) (lent points records n)
@@ -168,7 +168,7 @@ module _ (press : ℕ) (a : List Entry) (e : Entry) (b : List Entry) (points : L
       ∙ ap (λ (k : List Entry). laid-out k (lent points records n)) (sym (removed-is press a e b m o))
 
 -- what the record of a contour says of those before it
-slot-at-is : (p : ℕ) (l : List Entry) (k : ℕ) (d : Slot) (e : Entry) → k < length l → getD (slots-from p l) k d ≡ slot-at (p + total (take k l)) (getD l k e)
+pub slot-at-is : (p : ℕ) (l : List Entry) (k : ℕ) (d : Slot) (e : Entry) → k < length l → getD (slots-from p l) k d ≡ slot-at (p + total (take k l)) (getD l k e)
 unfolding slots-from
 slot-at-is p [] k d e h = absurd (omega arith)
 slot-at-is p (x ∷ l) zero d e h = ap (λ (q : ℕ). slot-at q x) (omega arith)
@@ -190,7 +190,7 @@ module _ (l : List Entry) (points : List ℤ) (records : List (List ℕ)) (n : �
   end-is : (k : ℕ) → k < n → getD (getD records k []) 1 0 ≡ total (take k l) + count (getD l k nobody .contour)
   end-is k b = ap (λ (s : Slot). s .end) (record-is k b) ∙ omega arith
 
-  press-is : (k : ℕ) → k < n → press-at records k ≡ getD l k nobody .press
+  pub press-is : (k : ℕ) → k < n → press-at records k ≡ getD l k nobody .press
   press-is k b = ap (λ (s : Slot). s .press) (record-is k b)
 
   -- contour number k, those before it and those behind it

@@ -58,7 +58,7 @@ module _ (P : Entry → Type 0) where
       either false k = k
 
 -- lists behind each other
-own-append : (q : ℕ) (a b : List Entry) → own q (a ++ b) ≡ own q a ++ own q b
+pub own-append : (q : ℕ) (a b : List Entry) → own q (a ++ b) ≡ own q a ++ own q b
 unfolding own
 own-append q [] b = refl
 own-append q (e ∷ a) b = if-append e (mine q e) _ _ _ (own-append q a b)

@@ -69,7 +69,7 @@ laid-held press p (e ∷ l) = one (eqb press (e .press)) (own press l) _ (laid-h
     one true k n h = let m : p + count (e .contour) - p ≡ count (e .contour) = omega arith in ap₂ (λ (a b : ℕ). holding a + b) m h
     one false k n h = omega arith
 
-sound-laid : (l : List Entry) (s : Lent) → Fair l → Every Even l → Every Tooled l → sound (laid-out l s) ≡ true
+pub sound-laid : (l : List Entry) (s : Lent) → Fair l → Every Even l → Every Tooled l → sound (laid-out l s) ≡ true
 unfolding sound
 sound-laid l s f v t =
     let u : take (length l) (front (slots-from 0 l) (s .records)) ≡ slots-from 0 l = take-at (slots-from 0 l) _ (length l) (slots-length 0 l) in
@@ -123,7 +123,7 @@ module _ (s : Lent) (ok : sound s ≡ true) (p : ℕ) where
   called-out c = refl
 
   -- what the press is told is told of the list
-  called-told : (c : Call) → called p c s .reply ≡ told (enough s) p before c
+  pub called-told : (c : Call) → called p c s .reply ≡ told (enough s) p before c
   called-told c = ap (λ (o : Outcome). o .reply) (called-out c) ∙ outcome-reply s (done p c before) (refused p c s) ∙ asked-told c
 
   done-even : (c : Call) → refused p c s ≡ 0 → Every Even (done p c before)
@@ -174,7 +174,7 @@ module _ (s : Lent) (ok : sound s ≡ true) (p : ℕ) where
           omega (arith, a .1, length-removed p before),
         )
 
-    called-enough : (c : Call) → enough (called p c s .pool) ≡ enough s
+    pub called-enough : (c : Call) → enough (called p c s .pool) ≡ enough s
     called-enough c = ap (λ (o : Outcome). enough (o .pool)) (called-out c) ∙ outcome-enough s (done p c before) (refused p c s) (done-fits c)
 
 -- the state after any number of calls is that of the plain list after the same calls

@@ -34,7 +34,7 @@ module _ (points : List ℤ) (places : ℕ) (long : 2 * places ≤ length points
     end-is : p + count (named points s .contour) ≡ s .end
     end-is = omega (arith, size-is, j .starts, j .forward)
 
-  read-slots : (p : ℕ) (l : List Slot) → chained places p l ≡ true → slots-from p (map (named points) l) ≡ l
+  pub read-slots : (p : ℕ) (l : List Slot) → chained places p l ≡ true → slots-from p (map (named points) l) ≡ l
   unfolding slots-from
   read-slots p [] e = refl
   read-slots p (s ∷ l) e =
@@ -43,7 +43,7 @@ module _ (points : List ℤ) (places : ℕ) (long : 2 * places ≤ length points
       (ap₂ (λ (x y : ℕ). record { start = x; end = y; tool = s .tool; press = s .press }) (j .starts) (end-is p s l j))
       (ap (λ (q : ℕ). slots-from q (map (named points) l)) (end-is p s l j) ∙ read-slots (s .end) l (j .rest))
 
-  read-numbers : (p : ℕ) (l : List Slot) → chained places p l ≡ true → drop (2 * p) points ≡ numbers (map (named points) l) ++ drop (2 * end-of p l) points
+  pub read-numbers : (p : ℕ) (l : List Slot) → chained places p l ≡ true → drop (2 * p) points ≡ numbers (map (named points) l) ++ drop (2 * end-of p l) points
   unfolding joined end-of
   read-numbers p [] e = refl
   read-numbers p (s ∷ l) e =
@@ -56,14 +56,14 @@ module _ (points : List ℤ) (places : ℕ) (long : 2 * places ≤ length points
       (drop-drop n (2 * s .start) points ∙ ap (λ (k : ℕ). drop k points) q ∙ read-numbers (s .end) l (j .rest))
       ∙ sym (append-assoc (named points s .contour) (numbers (map (named points) l)) (drop (2 * end-of (s .end) l) points))
 
-  read-total : (p : ℕ) (l : List Slot) → chained places p l ≡ true → p + total (map (named points) l) ≡ end-of p l
+  pub read-total : (p : ℕ) (l : List Slot) → chained places p l ≡ true → p + total (map (named points) l) ≡ end-of p l
   unfolding end-of
   read-total p [] e = omega arith
   read-total p (s ∷ l) e =
       let j = next places p s l e in
       omega (arith, end-is p s l j, read-total (s .end) l (j .rest))
 
-  read-held : (p : ℕ) (l : List Slot) (press : ℕ) → chained places p l ≡ true → held (own press (map (named points) l)) ≡ held-by press l
+  pub read-held : (p : ℕ) (l : List Slot) (press : ℕ) → chained places p l ≡ true → held (own press (map (named points) l)) ≡ held-by press l
   unfolding held-by own held
   read-held p [] press e = refl
   read-held p (s ∷ l) press e =
@@ -74,7 +74,7 @@ module _ (points : List ℤ) (places : ℕ) (long : 2 * places ≤ length points
       counted true x k n m a b = ap₂ (λ (u v : ℕ). u + v) a b
       counted false x k n m a b = omega arith
 
-  read-every : (P : Entry → Type 0) → ((p : ℕ) (s : Slot) (l : List Slot) → Next places p s l → P (named points s))
+  pub read-every : (P : Entry → Type 0) → ((p : ℕ) (s : Slot) (l : List Slot) → Next places p s l → P (named points s))
       → (p : ℕ) (l : List Slot) → chained places p l ≡ true → Every P (map (named points) l)
   read-every P f p [] e = tt
   read-every P f p (s ∷ l) e = let j = next places p s l e in (f p s l j, read-every P f (s .end) l (j .rest))
@@ -128,10 +128,10 @@ module _ (s : Lent) (e : sound s ≡ true) where
         (sym (length-map (used s) (named (s .points)) ∙ length-take-le (s .contours) (s .records) there));
   }
 
-  sound-held : (press : ℕ) → held (own press (contents s)) ≡ held-by press (used s)
+  pub sound-held : (press : ℕ) → held (own press (contents s)) ≡ held-by press (used s)
   sound-held press = read-held (s .points) places long 0 (used s) press chain
 
-  sound-total : total (contents s) ≡ end-of 0 (used s)
+  pub sound-total : total (contents s) ≡ end-of 0 (used s)
   sound-total = omega (arith, read-total (s .points) places long 0 (used s) chain)
 
   pub sound-fair : Fair (contents s)

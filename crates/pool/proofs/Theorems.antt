@@ -107,7 +107,7 @@ unfolding run
 fair-run enough [] l two f = f
 fair-run enough (m ∷ h) l two f = fair-run enough h _ (two .1) (fair-after enough (m .press) (m .call) l (two .0) f)
 
-fair-fresh : Fair []
+pub fair-fresh : Fair []
 unfolding own held
 fair-fresh = record { pressed = tt; first = omega arith; second = omega arith }
 
