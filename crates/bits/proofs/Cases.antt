@@ -6,7 +6,7 @@ use lib.ListN.{take, drop}
 use lib.IntN.{pos, negsuc}
 use Rattle.bits.specs.Bits.{value, field, bits, bytes, fill}
 use Rattle.bits.specs.Signs.{signed, unsigned, fits, all-fit, fields, numbers}
-use Rattle.bits.specs.Widths.{smallest, width-of, farthest, width-for}
+use Rattle.bits.specs.Widths.{smallest, width-of, width-for}
 
 -- the most significant bit comes first
 six-in-four-bits : field 4 6 ≡ false ∷ true ∷ true ∷ false ∷ []
@@ -66,6 +66,7 @@ of-the-widest : width-of (negsuc 2147483647 ∷ []) ≡ 32
 unfolding smallest all-fit
 of-the-widest = refl
 
-by-its-reach : width-for (farthest (pos 0 ∷ negsuc 4 ∷ [])) ≡ 4
-unfolding smallest farthest
+-- and by how far -5 reaches
+by-its-reach : width-for 4 ≡ 4
+unfolding smallest
 by-its-reach = refl

@@ -1,6 +1,6 @@
 -- Numbers of a width as the code computes them.
 use mathlib.Core.Path.{_≡_, refl, sym, _∙_, ap, subst}
-use mathlib.Core.Bool.{true, false}
+use mathlib.Core.Bool.{false}
 use Prim.Native.Nat.{ℕ, suc, _-_, _*_, _%_, _^_, _≤_, _<_}
 use native.Mathlib.Nat.{mod-eq-of-lt}
 use native.Mathlib.Omega.{arith}
@@ -12,9 +12,8 @@ use mir.Syntax.{w64}
 use mir.Val.{SFits, toZ, ofZ}
 use mir.Facts.{toZ-ofZ, toZ-pos}
 use borrow.Author.Needs.{sfits-of}
-use borrow.Author.Tests.{ltb-true}
 use Rattle.integers.proofs.Signed.{less}
-use Rattle.bits.specs.Signs.{signed, unsigned}
+use Rattle.bits.specs.Signs.{signed}
 use Rattle.bits.proofs.SignLaws.{halves, signed-low, signed-high}
 
 -- the code's power of two
@@ -30,14 +29,6 @@ one-shifted-some r h = rw (one-shifted r h) (pow-pos r)
 pub not-below : (z : ℤ) → ltZ z (pos 0) ≡ false → natAbs z ≡ mag z
 not-below (pos n) e = refl
 not-below (negsuc n) e = absurd (subst T e tt)
-
-pub unsigned-not-below : (w : ℕ) (z : ℤ) → ltZ z (pos 0) ≡ false → mag z ≡ unsigned w z
-unsigned-not-below w (pos n) e = refl
-unsigned-not-below w (negsuc n) e = absurd (subst T e tt)
-
-pub unsigned-below-zero : (w : ℕ) (z : ℤ) → ltZ z (pos 0) ≡ true → 2 ^ w - 1 - mag z ≡ unsigned w z
-unsigned-below-zero w (pos n) e = let h : n < 0 = ltb-true n 0 e in absurd (omega arith)
-unsigned-below-zero w (negsuc n) e = omega arith
 
 -- n in w bits, beside the half of their values
 module _ (w n : ℕ) (some : 0 < w) (within-32 : w ≤ 32) (below : n < 2 ^ w) where

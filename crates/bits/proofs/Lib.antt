@@ -4,4 +4,5 @@ pub mod SignLaws
 pub mod WidthLaws
 pub mod CodeLaws
 pub mod PenLaws
+pub mod BroadLaws
 pub mod Cases

@@ -58,21 +58,14 @@ wrote-both {p} {q} {r} {l} {m} {row} {mid} {exit} f g = record {
 }
 
 -- bits that the pen takes up
-module _ (p : Pen) (row : List ℕ) (w n : ℕ) (ready : Ready p) (within-32 : w ≤ 32) (within : n < 2 ^ w) where
-  -- the shift loses nothing
-  pub taken-up : p .kept * 2 ^ w % 2 ^ 64 ≡ p .kept * 2 ^ w
-  taken-up = shl-exact (p .width) w 64 (ready .small) (omega (arith, ready .few))
-
+module _ (p : Pen) (row : List ℕ) (w n : ℕ) (small : p .kept < 2 ^ p .width) (within : n < 2 ^ w) where
   pub up-below : p .kept * 2 ^ w + n < 2 ^ (p .width + w)
-  up-below = more (p .kept) (2 ^ p .width) (2 ^ w) (2 ^ (p .width + w)) n (pow-add 2 (p .width) w) (ready .small) within
+  up-below = more (p .kept) (2 ^ p .width) (2 ^ w) (2 ^ (p .width + w)) n (pow-add 2 (p .width) w) small within
     where
       more : (h a b ab n : ℕ) → ab ≡ a * b → h < a → n < b → h * b + n < ab
       more h a b ab n e l k =
           let m : (h + 1) * b ≤ a * b = mul-le-mul-right b (omega arith) in
           omega (arith, m, e, k)
-
-  pub up-fits : p .kept * 2 ^ w + n < 2 ^ 64
-  up-fits = lt-of-lt-of-le up-below (pow-mono {j = 64} (omega (arith, ready .few)))
 
   pub wrote-up : Wrote p (field w n) row (pen (p .at) (p .kept * 2 ^ w + n) (p .width + w)) row
   wrote-up = record {
@@ -85,6 +78,15 @@ module _ (p : Pen) (row : List ℕ) (w n : ℕ) (ready : Ready p) (within-32 : w
     rest = refl;
     long = refl;
   }
+
+-- of 32 at the most
+module _ (p : Pen) (row : List ℕ) (w n : ℕ) (ready : Ready p) (within-32 : w ≤ 32) (within : n < 2 ^ w) where
+  -- the shift loses nothing
+  pub taken-up : p .kept * 2 ^ w % 2 ^ 64 ≡ p .kept * 2 ^ w
+  taken-up = shl-exact (p .width) w 64 (ready .small) (omega (arith, ready .few))
+
+  pub up-fits : p .kept * 2 ^ w + n < 2 ^ 64
+  up-fits = lt-of-lt-of-le (up-below p row w n (ready .small) within) (pow-mono {j = 64} (omega (arith, ready .few)))
 
 -- bytes that are full go to the row
 pub wrote-out : {p q : Pen} {l : List Bool} {row mid : List ℕ} (d : List ℕ) (rest : ℕ) → Wrote p l row q mid → q .width ≡ 8 * length d + rest
@@ -125,7 +127,7 @@ wrote-four p row exit w n h r ready space within e f g =
     let within-32 : w ≤ 32 = space .within-32 in
     let same : h ≡ p .kept * 2 ^ w + n = e ∙ ap (λ (m : ℕ). m + n) (taken-up p row w n ready within-32 within) in
     let l : length (spelled 4 (h / 2 ^ r)) ≡ 4 = spelled-length 4 (h / 2 ^ r) in
-    let up = subst (λ (m : ℕ). Wrote p (field w n) row (pen (p .at) m (p .width + w)) row) (sym same) (wrote-up p row w n ready within-32 within) in
+    let up = subst (λ (m : ℕ). Wrote p (field w n) row (pen (p .at) m (p .width + w)) row) (sym same) (wrote-up p row w n (ready .small) within) in
     let t : 8 * length (spelled 4 (h / 2 ^ r)) ≡ 8 * 4 = ap (λ (m : ℕ). 8 * m) l in
     let out = wrote-out (spelled 4 (h / 2 ^ r)) r up (omega (arith, l, f)) (spelled-bits 4 (h / 2 ^ r) ∙ ap (λ (m : ℕ). field m (h / 2 ^ r)) (sym t)) (omega (arith, l, f, space .room)) in
     rw (g, one-shifted r (omega (arith, ready .few))) (subst (λ (m : ℕ). Wrote p (field w n) row (pen (p .at + m) (h % 2 ^ r) r) (placed (p .at) (spelled 4 (h / 2 ^ r)) row)) l out)

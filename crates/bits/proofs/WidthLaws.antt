@@ -1,8 +1,8 @@
 -- The smallest width that numbers fit.
 use mathlib.Core.Path.{_≡_, refl, sym, _∙_, ap, subst}
-use mathlib.Core.Bool.{Bool, true, false, _&&_}
-use mathlib.Core.List.{List, [], _∷_}
-use Prim.Native.Nat.{ℕ, zero, suc, _+_, _-_, _*_, _^_, _≤_, _<_, max}
+use mathlib.Core.Bool.{Bool, true, false}
+use mathlib.Core.List.{List}
+use Prim.Native.Nat.{ℕ, zero, suc, _+_, _-_, _*_, _^_, _≤_, _<_}
 use native.Mathlib.Nat.{pow-suc, lt-of-lt-of-le}
 use native.Mathlib.Decide.{decLe}
 use native.Mathlib.Omega.{arith}
@@ -10,10 +10,9 @@ use lib.Dec.{T, ltb}
 use lib.Pow.{pow-pos, pow-mono}
 use lib.Count.{leadingZeros, leading-length}
 use lib.IntN.{ℤ}
-use lib.Signed.{mag}
-use borrow.Author.Tests.{ltb-true, lt-ltb, le-ltb}
-use Rattle.bits.specs.Signs.{fits, all-fit}
-use Rattle.bits.specs.Widths.{smallest, width-of, farthest, width-for}
+use borrow.Author.Tests.{ltb-true, lt-ltb}
+use Rattle.bits.specs.Signs.{all-fit}
+use Rattle.bits.specs.Widths.{smallest, width-of, width-for}
 use Rattle.bits.proofs.SignLaws.{all-fit-wider}
 
 -- the smallest width that passes a test
@@ -71,23 +70,6 @@ width-at-most l w h e = smallest-least (λ (v : ℕ). all-fit v l) (all-fit-wide
 
 pub width-fits : (l : List ℤ) (w : ℕ) → all-fit 32 l ≡ true → width-of l ≤ w → all-fit w l ≡ true
 width-fits l w h e = all-fit-wider l (width-of l) w e (smallest-passes (λ (v : ℕ). all-fit v l) 31 h)
-
--- the farthest reach tells which widths all fit
-pub farthest-fit : (w : ℕ) (l : List ℤ) → all-fit w l ≡ ltb (farthest l) (2 ^ (w - 1))
-unfolding farthest all-fit
-farthest-fit w [] = sym (lt-ltb 0 (2 ^ (w - 1)) (pow-pos (w - 1)))
-farthest-fit w (z ∷ l) = ap (λ (b : Bool). fits w z && b) (farthest-fit w l) ∙ go (decLe (suc (mag z)) q) (decLe (suc (farthest l)) q)
-  where
-    q : ℕ
-    q = 2 ^ (w - 1)
-
-    go : Dec (suc (mag z) ≤ q) → Dec (suc (farthest l) ≤ q) → (ltb (mag z) q && ltb (farthest l) q) ≡ ltb (max (mag z) (farthest l)) q
-    go (yes a) (yes b) = rw (lt-ltb (mag z) q a, lt-ltb (farthest l) q b) (sym (lt-ltb (max (mag z) (farthest l)) q (omega arith)))
-    go (no a) b = rw (le-ltb (mag z) q (omega arith)) (sym (le-ltb (max (mag z) (farthest l)) q (omega arith)))
-    go (yes a) (no b) = rw (lt-ltb (mag z) q a, le-ltb (farthest l) q (omega arith)) (sym (le-ltb (max (mag z) (farthest l)) q (omega arith)))
-
-pub width-by-reach : (l : List ℤ) → width-of l ≡ width-for (farthest l)
-width-by-reach l = smallest-same (λ (w : ℕ). all-fit w l) (λ (w : ℕ). ltb (farthest l) (2 ^ (w - 1))) (λ w. farthest-fit w l) 31
 
 -- the smallest width by the leading zeros of a number
 module _ (m : ℕ) (h : m < 2 ^ 31) where

@@ -1,10 +1,9 @@
 -- The smallest width that signed numbers fit.
 use mathlib.Core.Bool.{Bool, true, false}
 use mathlib.Core.List.{List, [], _∷_}
-use Prim.Native.Nat.{ℕ, zero, suc, _-_, _^_, max}
+use Prim.Native.Nat.{ℕ, zero, suc, _-_, _^_}
 use lib.Dec.{ltb}
 use lib.IntN.{ℤ}
-use lib.Signed.{mag}
 use Rattle.bits.specs.Signs.{all-fit}
 
 -- the smallest width from 1 to k + 1 that passes a test which every larger one passes too
@@ -15,11 +14,6 @@ smallest t (suc k) = elim (t (suc k)) [ true ↦ smallest t k | false ↦ suc (s
 -- the smallest width, 1 to 32, that each of these fits
 abbrev pub width-of : List ℤ → ℕ
 width-of l = smallest (λ (w : ℕ). all-fit w l) 31
-
--- how far the one reaches that reaches farthest
-unfoldable pub farthest : List ℤ → ℕ
-farthest [] = 0
-farthest (z ∷ l) = max (mag z) (farthest l)
 
 -- the smallest width, 1 to 32, for numbers that reach so far
 abbrev pub width-for : ℕ → ℕ

@@ -4,4 +4,5 @@ pub mod ReadLaws
 pub mod StandLaws
 pub mod SmallestLaws
 pub mod WriteLaws
+pub mod PairLaws
 pub mod Cases

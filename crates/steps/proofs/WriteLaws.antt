@@ -9,7 +9,7 @@ use native.Mathlib.Omega.{arith}
 use lib.Dec.{ltb}
 use lib.Bits.{bitOr, or-lt, or-add-and, and-le-l, and-le-r}
 use lib.Pow.{pow-add, pow-pos, low}
-use lib.ListN.{length, getD, take, drop, length-append}
+use lib.ListN.{length, getD, take, drop, length-append, length-drop}
 use lib.Seq.{length-take-le}
 use lib.IntN.{ℤ, pos, negsuc}
 use lib.Signed.{mag}
@@ -29,7 +29,8 @@ use Rattle.bits.proofs.WidthLaws.{smallest-same}
 use Rattle.grid.specs.Limits.{limit, all-on-grid}
 use Rattle.steps.specs.Steps.{differences}
 use Rattle.steps.specs.Bodies.{contour-width, body}
-use Rattle.steps.specs.inside.Asked.{step, Writable, Fitting}
+use Rattle.grid.proofs.LimitLaws.{on-dropped}
+use Rattle.steps.specs.inside.Asked.{step, Writable, Fitting, point-bits}
 use Rattle.steps.proofs.StepLaws.{differences-more, differences-none}
 use Rattle.steps.proofs.BodyLaws.{width-some, width-within-32, width-fitting, differences-fit}
 
@@ -102,28 +103,65 @@ module _ (c : List ℤ) (w k : ℕ) (h : k + 2 < length c) where
   pub fit-behind : all-fit w (differences (drop k c)) ≡ true → all-fit w (differences (drop (k + 1) c)) ≡ true
   fit-behind e = and-right (fits w (step c k)) (all-fit w (differences (drop (k + 1) c))) (fit-both e)
 
+-- two numbers behind each other
+pub side-by-side : (j i x y : ℕ) → x < 2 ^ j → y < 2 ^ i → x * 2 ^ i + y < 2 ^ (j + i)
+side-by-side j i x y h l =
+    let m : (x + 1) * 2 ^ i ≤ 2 ^ j * 2 ^ i = mul-le-mul-right (2 ^ i) (omega arith) in
+    omega (arith, m, l, pow-add 2 j i)
+
+-- both differences of a point
+module _ (c : List ℤ) (w k : ℕ) (some : 0 < w) (h : k + 3 < length c) (fit : all-fit w (differences (drop k c)) ≡ true) where
+  next-fit : all-fit w (differences (drop (k + 1) c)) ≡ true
+  next-fit = fit-behind c w k (omega arith) fit
+
+  pub first-fits : fits w (step c k) ≡ true
+  first-fits = fit-next c w k (omega arith) fit
+
+  pub second-fits : fits w (step c (k + 1)) ≡ true
+  second-fits = fit-next c w (k + 1) (omega arith) next-fit
+
+  pub fit-point : all-fit w (differences (drop (k + 2) c)) ≡ true
+  fit-point =
+      let e : k + 1 + 1 ≡ k + 2 = omega arith in
+      subst (λ (j : ℕ). all-fit w (differences (drop j c)) ≡ true) e (fit-behind c w (k + 1) (omega arith) next-fit)
+
+  pub point-below : point-bits w c k < 2 ^ (2 * w)
+  point-below =
+      let e : 2 * w ≡ w + w = omega arith in
+      rw e (side-by-side w w (unsigned w (step c k)) (unsigned w (step c (k + 1))) (unsigned-below w some (step c k) first-fits) (unsigned-below w some (step c (k + 1)) second-fits))
+
+  pub point-fields : fields w (differences (drop k c)) ≡ field (2 * w) (point-bits w c k) ++ fields w (differences (drop (k + 2) c))
+  point-fields =
+      let e : k + 1 + 1 ≡ k + 2 = omega arith in
+      let d : w + w ≡ 2 * w = omega arith in
+      let x : ℕ = unsigned w (step c k) in
+      let y : ℕ = unsigned w (step c (k + 1)) in
+      fields-more c w k (omega arith)
+      ∙ ap (λ (l : List Bool). field w x ++ l) (fields-more c w (k + 1) (omega arith))
+      ∙ sym (append-assoc (field w x) (field w y) (fields w (differences (drop (k + 1 + 1) c))))
+      ∙ ap₂ (λ (l : List Bool) (j : ℕ). l ++ fields w (differences (drop j c)))
+      (field-joined w w x y (unsigned-below w some (step c (k + 1)) second-fits) ∙ ap (λ (v : ℕ). field v (point-bits w c k)) d) e
+
 -- what is written of the differences, and those that are left from position k on
 pub record Writing (p₀ : Pen) (row₀ : List ℕ) (c : List ℤ) (w k : ℕ) (p : Pen) (row : List ℕ) : Type 0 where
-  pub ready : Ready p
   pub fit : all-fit w (differences (drop k c)) ≡ true
   pub put : List Bool
   pub wrote : Wrote p₀ put row₀ p row
   pub is : put ++ fields w (differences (drop k c)) ≡ fields w (differences c)
 
 pub writing-none : {p : Pen} {row : List ℕ} {c : List ℤ} {w : ℕ} → Fitting row p c w → Writing p row c w 0 p row
-writing-none {p} {row} f = record { ready = f .ready; fit = f .fit; put = []; wrote = wrote-none p row (f .ready .small); is = refl }
+writing-none {p} {row} f = record { fit = f .fit; put = []; wrote = wrote-none p row (f .ready .small); is = refl }
 
 module _ {p₀ p : Pen} {row₀ row : List ℕ} {c : List ℤ} {w k : ℕ} (s : Writing p₀ row₀ c w k p row) where
   -- there is room for what is left
-  room-left : reached p₀ + length (fields w (differences c)) ≤ 8 * length row₀ → reached p + length (fields w (differences (drop k c))) ≤ 8 * length row
+  pub room-left : reached p₀ + length (fields w (differences c)) ≤ 8 * length row₀ → reached p + length (fields w (differences (drop k c))) ≤ 8 * length row
   room-left room =
       omega (arith, room, s .wrote .behind, s .wrote .long, ap length (s .is), length-append (s .put) (fields w (differences (drop k c))))
 
   -- bits more are written that stand before those behind position j
   writing-on : (j : ℕ) (l : List Bool) → fields w (differences (drop k c)) ≡ l ++ fields w (differences (drop j c)) → all-fit w (differences (drop j c)) ≡ true
-      → {q : Pen} {exit : List ℕ} → Wrote p l row q exit → q .width < 32 → Writing p₀ row₀ c w j q exit
-  writing-on j l e fit g few = record {
-    ready = record { small = g .small; few = few };
+      → {q : Pen} {exit : List ℕ} → Wrote p l row q exit → Writing p₀ row₀ c w j q exit
+  writing-on j l e fit g = record {
     fit = fit;
     put = s .put ++ l;
     wrote = wrote-both (s .wrote) g;
@@ -149,56 +187,59 @@ module _ {p₀ p : Pen} {row₀ row : List ℕ} {c : List ℤ} {w k : ℕ} (s : 
               );
         }
 
-    pub writing-more : {n : ℕ} {q : Pen} {exit : List ℕ} → n ≡ unsigned w (step c k) → Wrote p (field w n) row q exit → q .width < 32 → Writing p₀ row₀ c w (k + 1) q exit
-    writing-more e g few = writing-on (k + 1) (field w _) (fields-more c w k h ∙ ap (λ (m : ℕ). field w m ++ fields w (differences (drop (k + 1) c))) (sym e)) (fit-behind c w k h (s .fit)) g few
+    pub writing-more : {n : ℕ} {q : Pen} {exit : List ℕ} → n ≡ unsigned w (step c k) → Wrote p (field w n) row q exit → Writing p₀ row₀ c w (k + 1) q exit
+    writing-more e g = writing-on (k + 1) (field w _) (fields-more c w k h ∙ ap (λ (m : ℕ). field w m ++ fields w (differences (drop (k + 1) c))) (sym e)) (fit-behind c w k h (s .fit)) g
 
-  -- both of a point
-  module _ (h : k + 1 + 2 < length c) where
-    abbrev x : ℕ
-    x = unsigned w (step c k)
+  -- those of two points
+  module _ (h : k + 5 < length c) (some : 0 < w) where
+    abbrev both : ℕ
+    both = point-bits w c k * 2 ^ (2 * w) + point-bits w c (k + 2)
 
-    abbrev y : ℕ
-    y = unsigned w (step c (k + 1))
+    behind-one : all-fit w (differences (drop (k + 2) c)) ≡ true
+    behind-one = fit-point c w k some (omega arith) (s .fit)
 
-    first : k + 2 < length c
-    first = omega arith
+    pair-fields : fields w (differences (drop k c)) ≡ field (4 * w) both ++ fields w (differences (drop (k + 4) c))
+    pair-fields =
+        let a : k + 2 + 2 ≡ k + 4 = omega arith in
+        let d : 2 * w + 2 * w ≡ 4 * w = omega arith in
+        point-fields c w k some (omega arith) (s .fit)
+        ∙ ap (λ (l : List Bool). field (2 * w) (point-bits w c k) ++ l) (point-fields c w (k + 2) some (omega arith) behind-one)
+        ∙ sym (append-assoc (field (2 * w) (point-bits w c k)) (field (2 * w) (point-bits w c (k + 2))) (fields w (differences (drop (k + 2 + 2) c))))
+        ∙ ap₂ (λ (l : List Bool) (j : ℕ). l ++ fields w (differences (drop j c)))
+        (field-joined (2 * w) (2 * w) (point-bits w c k) (point-bits w c (k + 2)) (point-below c w (k + 2) some (omega arith) behind-one) ∙ ap (λ (v : ℕ). field v both) d) a
 
-    pub second-fits : fits w (step c (k + 1)) ≡ true
-    second-fits = fit-next c w (k + 1) h (fit-behind c w k first (s .fit))
+    pub pair-below : both < 2 ^ (4 * w)
+    pair-below =
+        let d : 2 * w + 2 * w ≡ 4 * w = omega arith in
+        rw (← d) (side-by-side (2 * w) (2 * w) (point-bits w c k) (point-bits w c (k + 2)) (point-below c w k some (omega arith) (s .fit)) (point-below c w (k + 2) some (omega arith) behind-one))
 
-    both-fields : 0 < w → fields w (differences (drop k c)) ≡ field (w + w) (x * 2 ^ w + y) ++ fields w (differences (drop (k + 1 + 1) c))
-    both-fields some =
-        fields-more c w k first
-        ∙ ap (λ (l : List Bool). field w x ++ l) (fields-more c w (k + 1) h)
-        ∙ sym (append-assoc (field w x) (field w y) (fields w (differences (drop (k + 1 + 1) c))))
-        ∙ ap (λ (l : List Bool). l ++ fields w (differences (drop (k + 1 + 1) c))) (field-joined w w x y (unsigned-below w some (step c (k + 1)) second-fits))
+    pub pair-room : reached p₀ + length (fields w (differences c)) ≤ 8 * length row₀ → reached p + 4 * w ≤ 8 * length row
+    pair-room room =
+        omega (arith, room-left room, ap length pair-fields, length-append (field (4 * w) both) (fields w (differences (drop (k + 4) c))), field-length (4 * w) both)
 
-    pub both-space : 0 < w → w ≤ 16 → reached p₀ + length (fields w (differences c)) ≤ 8 * length row₀ → Space row p (2 * w)
-    both-space some few room = record {
-      within-32 = omega arith;
-      room =
-          omega (
-            arith,
-            room-left room,
-            ap length (both-fields some),
-            length-append (field (w + w) (x * 2 ^ w + y)) (fields w (differences (drop (k + 1 + 1) c))),
-            field-length (w + w) (x * 2 ^ w + y),
-          );
-    }
+    pub writing-pair : {n : ℕ} {q : Pen} {exit : List ℕ} → n ≡ both → Wrote p (field (4 * w) n) row q exit → Writing p₀ row₀ c w (k + 4) q exit
+    writing-pair e g =
+        let a : k + 2 + 2 ≡ k + 4 = omega arith in
+        writing-on (k + 4) (field (4 * w) _) (pair-fields ∙ ap (λ (m : ℕ). field (4 * w) m ++ fields w (differences (drop (k + 4) c))) (sym e))
+        (subst (λ (j : ℕ). all-fit w (differences (drop j c)) ≡ true) a (fit-point c w (k + 2) some (omega arith) behind-one)) g
 
-    pub both-below : 0 < w → x * 2 ^ w + y < 2 ^ (2 * w)
-    both-below some =
-        let a : x < 2 ^ w = unsigned-below w some (step c k) (fit-next c w k first (s .fit)) in
-        let b : y < 2 ^ w = unsigned-below w some (step c (k + 1)) second-fits in
-        let e : 2 * w ≡ w + w = omega arith in
-        let m : (x + 1) * 2 ^ w ≤ 2 ^ w * 2 ^ w = mul-le-mul-right (2 ^ w) (omega arith) in
-        omega (arith, m, b, ap (λ (n : ℕ). 2 ^ n) e ∙ pow-add 2 w w)
+  -- nothing more is written
+  pub writing-same : {q : Pen} {exit : List ℕ} → Wrote p [] row q exit → Writing p₀ row₀ c w k q exit
+  writing-same g = writing-on k [] refl (s .fit) g
 
-    pub writing-both : {n : ℕ} {q : Pen} {exit : List ℕ} → 0 < w → n ≡ x * 2 ^ w + y → Wrote p (field (2 * w) n) row q exit → q .width < 32 → Writing p₀ row₀ c w (k + 1 + 1) q exit
-    writing-both some e g few =
-        let d : w + w ≡ 2 * w = omega arith in
-        writing-on (k + 1 + 1) (field (2 * w) _) (both-fields some ∙ ap₂ (λ (v m : ℕ). field v m ++ fields w (differences (drop (k + 1 + 1) c))) d (sym e))
-        (fit-behind c w (k + 1) h (fit-behind c w k first (s .fit))) g few
+  -- those that are left are a contour's too
+  pub rest-fitting : Fitting row₀ p₀ c w → k % 2 ≡ 0 → k ≤ length c → p .width < 32 → Fitting row p (drop k c) w
+  rest-fitting f even within few = record {
+    ready = record { small = s .wrote .small; few = few };
+    width = f .width;
+    even = omega (arith, f .even, length-drop k c);
+    on = on-dropped limit k c (f .on);
+    fit = s .fit;
+    room = room-left (f .room);
+  }
+
+  pub writing-rest : {q : Pen} {exit : List ℕ} → Wrote p (fields w (differences (drop k c))) row q exit → Wrote p₀ (fields w (differences c)) row₀ q exit
+  writing-rest {q} {exit} g = subst (λ (l : List Bool). Wrote p₀ l row₀ q exit) (s .is) (wrote-both (s .wrote) g)
 
   pub writing-all : length c ≤ k + 2 → Wrote p₀ (fields w (differences c)) row₀ p row
   unfolding fields

@@ -2,9 +2,10 @@
 use mathlib.Core.Path.{_≡_}
 use mathlib.Core.Bool.{Bool}
 use mathlib.Core.List.{List, _++_}
-use Prim.Native.Nat.{ℕ, _+_, _*_, _^_, _<_, _≤_}
+use Prim.Native.Nat.{ℕ, _+_, _-_, _*_, _/_, _^_, _<_, _≤_}
 use lib.ListN.{length, take, drop}
 use Rattle.bits.specs.declared.inner.pens.Pen.{Pen}
+use Rattle.bits.specs.declared.inner.broad.Broad.{Broad}
 use Rattle.bits.specs.Bits.{field, bits, fill}
 
 abbrev pub pen : ℕ → ℕ → ℕ → Pen
@@ -43,3 +44,22 @@ pub record Lifted (p : Pen) (row : List ℕ) (n : ℕ) (exit : List ℕ) : Type 
   pub rest : drop n exit ≡ drop n row
   pub ends : 8 * n ≡ reached p + fill (reached p)
   pub long : length exit ≡ length row
+
+abbrev pub broad : ℕ → ℕ → ℕ → Broad
+broad at kept width = record { at = at; kept = kept; width = width }
+
+-- the pen that a broad one is, whose kept bits stand at the front of a word of 64
+abbrev pub narrowed : Broad → Pen
+narrowed b = pen (b .at) (b .kept / 2 ^ (64 - b .width)) (b .width)
+
+-- they do stand there, and zeros behind them
+pub record Fronted (b : Broad) : Type 0 where
+  pub few : b .width ≤ 64
+  pub small : b .kept / 2 ^ (64 - b .width) < 2 ^ b .width
+  pub is : b .kept ≡ b .kept / 2 ^ (64 - b .width) * 2 ^ (64 - b .width)
+
+-- there is room for w bits more, in the row and in the broad pen
+pub record Breadth (row : List ℕ) (b : Broad) (w : ℕ) : Type 0 where
+  pub some : 0 < w
+  pub within-60 : w ≤ 60
+  pub room : reached (narrowed b) + w ≤ 8 * length row

@@ -16,7 +16,7 @@ pub struct Pen {
 }
 
 // Four bytes of a number.
-fn spell(bytes: &mut [u8], at: usize, n: u64)
+pub fn spell(bytes: &mut [u8], at: usize, n: u64)
     requires { ⌜ at + 4 ≤ length (now bytes) ⌝ }
     ensures { λ _. ⌜ now (bytes .exit) ≡ placed at (spelled 4 n) (now (bytes .entry)) ⌝ }
 {

@@ -1,9 +1,8 @@
 // Two's complement of a width.
 ghost use mathlib.Core.Path.{_≡_};
-ghost use mathlib.Core.Bool.{true};
 ghost use Prim.Native.Nat.{_^_, _<_, _≤_};
 ghost use lib.Signed.{mag};
-ghost use Rattle.bits.specs.Signs.{signed as signed-of, unsigned as unsigned-of, fits};
+ghost use Rattle.bits.specs.Signs.{signed as signed-of};
 
 // How far a number reaches: z, or -1 - z where it is below zero.
 pub fn reach(z: i64) -> u64
@@ -23,13 +22,4 @@ pub fn signed(n: u64, width: usize) -> i64
     } else {
         -1 - (2 * half - 1 - n) as i64
     }
-}
-
-// The `width` bits of a signed number.
-pub fn unsigned(z: i64, width: usize) -> u64
-    requires { ⌜ (0 < width) × (width ≤ 32) × (fits width z ≡ true) ⌝ }
-    ensures { λ r. ⌜ r ≡ unsigned-of width z ⌝ }
-{
-    let far = reach(z);
-    if z < 0 { (1 << width) - 1 - far } else { far }
 }

@@ -1,13 +1,15 @@
 -- Where bits stand that are read, and where there is room for those that are written.
 use mathlib.Core.Path.{_≡_}
-use mathlib.Core.Bool.{true}
+use mathlib.Core.Bool.{true, false}
 use mathlib.Core.List.{List}
-use Prim.Native.Nat.{ℕ, _+_, _*_, _<_, _≤_}
+use Prim.Native.Nat.{ℕ, _+_, _*_, _^_, _<_, _≤_}
 use lib.ListN.{length, getD, drop}
-use lib.IntN.{ℤ, pos, _-ℤ_}
+use lib.IntN.{ℤ, pos, _+ℤ_, _-ℤ_, _*ℤ_}
+use lib.Signed.{ltZ}
+use Rattle.integers.specs.Bound.{In}
 use Rattle.bits.specs.declared.inner.pens.Pen.{Pen}
 use Rattle.bits.specs.Bits.{bits}
-use Rattle.bits.specs.Signs.{all-fit, fields, numbers}
+use Rattle.bits.specs.Signs.{unsigned, all-fit, fields, numbers}
 use Rattle.bits.specs.inside.Pens.{reached, Ready}
 use Rattle.grid.specs.Limits.{limit, all-on-grid}
 use Rattle.grid.specs.Domain.{count}
@@ -59,3 +61,23 @@ pub record Fitting (row : List ℕ) (p : Pen) (c : List ℤ) (w : ℕ) : Type 0 
   pub on : all-on-grid limit c ≡ true
   pub fit : all-fit w (differences c) ≡ true
   pub room : reached p + length (fields w (differences c)) ≤ 8 * length row
+
+-- the width is one of which four fit a word
+pub record Narrow (w : ℕ) : Type 0 where
+  pub some : 0 < w
+  pub few : w ≤ 15
+
+-- the point at position k as one number, in which its first coordinate is s times as heavy
+abbrev pub joined : ℤ → List ℤ → ℕ → ℤ
+joined s c k = getD c k (pos 0) *ℤ s +ℤ getD c (k + 1) (pos 0)
+
+-- two such points, which are so close that their difference is not below zero when it is raised
+pub record Rising (from to : ℤ) (h : ℕ) : Type 0 where
+  pub near : In (2 ^ 47) from
+  pub near-too : In (2 ^ 47) to
+  pub few : h < 2 ^ 31
+  pub up : ltZ ((to -ℤ from) +ℤ pos h) (pos 0) ≡ false
+
+-- both differences behind position k, each in w bits, as one number
+abbrev pub point-bits : ℕ → List ℤ → ℕ → ℕ
+point-bits w c k = unsigned w (step c k) * 2 ^ w + unsigned w (step c (k + 1))

@@ -13,6 +13,8 @@ ghost use Rattle.grid.specs.Domain.{count};
 ghost use Rattle.steps.specs.Steps.{differences};
 ghost use Rattle.steps.specs.Bodies.{contour-width, body};
 ghost use Rattle.steps.specs.inside.Asked.{step, Width, Fitting, Writable};
+use crate::inner::pairs;
+use bits::inner::broad;
 use bits::inner::pens;
 use bits::inner::pens::Pen;
 use bits::inner::signs;
@@ -119,25 +121,30 @@ fn put_steps(bytes: &mut [u8], pen: Pen, contour: &[i32], width: usize) -> Pen
     p
 }
 
-// Writes them in a width of which two make a field: both of a point at once.
-fn put_points(bytes: &mut [u8], pen: Pen, contour: &[i32], width: usize) -> Pen
-    requires { ⌜ Fitting (now bytes) pen (now contour) width × (width ≤ 16) ⌝ }
+// Writes them in a width of which four make a field: those of two points at once, and then of the last.
+fn put_pairs(bytes: &mut [u8], pen: Pen, contour: &[i32], width: usize) -> Pen
+    requires { ⌜
+        Fitting (now bytes) pen (now contour) width
+        × (width ≤ 15)
+        × (2 ≤ length (now contour))
+        ⌝ }
     ensures { λ r. ⌜
         Wrote pen (fields width (differences (now (contour .entry)))) (now (bytes .entry)) r
         (now (bytes .exit))
         × (r .width < 32)
         ⌝ }
 {
-    let mut p = pen;
-    let mut i: usize = 0;
-    while 2 * i + 2 < contour.len() {
-        let x = step_bits(contour, 2 * i, width);
-        let y = step_bits(contour, 2 * i + 1, width);
-        let n = (x << width) + y;
-        p = pens::write(bytes, p, 2 * width, n);
-        i += 1;
+    let mut b = broad::broaden(pen);
+    let mut from = pairs::joined(contour, 0, pairs::scale(width));
+    let mut k: usize = 0;
+    while k + 5 < contour.len() {
+        let next = pairs::four(contour, k, width, from);
+        b = broad::sweep(bytes, b, 4 * width, next.bits);
+        from = next.last;
+        k += 4;
     }
-    p
+    let p = broad::narrow(bytes, b);
+    put_steps(bytes, p, &contour[k..], width)
 }
 
 // Writes them in any width.
@@ -149,8 +156,10 @@ fn put_following(bytes: &mut [u8], pen: Pen, contour: &[i32], width: usize) -> P
         × (r .width < 32)
         ⌝ }
 {
-    if width <= 16 {
-        return put_points(bytes, pen, contour, width);
+    if width <= 15 {
+        if 6 <= contour.len() {
+            return put_pairs(bytes, pen, contour, width);
+        }
     }
     put_steps(bytes, pen, contour, width)
 }

@@ -24,7 +24,7 @@ returns : tie.Need-returns
 returns c =
     let s = c .before .before .before .before .args in
     let pre = c .before .before .before .before .pre in (
-      rw (taken-up (s .pen) (s .bytes .now) (s .width) (s .n) (pre .0) (pre .1 .within-32) (pre .2)) (wrote-up (s .pen) (s .bytes .now) (s .width) (s .n) (pre .0) (pre .1 .within-32) (pre .2)),
+      rw (taken-up (s .pen) (s .bytes .now) (s .width) (s .n) (pre .0) (pre .1 .within-32) (pre .2)) (wrote-up (s .pen) (s .bytes .now) (s .width) (s .n) (pre .0 .small) (pre .2)),
       c .if1 .taken,
     )
 
