@@ -7,8 +7,9 @@ use native.Mathlib.Omega.{arith}
 use native.Mathlib.Nat.{mul-le-mul-right}
 use native.Mathlib.Numerals.{add-one}
 use lib.Dec.{eqb, ltb, eqb·suc-zero}
-use lib.ListN.{length, getD, drop, length-append, drop-of-length-le}
-use lib.Seq.{drop-cons}
+use borrow.Author.Count.{below-more}
+use lib.ListN.{length, getD, set, drop, length-append, drop-of-length-le}
+use lib.Seq.{drop-cons, getD-set-same, getD-set-other}
 use lib.IntN.{ℤ}
 use borrow.Author.Tests.{ltb-true, ltb-false, lt-ltb, le-ltb}
 use Rattle.grid.specs.Domain.{count}
@@ -80,10 +81,6 @@ pub body-within : (n w : ℕ) → w ≤ 32 → body-size n w ≤ 64 * n
 body-within zero w h = omega arith
 body-within (suc k) w h = let m : w * (2 * k) ≤ 32 * (2 * k) = mul-le-mul-right (2 * k) h in omega (arith, m)
 
-pub body-some : (n w : ℕ) → (n ≡ 0 → ⊥) → 86 + w * (2 * (n - 1)) ≡ 22 + body-size n w
-body-some zero w h = absurd (h refl)
-body-some (suc k) w h = let e : suc k - 1 ≡ k = omega arith in rw e (omega arith)
-
 pub size-within : (c : List ℤ) → written-size c ≤ 22 + 64 * count c
 size-within c = omega (arith, body-within (count c) (contour-width c) (width-within-32 (differences c)))
 
@@ -94,6 +91,10 @@ module _ (p : List ℤ) (cs : List (List ℕ)) (k : ℕ) where
 
   pub size-done : length cs ≤ k → all-size p (drop k cs) ≡ 0
   size-done h = rw (drop-of-length-le cs {i = k} h)
+
+-- one width more is kept
+pub widths-more : (W : ℕ → ℕ) (ws : List ℕ) (k v : ℕ) → k < length ws → ((j : ℕ) → j < k → getD ws j 0 ≡ W j) → v ≡ W k → (j : ℕ) → j < k + 1 → getD (set ws k v) j 0 ≡ W j
+widths-more W ws k v h f e = below-more (λ (j : ℕ). getD (set ws k v) j 0 ≡ W j) k (λ j l. getD-set-other ws k j v 0 (λ z. omega arith) ∙ f j l) (getD-set-same ws k v 0 h ∙ e)
 
 -- the length of a file
 all-length : (l : List Entry) → Even (contours-of l) → length (all-coded edition-2 l) ≡ total (map written-size (contours-of l))

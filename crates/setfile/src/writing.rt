@@ -70,7 +70,7 @@ pub fn write(
             bytes: 0,
         };
     }
-    let written = putting::put_file(false, points, contours, shapes, bytes);
+    let written = putting::put_file(false, points, contours, shapes, b"", bytes);
     Written {
         reply: replies::DONE,
         bytes: written,

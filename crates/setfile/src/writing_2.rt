@@ -50,7 +50,8 @@ pub fn write_2(
             bytes: 0,
         };
     }
-    let length = measuring::file_length(points, contours);
+    let mut widths = [0u8; MOST_CONTOURS];
+    let length = measuring::file_length(points, contours, &mut widths);
     if MOST_BYTES < length {
         return Written {
             reply: replies::TOO_MANY,
@@ -63,7 +64,7 @@ pub fn write_2(
             bytes: 0,
         };
     }
-    let written = putting::put_file(true, points, contours, shapes, bytes);
+    let written = putting::put_file(true, points, contours, shapes, &widths, bytes);
     Written {
         reply: replies::DONE,
         bytes: written,

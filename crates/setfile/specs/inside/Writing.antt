@@ -57,6 +57,11 @@ pub record Countable (c : List ℤ) : Type 0 where
 abbrev pub Named : List ℤ → List (List ℕ) → ℕ → Type 0
 Named p cs n = (k : ℕ) → k < n → Names p cs k × Countable (contour p (span (getD cs k [])))
 
+-- the widths of these contours
+pub record Widths (p : List ℤ) (cs : List (List ℕ)) (n : ℕ) (ws : List ℕ) : Type 0 where
+  pub all : n ≤ length ws
+  pub is : (k : ℕ) → k < n → getD ws k 0 ≡ contour-width (contour p (span (getD cs k [])))
+
 -- every shape ends within the contours
 abbrev pub Grouped : List (List ℕ) → ℕ → Type 0
 Grouped ss n = (i : ℕ) → i < length ss → span (getD ss i []) .end ≤ n

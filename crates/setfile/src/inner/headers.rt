@@ -63,7 +63,7 @@ pub fn header_size(second: bool) -> usize
 }
 
 // How many bits a contour of edition 2 has.
-fn second_size(count: usize, width: usize) -> usize
+pub fn second_size(count: usize, width: usize) -> usize
     requires { ⌜ (count ≤ 32767) × (width ≤ 63) ⌝ }
     ensures { λ r. ⌜ r ≡ 22 + body-size count width ⌝ }
 {

@@ -4,7 +4,8 @@ ghost use Prim.Native.Nat.{_+_, _-_, _/_, _≤_};
 ghost use lib.ListN.{length};
 ghost use Rattle.buffer.specs.Spans.{spans};
 ghost use Rattle.setfile.specs.Writing.{most-contours};
-ghost use Rattle.setfile.specs.inside.Writing.{Countable, Named, longer as longer-of, written-size, all-size};
+ghost use Rattle.setfile.specs.inside.Writing.{Named, Widths, longer as longer-of, all-size};
+use crate::inner::headers;
 
 // How long a range is: nothing where it runs backward.
 fn size(start: usize, end: usize) -> usize
@@ -27,32 +28,26 @@ pub fn longer(ranges: &[[usize; 2]], n: usize) -> usize
     some
 }
 
-// How many bits a contour is written in.
-fn written_size(contour: &[i32]) -> usize
-    requires { ⌜ Countable (now contour) ⌝ }
-    ensures { λ r. ⌜ r ≡ written-size (now (contour .entry)) ⌝ }
-{
-    let width = steps::inner::writing::width(contour);
-    let n = contour.len() / 2;
-    if n == 0 {
-        return 22;
-    }
-    86 + width * (2 * (n - 1))
-}
-
-// How many bytes the file of a set has.
-pub fn file_length(points: &[i32], contours: &[[usize; 2]]) -> usize
+// How many bytes the file of a set has; the width of each contour is kept.
+pub fn file_length(points: &[i32], contours: &[[usize; 2]], widths: &mut [u8]) -> usize
     requires { ⌜
         Named (now points) (now contours) (length (now contours))
         × (length (now contours) ≤ most-contours)
+        × (length (now contours) ≤ length (now widths))
         ⌝ }
-    ensures { λ r. ⌜ r ≡ (16 + all-size (now (points .entry)) (now (contours .entry)) + 7) / 8 ⌝ }
+    ensures { λ r. ⌜
+        (r ≡ (16 + all-size (now (points .entry)) (now (contours .entry)) + 7) / 8)
+        × Widths (now (points .entry)) (now (contours .entry)) (length (now (contours .entry)))
+        (now (widths .exit))
+        ⌝ }
 {
     let mut bits: usize = 16;
     let mut k: usize = 0;
     while k < contours.len() {
         let contour = buffer::inner::parts::named(points, contours, k);
-        bits += written_size(contour);
+        let width = steps::inner::writing::width(contour);
+        widths[k] = width as u8;
+        bits += headers::second_size(contour.len() / 2, width);
         k += 1;
     }
     (bits + 7) / 8

@@ -1,17 +1,18 @@
 // Numbers, contours, shapes and files, written into the row of bytes; each function answers where it ends.
 ghost use mathlib.Core.Path.{_≡_};
 ghost use mathlib.Core.Bool.{true};
-ghost use Prim.Native.Nat.{_≤_};
-ghost use lib.ListN.{length};
+ghost use Prim.Native.Nat.{_<_, _≤_};
+ghost use lib.ListN.{length, getD};
 ghost use Rattle.bits.specs.inside.Words.{spelled};
 ghost use Rattle.rows.specs.Rows.{front};
 ghost use Rattle.grid.specs.Domain.{count};
+ghost use Rattle.steps.specs.Bodies.{contour-width};
 ghost use Rattle.setfile.specs.Entries.{entry};
 ghost use Rattle.setfile.specs.Edition2.{contour-bits};
 ghost use Rattle.setfile.specs.Writing.{most-points};
 ghost use Rattle.setfile.specs.inside.Bytes.{coded-coordinates, coded-contour};
 ghost use Rattle.setfile.specs.Editions.{layout};
-ghost use Rattle.setfile.specs.inside.Writing.{Put, Room, Penned, Inked, Countable, Named, Grouped, shape-bits, shapes-bits, file-with, Ripe};
+ghost use Rattle.setfile.specs.inside.Writing.{Put, Room, Penned, Inked, Countable, Named, Widths, Grouped, shape-bits, shapes-bits, file-with, Ripe};
 use bits::inner::pens;
 use bits::inner::pens::Pen;
 
@@ -70,9 +71,10 @@ fn put_contour_1(begins: bool, contour: &[i32], bytes: &mut [u8], at: usize) -> 
 }
 
 // A contour of edition 2: its header is one field.
-fn put_contour_2(begins: bool, contour: &[i32], bytes: &mut [u8], pen: Pen) -> Pen
+fn put_contour_2(begins: bool, contour: &[i32], width: usize, bytes: &mut [u8], pen: Pen) -> Pen
     requires { ⌜
         Countable (now contour)
+        × (width ≡ contour-width (now contour))
         × Penned true pen (contour-bits (entry begins (now contour))) (now bytes)
         ⌝ }
     ensures { λ r. ⌜
@@ -80,16 +82,23 @@ fn put_contour_2(begins: bool, contour: &[i32], bytes: &mut [u8], pen: Pen) -> P
         (now (bytes .exit))
         ⌝ }
 {
-    let width = steps::inner::writing::width(contour);
     let head = begins as usize * 2_097_152 + (contour.len() / 2 * 64 + width);
     let headed = pens::write(bytes, pen, 22, head as u64);
     steps::inner::writing::put(bytes, headed, contour, width)
 }
 
-// A contour of either edition.
-fn put_contour(second: bool, begins: bool, contour: &[i32], bytes: &mut [u8], pen: Pen) -> Pen
+// A contour of either edition: the second asks for its width.
+fn put_contour(
+    second: bool,
+    begins: bool,
+    contour: &[i32],
+    width: usize,
+    bytes: &mut [u8],
+    pen: Pen,
+) -> Pen
     requires { ⌜
         Countable (now contour)
+        × (second ≡ true → width ≡ contour-width (now contour))
         × Penned second pen (layout second .coded (entry begins (now contour))) (now bytes)
         ⌝ }
     ensures { λ r. ⌜
@@ -98,7 +107,7 @@ fn put_contour(second: bool, begins: bool, contour: &[i32], bytes: &mut [u8], pe
         ⌝ }
 {
     if second {
-        return put_contour_2(begins, contour, bytes, pen);
+        return put_contour_2(begins, contour, width, bytes, pen);
     }
     let behind = put_contour_1(begins, contour, bytes, pen.at);
     Pen {
@@ -108,11 +117,23 @@ fn put_contour(second: bool, begins: bool, contour: &[i32], bytes: &mut [u8], pe
     }
 }
 
+// The width that is kept at a position; the first edition has none.
+fn width_at(second: bool, widths: &[u8], k: usize) -> usize
+    requires { ⌜ (second ≡ true → k < length (now widths)) ⌝ }
+    ensures { λ r. ⌜ (second ≡ true → r ≡ getD (now (widths .entry)) k 0) ⌝ }
+{
+    if second {
+        return widths[k] as usize;
+    }
+    0
+}
+
 // A shape: the contours from one number to another, of which the first begins it.
 fn put_shape(
     second: bool,
     points: &[i32],
     ranges: &[[usize; 2]],
+    widths: &[u8],
     from: usize,
     to: usize,
     bytes: &mut [u8],
@@ -120,6 +141,7 @@ fn put_shape(
 ) -> Pen
     requires { ⌜
         Named (now points) (now ranges) to
+        × (second ≡ true → Widths (now points) (now ranges) to (now widths))
         × Penned second pen (shape-bits second (now points) (now ranges) from to) (now bytes)
         ⌝ }
     ensures { λ r. ⌜
@@ -131,7 +153,8 @@ fn put_shape(
     let mut k = from;
     while k < to {
         let contour = buffer::inner::parts::named(points, ranges, k);
-        behind = put_contour(second, k == from, contour, bytes, behind);
+        let width = width_at(second, widths, k);
+        behind = put_contour(second, k == from, contour, width, bytes, behind);
         k += 1;
     }
     behind
@@ -143,12 +166,14 @@ fn put_shapes(
     points: &[i32],
     contours: &[[usize; 2]],
     shapes: &[[usize; 2]],
+    widths: &[u8],
     bytes: &mut [u8],
     pen: Pen,
 ) -> Pen
     requires { ⌜
         Named (now points) (now contours) (length (now contours))
         × Grouped (now shapes) (length (now contours))
+        × (second ≡ true → Widths (now points) (now contours) (length (now contours)) (now widths))
         × Penned second pen (shapes-bits second (now points) (now contours) (now shapes)) (now bytes)
         ⌝ }
     ensures { λ r. ⌜
@@ -162,7 +187,7 @@ fn put_shapes(
     while i < shapes.len() {
         let from = shapes[i][0];
         let to = shapes[i][1];
-        behind = put_shape(second, points, contours, from, to, bytes, behind);
+        behind = put_shape(second, points, contours, widths, from, to, bytes, behind);
         i += 1;
     }
     behind
@@ -174,9 +199,13 @@ pub fn put_file(
     points: &[i32],
     contours: &[[usize; 2]],
     shapes: &[[usize; 2]],
+    widths: &[u8],
     bytes: &mut [u8],
 ) -> usize
-    requires { ⌜ Ripe second (now points) (now contours) (now shapes) (now bytes) ⌝ }
+    requires { ⌜
+        Ripe second (now points) (now contours) (now shapes) (now bytes)
+        × (second ≡ true → Widths (now points) (now contours) (length (now contours)) (now widths))
+        ⌝ }
     ensures { λ r. ⌜
         (now (bytes .exit)
         ≡ front (file-with second (now (points .entry)) (now (contours .entry)) (now (shapes .entry)))
@@ -191,6 +220,6 @@ pub fn put_file(
         kept: 0,
         width: 0,
     };
-    let done = put_shapes(second, points, contours, shapes, bytes, pen);
+    let done = put_shapes(second, points, contours, shapes, widths, bytes, pen);
     pens::lift(bytes, done)
 }

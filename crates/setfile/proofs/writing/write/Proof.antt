@@ -1,5 +1,6 @@
 -- `setfile::writing::write` meets its contract: refused, no room, or the file in front of the row.
 use mathlib.Core.Path.{_≡_, sym, _∙_}
+use mathlib.Core.Bool.{false≢true}
 use borrow.Author.Needs.{needs}
 use Rattle.setfile.proofs.OutcomeLaws.{ripe, write-refused, write-full, write-done}
 use Rattle.replies.specs.Ladder.{first-of}
@@ -30,12 +31,15 @@ returns-2 c =
     let s = measured .before .before .args in
     write-full (s .points .now) (s .contours .now) (s .shapes .now) (s .bytes .now) (free (c .before)) _ (measured .file-length .ensures) (c .if2 .taken)
 
+slice-aggregate-put-file : tie.Need-slice-aggregate-put-file
+slice-aggregate-put-file c = search needs
+
 put-file-requires : tie.Need-put-file-requires
 put-file-requires c κs =
-    let roomy = c .before in
+    let roomy = c .before .before in
     let measured = roomy .before .before .before in
     let s = measured .before .before .args in
-    ripe (s .points .now) (s .contours .now) (s .shapes .now) (s .bytes .now) (free (roomy .before)) _ (measured .file-length .ensures) (roomy .if2 .left)
+    (ripe (s .points .now) (s .contours .now) (s .shapes .now) (s .bytes .now) (free (roomy .before)) _ (measured .file-length .ensures) (roomy .if2 .left), λ e. absurd (false≢true e))
 
 same-length : tie.Need-same-length
 same-length c = search needs
@@ -43,7 +47,7 @@ same-length c = search needs
 returns-3 : tie.Need-returns-3
 returns-3 c =
     let put = c .before .before in
-    let roomy = put .before .before in
+    let roomy = put .before .before .before in
     let measured = roomy .before .before .before in
     let s = measured .before .before .args in
     write-done (s .points .now) (s .contours .now) (s .shapes .now) (s .bytes .now) (free (roomy .before)) _ (measured .file-length .ensures) (roomy .if2 .left)
@@ -57,6 +61,7 @@ write-spec =
     refused-requires
     returns
     returns-2
+    slice-aggregate-put-file
     put-file-requires
     same-length
     returns-3)

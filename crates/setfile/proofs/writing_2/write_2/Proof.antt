@@ -25,32 +25,40 @@ returns c =
     let s = asked .before .before .args in
     write-refused (s .points .now) (s .contours .now) (s .shapes .now) (s .bytes .now) _ (asked .refused .ensures) (c .if1 .taken)
 
+slice-aggregate-file-length : tie.Need-slice-aggregate-file-length
+slice-aggregate-file-length c = search needs
+
 file-length-requires : tie.Need-file-length-requires
 file-length-requires c κs =
-    let s = c .before .before .before .args in
-    let r = regular-set (s .points .now) (s .contours .now) (s .shapes .now) (free c) in
-    (all-named limit (s .points .now) (s .contours .now) (s .shapes .now) r (omega arith), r .few)
+    let s = c .before .before .before .before .args in
+    let r = regular-set (s .points .now) (s .contours .now) (s .shapes .now) (free (c .before)) in
+    (all-named limit (s .points .now) (s .contours .now) (s .shapes .now) r (omega arith), r .few, r .few)
 
 returns-2 : tie.Need-returns-2
 returns-2 c =
-    let measured = c .before in
-    let s = measured .before .before .before .before .args in
-    write-long (s .points .now) (s .contours .now) (s .shapes .now) (s .bytes .now) (free (measured .before)) _ (measured .file-length .ensures) (c .if2 .taken)
+    let measured = c .before .before in
+    let s = measured .before .before .before .before .before .args in
+    write-long (s .points .now) (s .contours .now) (s .shapes .now) (s .bytes .now) (free (measured .before .before)) _ (measured .file-length .ensures .0) (c .if2 .taken)
 
 returns-3 : tie.Need-returns-3
 returns-3 c =
     let short = c .before in
-    let measured = short .before in
-    let s = measured .before .before .before .before .args in
-    write-full (s .points .now) (s .contours .now) (s .shapes .now) (s .bytes .now) (free (measured .before)) _ (measured .file-length .ensures) (short .if2 .left) (c .if3 .taken)
+    let measured = short .before .before in
+    let s = measured .before .before .before .before .before .args in
+    write-full (s .points .now) (s .contours .now) (s .shapes .now) (s .bytes .now) (free (measured .before .before)) _ (measured .file-length .ensures .0) (short .if2 .left) (c .if3 .taken)
+
+slice-aggregate-put-file : tie.Need-slice-aggregate-put-file
+slice-aggregate-put-file c = search needs
 
 put-file-requires : tie.Need-put-file-requires
 put-file-requires c κs =
-    let roomy = c .before in
+    let roomy = c .before .before in
     let short = roomy .before in
-    let measured = short .before in
-    let s = measured .before .before .before .before .args in
-    ripe (s .points .now) (s .contours .now) (s .shapes .now) (s .bytes .now) (free (measured .before)) _ (measured .file-length .ensures) (short .if2 .left) (roomy .if3 .left)
+    let measured = short .before .before in
+    let s = measured .before .before .before .before .before .args in (
+      ripe (s .points .now) (s .contours .now) (s .shapes .now) (s .bytes .now) (free (measured .before .before)) _ (measured .file-length .ensures .0) (short .if2 .left) (roomy .if3 .left),
+      λ e. measured .file-length .ensures .1,
+    )
 
 same-length : tie.Need-same-length
 same-length c = search needs
@@ -58,11 +66,11 @@ same-length c = search needs
 returns-4 : tie.Need-returns-4
 returns-4 c =
     let put = c .before .before in
-    let roomy = put .before .before in
+    let roomy = put .before .before .before in
     let short = roomy .before in
-    let measured = short .before in
-    let s = measured .before .before .before .before .args in
-    write-done (s .points .now) (s .contours .now) (s .shapes .now) (s .bytes .now) (free (measured .before)) _ (measured .file-length .ensures) (short .if2 .left) (roomy .if3 .left)
+    let measured = short .before .before in
+    let s = measured .before .before .before .before .before .args in
+    write-done (s .points .now) (s .contours .now) (s .shapes .now) (s .bytes .now) (free (measured .before .before)) _ (measured .file-length .ensures .0) (short .if2 .left) (roomy .if3 .left)
     _ _ (put .put-file .ensures .0) (put .put-file .ensures .1)
 
 pub write-2-spec : {M : Type 1} → statement M
@@ -71,9 +79,11 @@ write-2-spec =
     (tie.spec
     refused-requires
     returns
+    slice-aggregate-file-length
     file-length-requires
     returns-2
     returns-3
+    slice-aggregate-put-file
     put-file-requires
     same-length
     returns-4)

@@ -10,15 +10,15 @@ use Rattle.setfile.proofs.inner.putting.put_shapes.Statement.{statement
 use Rattle.setfile.proofs.inner.putting.put_shapes.Tie as tie
 
 abbrev Inv-loop : tie.InvT-loop
-Inv-loop second points contours shapes bytes₀ pen i₀ bytes behind i =
+Inv-loop second points contours shapes widths bytes₀ pen i₀ bytes behind i =
     Inking pen (shapes-bits second points contours shapes) bytes₀ behind (shapes-bits second points contours (drop i shapes)) bytes
     × (behind .width ≤ most-kept second)
 
 abbrev μ-loop : tie.MeasureT-loop
-μ-loop second points contours shapes bytes₀ pen i₀ bytes behind i = length shapes - i
+μ-loop second points contours shapes widths bytes₀ pen i₀ bytes behind i = length shapes - i
 
 loop-holds : tie.Need-loop-holds Inv-loop μ-loop
-loop-holds c = let pre = c .before .pre .2 in (none-inked _ _ _ (pre .small) (pre .room), pre .few)
+loop-holds c = let pre = c .before .before .pre .3 in (none-inked _ _ _ (pre .small) (pre .room), pre .few)
 
 mul-from : tie.Need-mul-from Inv-loop μ-loop
 mul-from c = search needs
@@ -42,10 +42,14 @@ put-shape-requires : tie.Need-put-shape-requires Inv-loop μ-loop
 put-shape-requires c κs =
     let more = c .before .before .before in
     let pass = more .before in
-    let s = pass .before .before in
+    let s = pass .before .before .before in
     let v = pass .loop .inv in
     let h = more .loop-test .taken in (
       λ k l. s .pre .0 k (omega (arith, l, s .pre .1 (pass .loop .i) h)),
+      λ e. record {
+        all = omega (arith, s .pre .2 e .all, s .pre .1 (pass .loop .i) h);
+        is = λ k l. s .pre .2 e .is k (omega (arith, l, s .pre .1 (pass .loop .i) h));
+      },
       record {
         small = v .0 .wrote .small;
         few = v .1;
@@ -64,7 +68,7 @@ loop-again c =
     let put = c .before .before in
     let more = put .before .before .before .before in
     let pass = more .before in
-    let s = pass .before .before .args in (
+    let s = pass .before .before .before .args in (
       bits-inked (pass .loop .inv .0) (next-shape (s .second) (s .points .now) (s .contours .now) (s .shapes .now) (pass .loop .i) (more .loop-test .taken))
           (put .put-shape .ensures .wrote),
       put .put-shape .ensures .few,
@@ -75,7 +79,7 @@ same-length c = c .before .loop .inv .0 .wrote .long
 
 returns : tie.Need-returns Inv-loop μ-loop
 returns c =
-    let s = c .before .before .before .args in
+    let s = c .before .before .before .before .args in
     let v = c .before .loop .inv in
     record {
       wrote = all-inked (v .0) (no-shape (s .second) (s .points .now) (s .contours .now) (s .shapes .now) (c .before .loop .i) (omega arith));
