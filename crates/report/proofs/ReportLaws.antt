@@ -61,11 +61,12 @@ bound-within true = omega arith
 bound-within false = narrow-within
 
 -- a file that is not refused
-record Accepted (f : List ℕ) : Type 0 where
-  few : length (joined (job f)) ≤ 2 * most-listed
-  sound : Contours (job f)
+pub record Accepted (f : List ℕ) : Type 0 where
+  pub few : length (joined (job f)) ≤ 2 * most-listed
+  pub on : all-on-grid limit (joined (job f)) ≡ true
+  pub sound : Contours (job f)
 
-accepted : (f : List ℕ) → first-of (listing-refusals f) ≡ 0 → Accepted f
+pub accepted : (f : List ℕ) → first-of (listing-refusals f) ≡ 0 → Accepted f
 accepted f e =
     let c = clear-reading f (front-clear (refusals f) _ e) in
     let r : first-of (room (leb (count (joined (job f))) most-listed)) ≡ 0 = sym (past-clear (refusals f) _ c) ∙ e in
@@ -73,7 +74,7 @@ accepted f e =
     let even : Even (job f) = job-sized f .even in
     let few : length (joined (job f)) ≤ 2 * most-listed = omega (arith, points-total (job f) even) in
     let on : all-on-grid limit (joined (job f)) ≡ true = all-on-wider (bound (is-second f)) limit _ (bound-within (is-second f)) (not-false _ (c .1 .1 .0)) in
-    record { few = few; sound = all-contours (job f) even on few }
+    record { few = few; on = on; sound = all-contours (job f) even on few }
 
 -- the listing, by the first refusal
 listing-refused : (f : List ℕ) (k : ℕ) → k ≡ first-of (listing-refusals f) → (k ≡ 0 → ⊥) → listing f ≡ refused ++ decimal k ++ line-end

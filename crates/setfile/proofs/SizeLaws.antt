@@ -57,7 +57,7 @@ pub record Carried (l : List Entry) : Type 0 where
   pub shapes-few : length (shapes-of l) ≤ 4095
   pub even : Even (contours-of l)
 
-shapes-few : (l : List Entry) → length (shapes-of l) ≤ length l
+pub shapes-few : (l : List Entry) → length (shapes-of l) ≤ length l
 unfolding gathered
 shapes-few [] = omega arith
 shapes-few (e ∷ l) = go (e .begins) (shapes-few l)

@@ -118,6 +118,19 @@ pub fn put_signed(text: &mut [u8], at: usize, z: i64) -> usize
     put_number(text, at, size)
 }
 
+// Puts a number between two words.
+pub fn put_between(text: &mut [u8], at: usize, word: &[u8], n: u64, behind: &[u8]) -> usize
+    requires { ⌜ at + length (now word ++ decimal n ++ now behind) ≤ length (now text) ⌝ }
+    ensures { λ r. ⌜
+        Put at (now (word .entry) ++ decimal n ++ now (behind .entry))
+        (now (text .entry)) r (now (text .exit))
+        ⌝ }
+{
+    let second = put(text, at, word);
+    let third = put_number(text, second, n);
+    put(text, third, behind)
+}
+
 // Puts a word, a number behind it, and the end of the line.
 pub fn put_line(text: &mut [u8], at: usize, word: &[u8], n: u64) -> usize
     requires { ⌜ at + length (now word ++ decimal n ++ line-end) ≤ length (now text) ⌝ }
@@ -126,7 +139,5 @@ pub fn put_line(text: &mut [u8], at: usize, word: &[u8], n: u64) -> usize
         (now (text .entry)) r (now (text .exit))
         ⌝ }
 {
-    let second = put(text, at, word);
-    let third = put_number(text, second, n);
-    put(text, third, b"\n")
+    put_between(text, at, word, n, b"\n")
 }
