@@ -1,5 +1,6 @@
 //! `lists list` writes the list of cases; `lists answers` reads a list and writes the answers
-//! to it; `lists listings` writes set files and their listings.
+//! to it; `lists listings` writes set files and their listings, and `lists changes` pairs
+//! of set files and what is said of them.
 
 use lists::{answer, files, list, HEADER};
 use std::io::{self, BufRead, BufWriter, Write};
@@ -11,7 +12,8 @@ fn main() -> ExitCode {
         ["list"] => write_list(),
         ["answers"] => write_answers(),
         ["listings", folder] => files::write_listings(folder.as_ref()).map_err(Into::into),
-        _ => Err("usage: lists list | lists answers <list | lists listings FOLDER".into()),
+        ["changes", folder, count] => write_changes(folder, count),
+        _ => Err(USAGE.into()),
     };
     match outcome {
         Ok(()) => ExitCode::SUCCESS,
@@ -21,6 +23,9 @@ fn main() -> ExitCode {
         }
     }
 }
+
+const USAGE: &str =
+    "usage: lists list | lists answers <list | lists listings FOLDER | lists changes FOLDER COUNT";
 
 type Outcome = Result<(), Box<dyn std::error::Error>>;
 
@@ -41,4 +46,9 @@ fn write_answers() -> Outcome {
         writeln!(out, "{number} {answer}")?;
     }
     Ok(out.flush()?)
+}
+
+/// Writes the chosen pairs of files and so many random ones.
+fn write_changes(folder: &str, count: &str) -> Outcome {
+    Ok(files::write_changes(folder.as_ref(), count.parse()?)?)
 }

@@ -44,7 +44,7 @@ pub fn listing(file: &[u8]) -> String {
 
 /// The contours of a file, or the first refusal that is due: that of the reader, or 5 for more points than there is
 /// room for.
-fn listed(file: &[u8]) -> Reply<(Edition, Vec<Vec<Point>>)> {
+pub(super) fn listed(file: &[u8]) -> Reply<(Edition, Vec<Vec<Point>>)> {
     let (edition, shapes) = read(file)?;
     let contours = shapes.concat();
     refused_if(contours.concat().len() > MOST_LISTED, ROOM)?;

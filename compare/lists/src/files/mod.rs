@@ -3,6 +3,7 @@
 
 mod answers;
 pub mod case;
+mod changes;
 pub mod damaged;
 pub mod edition_2;
 mod large;
@@ -15,6 +16,7 @@ pub mod writings;
 
 pub use answers::{answer, Reading, Writing};
 pub use case::Case;
+pub use changes::write_changes;
 pub use listing::write_listings;
 pub use mend::{Lent, Mending};
 
