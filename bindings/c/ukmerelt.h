@@ -43,30 +43,51 @@ extern "C" {
 /* The most points of a contour or a set, and the most bytes of a file. */
 #define UKM_MOST 65536
 
-/* The replies. */
+/* The replies: number, name and words. UKM_REPLIES(X) is X(number, name, words) for each of them. Of 3, an edition 1 file
+ * and a drawing have the narrow grid; of 5, a program has room for so many points. */
+#define UKM_REPLIES(X) \
+    X(0, UKM_DONE, "done") \
+    X(1, UKM_ODD, "an odd count of coordinates") \
+    X(2, UKM_TOO_MANY, "over 65,536 points, or a file of over 65,536 bytes") \
+    X(3, UKM_OFF_GRID, "a coordinate off the grid") \
+    X(4, UKM_SCRATCH, "a scratch row with fewer entries than there are points") \
+    X(5, UKM_ROOM, "an output row that is too short; for a program, over 8,192 points") \
+    X(6, UKM_RANGES, "ranges, or a pool, that are not sound") \
+    X(7, UKM_COLLAPSED, "collapsed: fewer than three points would stay") \
+    X(8, UKM_EMPTY, "the area or the winding of an empty contour, or the area of a set that has one") \
+    X(9, UKM_EDITION, "the file's edition is neither 1 nor 2, or, to be salvaged, not 1") \
+    X(10, UKM_LENGTH, "the file ends too soon, or has bytes left over") \
+    X(11, UKM_NO_SHAPE, "the file's first contour begins no shape") \
+    X(12, UKM_CANT_CARRY, "no file carries it: over 4,095 contours, over 32,767 points in one, or an empty shape") \
+    X(13, UKM_NO_DRAWING, "kinds and floats whose lengths don't match, no kind, or a Line or Close with nothing open") \
+    X(14, UKM_NOT_FINITE, "a place that is a NaN or an infinity") \
+    X(15, UKM_WIDTH, "the file has a contour in another width than the smallest") \
+    X(16, UKM_FILL, "the file's last byte is not filled up with zero bits") \
+    X(17, UKM_FULL, "the press's points would pass the pool less the other's part") \
+    X(18, UKM_NONE_LEFT, "the press has no contour left to remove") \
+    X(19, UKM_TOOL, "another tool than 0, which no file carries") \
+    X(20, UKM_NO_STEP, "a step of another kind or press, with a count below 0, or cut short") \
+    X(21, UKM_FIGURES_FULL, "over 65,535 contours and refused sets in all")
+
 enum {
-    UKM_DONE = 0,        /* done */
-    UKM_ODD = 1,         /* an odd count of coordinates */
-    UKM_TOO_MANY = 2,    /* over 65,536 points, also promised by a file, or a file, read or to be written, over 65,536
-                          * bytes */
-    UKM_OFF_GRID = 3,    /* a coordinate, or the asked point, beyond 1,073,741,823 either side of 0; of an edition 1 file
-                          * or a drawing, beyond 536,870,912 */
-    UKM_SCRATCH = 4,     /* a scratch row with fewer entries than the input has points */
-    UKM_ROOM = 5,        /* an output row that is too short */
-    UKM_RANGES = 6,      /* ranges that are not sound */
-    UKM_COLLAPSED = 7,   /* collapsed: under three points, or cleaned away */
-    UKM_EMPTY = 8,       /* the area or the winding of an empty contour, or the area of a set that has one */
-    UKM_EDITION = 9,     /* a file whose edition is neither 1 nor 2; to be salvaged, one whose edition is not 1 */
-    UKM_LENGTH = 10,     /* a file that is short or has bytes left over */
-    UKM_NO_SHAPE = 11,   /* a file whose first contour does not begin a shape */
-    UKM_CANT_CARRY = 12, /* a set that no file carries: over 4,095 contours, 32,767 points in one, or an empty shape */
-    UKM_NO_DRAWING = 13, /* kinds and floats whose lengths don't match, no kind, or a Line or Close with nothing open */
-    UKM_NOT_FINITE = 14, /* a place that is a NaN or an infinity */
-    UKM_WIDTH = 15,      /* a file with a width that is 0, over 32, or not the smallest for its contour */
-    UKM_FILL = 16,       /* a file with a fill bit set in its last byte */
-    UKM_FULL = 17,       /* the press's held points would pass the pool less the other's part */
-    UKM_NONE_LEFT = 18   /* removing with none left */
+#define UKM_NUMBER(number, name, words) name = number,
+    UKM_REPLIES(UKM_NUMBER)
+#undef UKM_NUMBER
+    UKM_REPLIES_END /* one past the last */
 };
+
+/* A reply in words. This is no function of the library: it stands here. */
+static inline const char *ukm_reply_text(uint32_t reply)
+{
+    switch (reply) {
+#define UKM_WORDS(number, name, words) \
+    case number: \
+        return words;
+        UKM_REPLIES(UKM_WORDS)
+#undef UKM_WORDS
+    }
+    return "a number that is no reply";
+}
 
 /* The kinds of command in a drawing. */
 enum {
