@@ -43,13 +43,12 @@ extern "C" {
 /* The most points of a contour or a set, and the most bytes of a file. */
 #define UKM_MOST 65536
 
-/* The replies: number, name and words. UKM_REPLIES(X) is X(number, name, words) for each of them. Of 3, an edition 1 file
- * and a drawing have the narrow grid; of 5, a program has room for so many points. */
+/* The replies: number, name and words. UKM_REPLIES(X) is X(number, name, words) for each of them. */
 #define UKM_REPLIES(X) \
     X(0, UKM_DONE, "done") \
     X(1, UKM_ODD, "an odd count of coordinates") \
     X(2, UKM_TOO_MANY, "over 65,536 points, or a file of over 65,536 bytes") \
-    X(3, UKM_OFF_GRID, "a coordinate off the grid") \
+    X(3, UKM_OFF_GRID, "a coordinate beyond 1,073,741,823 either side of 0; of an edition 1 file or a drawing, beyond 536,870,912") \
     X(4, UKM_SCRATCH, "a scratch row with fewer entries than there are points") \
     X(5, UKM_ROOM, "an output row that is too short; for a program, over 8,192 points") \
     X(6, UKM_RANGES, "ranges, or a pool, that are not sound") \
