@@ -27,11 +27,10 @@ static void one_contour(void)
     printf("simple: %s\n", ukm_is_simple(contour, LENGTH(contour)).yes ? "yes" : "no");
     printf("contains (1,1): %s\n", ukm_contains(contour, LENGTH(contour), 1, 1).yes ? "yes" : "no");
 
-    /* The scratch has an entry for each point, and the output room for the whole input. */
-    uint32_t *next = malloc(n * sizeof *next);
-    uint32_t *prev = malloc(n * sizeof *prev);
-    uint8_t *mark = malloc(n);
-    int32_t *out = malloc(sizeof contour);
+    uint32_t *next = malloc(UKM_SCRATCH_NEED(n) * sizeof *next);
+    uint32_t *prev = malloc(UKM_SCRATCH_NEED(n) * sizeof *prev);
+    uint8_t *mark = malloc(UKM_SCRATCH_NEED(n) * sizeof *mark);
+    int32_t *out = malloc(UKM_OUT_NEED(n) * sizeof *out);
     UkmCleaned cleaned = ukm_simplified(contour, LENGTH(contour), next, n, prev, n, mark, n, out, LENGTH(contour));
     if (cleaned.reply == UKM_DONE) {
         printf("simplified, after %zu decisions in %zu turns:", cleaned.decisions, cleaned.turns);
@@ -135,7 +134,7 @@ static void two_editions(void)
 {
     const int32_t points[] = {0, 0, 2, 0, 4, 0, 4, 4, 0, 4};
     const UkmRange contours[] = {{0, 5}}, shapes[] = {{0, 1}};
-    uint8_t first[64], second[64];
+    uint8_t first[UKM_FILE_NEED(5, 1)], second[UKM_FILE_2_NEED(5, 1)];
     int32_t out[10];
     UkmRange records[1], groups[1];
 
@@ -198,8 +197,8 @@ static void two_sets(void)
 /* Two presses put contours in one pool; the first removes its newest, and the other's moves down. */
 static void two_presses(void)
 {
-    static int32_t points[2 * UKM_MOST];
-    static UkmRecord records[UKM_MOST];
+    static int32_t points[UKM_POOL_POINTS_NEED];
+    static UkmRecord records[UKM_POOL_RECORDS_NEED];
     const int32_t triangle[] = {0, 0, 4, 0, 0, 4}, pin[] = {7, 8};
     size_t contours = 0;
 
@@ -230,6 +229,7 @@ int main(void)
     two_sets();
     two_presses();
 
-    printf("area of nothing: reply %" PRIu32 "\n", ukm_area(NULL, 0).reply);
+    uint32_t reply = ukm_area(NULL, 0).reply;
+    printf("area of nothing: reply %" PRIu32 ", %s\n", reply, ukm_reply_text(reply));
     return 0;
 }

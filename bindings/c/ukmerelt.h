@@ -33,6 +33,11 @@
 extern "C" {
 #endif
 
+/* The version of this header and of the library that it declares; CHANGELOG.md has what each brought. The number is
+ * 10000 * major + 100 * minor + patch. */
+#define UKM_VERSION "0.2.0"
+#define UKM_VERSION_NUMBER 200
+
 /* The largest coordinate of the grid, either side of 0: of contours, of sets, and of points asked about. */
 #define UKM_LIMIT 1073741823
 
@@ -42,6 +47,32 @@ extern "C" {
 
 /* The most points of a contour or a set, and the most bytes of a file. */
 #define UKM_MOST 65536
+
+/* What rows need, in elements: with so many no call is refused with 4 or 5. points and contours are counts, of type
+ * size_t; a row of points has two numbers for each. */
+
+/* Each row of scratch, and the output of a cleaning, a packing or an addition. */
+#define UKM_SCRATCH_NEED(points) (points)
+#define UKM_OUT_NEED(points) (2 * (points))
+
+/* The bytes of ukm_write_set, exactly, and of ukm_write_set_2, at most. */
+#define UKM_FILE_NEED(points, contours) (2 + 2 * (contours) + 8 * (points))
+#define UKM_FILE_2_NEED(points, contours) (2 + (22 * (contours) + 64 * (points) + 7) / 8)
+
+/* The output of ukm_read_set, at most; its records and its groups, and those of ukm_salvage, by a file's first two bytes. */
+#define UKM_READ_OUT_NEED(bytes_len) (8 * (bytes_len) < 2 * UKM_MOST ? 8 * (bytes_len) : 2 * UKM_MOST)
+#define UKM_READ_RECORDS_NEED(bytes) ((size_t)((bytes)[0] & 15) * 256 + (bytes)[1])
+
+/* The points of ukm_import_mm, exactly, and its records, at most; the kinds of ukm_export_mm, at most, and its floats. */
+#define UKM_IMPORT_POINTS_NEED(floats_len) (floats_len)
+#define UKM_IMPORT_RECORDS_NEED(floats_len) ((floats_len) / 2)
+#define UKM_EXPORT_KINDS_NEED(points) (2 * (points))
+#define UKM_EXPORT_FLOATS_NEED(points) (2 * (points))
+
+/* The listing of ukm_compare_sets, by both counts of contours, and the rows of a pool. */
+#define UKM_LISTING_NEED(contours, others) ((contours) < (others) ? (others) : (contours))
+#define UKM_POOL_POINTS_NEED (2 * UKM_MOST)
+#define UKM_POOL_RECORDS_NEED UKM_MOST
 
 /* The replies: number, name and words. UKM_REPLIES(X) is X(number, name, words) for each of them. */
 #define UKM_REPLIES(X) \
