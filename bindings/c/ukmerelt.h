@@ -82,7 +82,7 @@ extern "C" {
     X(3, UKM_OFF_GRID, "a coordinate beyond 1,073,741,823 either side of 0; of an edition 1 file or a drawing, beyond 536,870,912") \
     X(4, UKM_SCRATCH, "a scratch row with fewer entries than there are points") \
     X(5, UKM_ROOM, "an output row that is too short; for a program, over 8,192 points") \
-    X(6, UKM_RANGES, "ranges, or a pool, that are not sound") \
+    X(6, UKM_RANGES, "ranges that are not sound") \
     X(7, UKM_COLLAPSED, "collapsed: fewer than three points would stay") \
     X(8, UKM_EMPTY, "the area or the winding of an empty contour, or the area of a set that has one") \
     X(9, UKM_EDITION, "the file's edition is neither 1 nor 2, or, to be salvaged, not 1") \

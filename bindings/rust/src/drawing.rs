@@ -32,16 +32,20 @@ use crate::refused::Refused;
 #[repr(C)]
 #[derive(Debug, Clone, Copy, PartialEq, Default)]
 pub struct Place {
+    /// To the right.
     pub x: f64,
+    /// Upward.
     pub y: f64,
 }
 
 impl Place {
+    /// The place x, y.
     pub const fn new(x: f64, y: f64) -> Self {
         Place { x, y }
     }
 }
 
+/// A command of a drawing.
 #[derive(Debug, Clone, Copy, PartialEq)]
 pub enum Command {
     /// Ends an open contour and begins one.

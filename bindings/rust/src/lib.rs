@@ -20,6 +20,7 @@
 //! Coordinates and points asked about lie within [`LIMIT`] of 0, those of edition 1 files and of drawings within
 //! [`NARROW_LIMIT`], and a contour or a set has at most 65,536 points. What is beyond is refused, as is all else that
 //! i_shape would panic at or answer without sense: [`Refused`] says why.
+#![deny(missing_docs)]
 
 pub mod drawing;
 pub mod flat;
@@ -47,8 +48,11 @@ pub const NARROW_LIMIT: i32 = 536_870_912;
 /// a marked point.
 #[derive(Debug, Clone, PartialEq, Eq)]
 pub struct Cleaned<T> {
+    /// The contour, the shape or the set that is left.
     pub kept: T,
+    /// How often the walk looked at a vertex and decided whether it stays.
     pub decisions: usize,
+    /// How often it was at a vertex, to decide or to step over one that it had marked.
     pub turns: usize,
 }
 

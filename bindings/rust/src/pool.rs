@@ -7,7 +7,9 @@ use crate::refused::Refused;
 /// One of the two presses.
 #[derive(Debug, Clone, Copy, PartialEq, Eq)]
 pub enum Press {
+    /// The first.
     First,
+    /// The second.
     Second,
 }
 

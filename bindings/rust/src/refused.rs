@@ -7,45 +7,51 @@ use std::fmt;
 #[derive(Clone, Copy, PartialEq, Eq)]
 #[non_exhaustive]
 pub enum Refused {
-    /// 1
+    /// 1: an odd count of coordinates.
     Odd,
-    /// 2
+    /// 2: over 65,536 points, or a file of over 65,536 bytes.
     TooMany,
     /// 3: a coordinate or the asked point is beyond [`LIMIT`](crate::LIMIT), or that of an edition 1 file or a drawing
     /// beyond [`NARROW_LIMIT`](crate::NARROW_LIMIT).
     OffGrid,
-    /// 4
+    /// 4: a scratch row with fewer entries than there are points.
     Scratch,
-    /// 5
+    /// 5: an output row that is too short; for a program, over 8,192 points.
     Room,
-    /// 6
+    /// 6: ranges that are not sound.
     Ranges,
     /// 7. Every turn of a walk that collapses decides, so there are as many.
-    Collapsed { decisions: usize },
-    /// 8
+    Collapsed {
+        /// How many the walk made.
+        decisions: usize,
+    },
+    /// 8: the area or the winding of an empty contour, or the area of a set that has one.
     Empty,
-    /// 9
+    /// 9: the file's edition is neither 1 nor 2, or, to be salvaged, not 1.
     Edition,
-    /// 10
+    /// 10: the file ends too soon, or has bytes left over.
     Length,
-    /// 11
+    /// 11: the file's first contour begins no shape.
     NoShape,
-    /// 12
+    /// 12: no file carries it: over 4,095 contours, over 32,767 points in one, or an empty shape.
     CantCarry,
-    /// 13
+    /// 13: kinds and floats whose lengths don't match, no kind, or a Line or Close with nothing open.
     NoDrawing,
-    /// 14
+    /// 14: a place that is a NaN or an infinity.
     NotFinite,
-    /// 15
+    /// 15: the file has a contour in another width than the smallest.
     Width,
-    /// 16
+    /// 16: the file's last byte is not filled up with zero bits.
     Fill,
-    /// 17
+    /// 17: the press's points would pass the pool less the other's part.
     Full,
-    /// 18
+    /// 18: the press has no contour left to remove.
     NoneLeft,
     /// A number that a later library has, and that this crate has no name for.
-    Unknown { reply: u32 },
+    Unknown {
+        /// The number.
+        reply: u32,
+    },
 }
 
 impl Refused {
@@ -106,11 +112,9 @@ impl fmt::Display for Refused {
         f.write_str(match self {
             Refused::Odd => "an odd count of coordinates",
             Refused::TooMany => "over 65,536 points, or a file of over 65,536 bytes",
-            Refused::OffGrid => {
-                "a coordinate, or the asked point, beyond 1,073,741,823 either side of 0; of an edition 1 file or a drawing, beyond 536,870,912"
-            }
+            Refused::OffGrid => "a coordinate beyond 1,073,741,823 either side of 0; of an edition 1 file or a drawing, beyond 536,870,912",
             Refused::Scratch => "a scratch row with fewer entries than there are points",
-            Refused::Room => "an output row that is too short",
+            Refused::Room => "an output row that is too short; for a program, over 8,192 points",
             Refused::Ranges => "ranges that are not sound",
             Refused::Collapsed { decisions } => {
                 return write!(
@@ -118,25 +122,17 @@ impl fmt::Display for Refused {
                     "collapsed: fewer than three points would stay (decisions made: {decisions})"
                 );
             }
-            Refused::Empty => {
-                "the area or the winding of an empty contour, or the area of a set that has one"
-            }
-            Refused::Edition => {
-                "a file of an edition that is not known, or, to be salvaged, of another than 1"
-            }
-            Refused::Length => "a file that is short or has bytes left over",
-            Refused::NoShape => "a file whose first contour does not begin a shape",
-            Refused::CantCarry => {
-                "a set that no file carries: over 4,095 contours, over 32,767 points in one, or an empty shape"
-            }
-            Refused::NoDrawing => {
-                "kinds and floats whose lengths don't match, no kind, or a Line or Close with nothing open"
-            }
+            Refused::Empty => "the area or the winding of an empty contour, or the area of a set that has one",
+            Refused::Edition => "the file's edition is neither 1 nor 2, or, to be salvaged, not 1",
+            Refused::Length => "the file ends too soon, or has bytes left over",
+            Refused::NoShape => "the file's first contour begins no shape",
+            Refused::CantCarry => "no file carries it: over 4,095 contours, over 32,767 points in one, or an empty shape",
+            Refused::NoDrawing => "kinds and floats whose lengths don't match, no kind, or a Line or Close with nothing open",
             Refused::NotFinite => "a place that is a NaN or an infinity",
-            Refused::Width => "a file whose differences are not in the smallest width, 1 to 32",
-            Refused::Fill => "a file whose last byte is not filled up with zero bits",
-            Refused::Full => "points that would pass the pool less the other press's part",
-            Refused::NoneLeft => "no contour of the press is left to remove",
+            Refused::Width => "the file has a contour in another width than the smallest",
+            Refused::Fill => "the file's last byte is not filled up with zero bits",
+            Refused::Full => "the press's points would pass the pool less the other's part",
+            Refused::NoneLeft => "the press has no contour left to remove",
             Refused::Unknown { reply } => {
                 return write!(f, "the library's reply {reply}, which has no words here");
             }
@@ -162,6 +158,34 @@ mod tests {
         for reply in 1..=u32::from(u8::MAX) {
             assert_eq!(Refused::read(reply, 0).map_err(Refused::number), Err(reply));
         }
+    }
+
+    /// The words of a reply in the C header's table, which the launcher says too.
+    fn words_in_header(reply: u32) -> Option<&'static str> {
+        let header = include_str!("../../c/ukmerelt.h");
+        let start = format!("X({reply}, UKM_");
+        let line = header
+            .lines()
+            .find(|line| line.trim_start().starts_with(&start))?;
+        line.split('"').nth(1)
+    }
+
+    #[test]
+    fn words_are_the_headers() {
+        for reply in 1..=18 {
+            let said = Refused::read(reply, 5).unwrap_err().to_string();
+            let words = said.strip_suffix(" (decisions made: 5)").unwrap_or(&said);
+            assert_eq!(Some(words), words_in_header(reply));
+        }
+        assert_eq!(words_in_header(0), Some("done"));
+        assert_eq!(words_in_header(22), None);
+    }
+
+    #[test]
+    fn the_version_is_the_headers() {
+        let version = format!("#define UKM_VERSION \"{}\"", env!("CARGO_PKG_VERSION"));
+        let header = include_str!("../../c/ukmerelt.h");
+        assert!(header.lines().any(|line| line == version));
     }
 
     #[test]

@@ -1,3 +1,5 @@
+//! Sets in flat rows: packing, adding, unpacking, questions and cleanings.
+
 use crate::int::point::IntPoint;
 use crate::int::shape::{IntContour, IntShape, IntShapes};
 use crate::library::{self, Scratch, MOST};
@@ -10,7 +12,9 @@ use crate::Cleaned;
 /// ends at the count of points. With others questions, cleanings and additions are refused as [`Refused::Ranges`].
 #[derive(Debug, Clone, PartialEq, Eq, Default)]
 pub struct FlatContoursBuffer {
+    /// The points of all contours, end to end.
     pub points: Vec<IntPoint>,
+    /// For each contour where its points start and end.
     pub ranges: Vec<[usize; 2]>,
 }
 
@@ -20,8 +24,11 @@ pub struct FlatContoursBuffer {
 /// such call is refused too.
 #[derive(Debug, Clone, PartialEq, Eq, Default)]
 pub struct FlatShapesBuffer {
+    /// The points of all contours, end to end.
     pub points: Vec<IntPoint>,
+    /// For each contour where its points start and end.
     pub contour_ranges: Vec<[usize; 2]>,
+    /// For each shape where its contours start and end.
     pub shape_ranges: Vec<[usize; 2]>,
 }
 
@@ -34,10 +41,12 @@ impl FlatContoursBuffer {
         }
     }
 
+    /// Whether there are no points, even with ranges.
     pub fn is_empty(&self) -> bool {
         self.points.is_empty()
     }
 
+    /// Whether there is exactly one range.
     pub fn is_single_contour(&self) -> bool {
         self.ranges.len() == 1
     }
@@ -50,6 +59,7 @@ impl FlatContoursBuffer {
         }
     }
 
+    /// The first contour, to be written to.
     pub fn as_first_contour_mut(&mut self) -> &mut [IntPoint] {
         match self.ranges.first() {
             Some(&[start, end]) => self.points.get_mut(start..end).unwrap_or(&mut []),
@@ -65,6 +75,7 @@ impl FlatContoursBuffer {
         Ok(())
     }
 
+    /// Becomes the set of the contours of a shape.
     pub fn set_with_shape(&mut self, shape: &[IntContour]) -> Result<(), Refused> {
         let mut set = FlatShapesBuffer::default();
         set.set_with_shape(shape)?;
@@ -185,6 +196,7 @@ impl FlatShapesBuffer {
         set
     }
 
+    /// Whether there are no points, even with ranges.
     pub fn is_empty(&self) -> bool {
         self.points.is_empty()
     }
@@ -204,6 +216,7 @@ impl FlatShapesBuffer {
         Ok(())
     }
 
+    /// Becomes the set of one shape.
     pub fn set_with_shape(&mut self, shape: &[IntContour]) -> Result<(), Refused> {
         let from = FlatContoursBuffer::of_shape(shape)?;
         let mut set = FlatShapesBuffer::rows(from.points.len(), from.ranges.len(), 1)?;
@@ -219,6 +232,7 @@ impl FlatShapesBuffer {
         Ok(())
     }
 
+    /// Becomes the set of the shapes.
     pub fn set_with_shapes(&mut self, shapes: &[IntShape]) -> Result<(), Refused> {
         let from = FlatShapesBuffer::of_shapes(shapes)?;
         let mut set = from.rows_alike()?;

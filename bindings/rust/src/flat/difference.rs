@@ -1,3 +1,5 @@
+//! What two sets are to each other, contour by contour.
+
 use crate::flat::buffer::FlatContoursBuffer;
 use crate::library;
 use crate::refused::Refused;
@@ -11,21 +13,34 @@ pub enum Line {
     /// 0: the same contour, point by point; or both are empty.
     Same,
     /// 1: the same once the second starts at this point, the smallest such start.
-    Elsewhere { start: usize },
+    Elsewhere {
+        /// The start, from 1 on.
+        start: usize,
+    },
     /// 2: different, first at this point; the shorter count, if one is the beginning of the other.
-    Different { point: usize },
-    /// 3
+    Different {
+        /// The point.
+        point: usize,
+    },
+    /// 3: only the first set has so many contours.
     OnlyFirst,
-    /// 4
+    /// 4: only the second.
     OnlySecond,
     /// A kind that a later library has, and that this crate has no name for.
-    Unknown { kind: usize, place: usize },
+    Unknown {
+        /// The library's number for it.
+        kind: usize,
+        /// What goes with that kind.
+        place: usize,
+    },
 }
 
 /// Why two sets were not compared: a set that is refused, 1 the first or 2 the second, and why.
 #[derive(Clone, Copy, PartialEq, Eq)]
 pub struct RefusedSet {
+    /// 1 for the first, 2 for the second, 0 for neither.
     pub set: u32,
+    /// Why.
     pub refused: Refused,
 }
 

@@ -1,3 +1,5 @@
+//! Set files of both editions, and what is sound of a damaged one.
+
 use crate::flat::buffer::FlatShapesBuffer;
 use crate::library;
 use crate::refused::Refused;
@@ -15,7 +17,10 @@ pub enum Edition {
     /// Each but a contour's first as its differences from the one before, in as few bits as carry all of the contour's.
     Two,
     /// An edition that a later library has, and that this crate has no name for.
-    Unknown { number: u32 },
+    Unknown {
+        /// Its number.
+        number: u32,
+    },
 }
 
 impl Edition {
@@ -41,7 +46,9 @@ impl Edition {
 /// What a file carries.
 #[derive(Debug, Clone, PartialEq, Eq)]
 pub struct Read {
+    /// Which edition the file is.
     pub edition: Edition,
+    /// Its shapes.
     pub set: FlatShapesBuffer,
 }
 
@@ -117,7 +124,9 @@ pub struct Salvaged {
 /// A contour that is left out: its number in the file, from 0, and why.
 #[derive(Debug, Clone, Copy, PartialEq, Eq)]
 pub struct Dropped {
+    /// Its number.
     pub contour: usize,
+    /// Why.
     pub reason: Reason,
 }
 
@@ -125,12 +134,15 @@ pub struct Dropped {
 #[derive(Debug, Clone, Copy, PartialEq, Eq)]
 #[non_exhaustive]
 pub enum Reason {
-    /// 3
+    /// 3: a coordinate is beyond [`NARROW_LIMIT`](crate::NARROW_LIMIT).
     OffGrid,
-    /// 11
+    /// 11: it belongs to no shape that is kept.
     NoShape,
     /// A number that a later library has, and that this crate has no name for.
-    Unknown { number: usize },
+    Unknown {
+        /// The number.
+        number: usize,
+    },
 }
 
 /// What is sound of an edition 1 file whose end is gone, or that has coordinates off the narrow grid, as a file of its

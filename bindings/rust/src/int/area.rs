@@ -1,3 +1,5 @@
+//! The area of a contour, a shape or a set.
+
 use crate::flat::buffer::{FlatContoursBuffer, FlatShapesBuffer};
 use crate::int::point::IntPoint;
 use crate::int::shape::{IntContour, IntShape};

@@ -7,6 +7,7 @@ use crate::library::{self, Scratch};
 use crate::refused::Refused;
 use crate::Cleaned;
 
+/// Whether one contour has spikes, and the contour without them.
 pub trait DeSpikeContour {
     /// Whether, equal neighbours skipped, three or more points are left and the way turns back at none.
     fn has_no_spikes(&self) -> Result<bool, Refused>;
@@ -16,6 +17,7 @@ pub trait DeSpikeContour {
     fn despiked_contour(&self) -> Result<Cleaned<IntContour>, Refused>;
 }
 
+/// The same of a shape, contour by contour.
 pub trait DeSpikeShape {
     /// Whether no contour has spikes.
     fn has_no_spikes(&self) -> Result<bool, Refused>;
@@ -25,6 +27,7 @@ pub trait DeSpikeShape {
     fn despiked_shape(&self) -> Result<Cleaned<IntShape>, Refused>;
 }
 
+/// The same of shapes.
 pub trait DeSpikeShapes {
     /// Whether no contour of any shape has spikes.
     fn has_no_spikes(&self) -> Result<bool, Refused>;

@@ -1,3 +1,5 @@
+//! Convexity, winding, and where a point lies.
+
 use crate::int::point::IntPoint;
 use crate::library;
 use crate::refused::Refused;
@@ -6,6 +8,7 @@ use crate::refused::Refused;
 #[derive(Debug, Clone, Copy, PartialEq, Eq, Hash)]
 #[repr(u8)]
 pub enum Location {
+    /// Neither on an edge nor inside.
     Outside = 0,
     /// On a closed edge: its ends and all between, single points and doubled edges included.
     Boundary = 1,

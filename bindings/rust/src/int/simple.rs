@@ -7,6 +7,7 @@ use crate::library::{self, Scratch};
 use crate::refused::Refused;
 use crate::Cleaned;
 
+/// Whether one contour has such vertices, and the contour without them.
 pub trait SimpleContour {
     /// Whether there are three or more points and no vertex whose two edges have cross product 0.
     fn is_simple(&self) -> Result<bool, Refused>;
@@ -15,6 +16,7 @@ pub trait SimpleContour {
     fn simplified(&self) -> Result<Cleaned<IntContour>, Refused>;
 }
 
+/// The same of a shape, contour by contour.
 pub trait SimpleShape {
     /// Whether every contour is simple.
     fn is_simple(&self) -> Result<bool, Refused>;
@@ -24,6 +26,7 @@ pub trait SimpleShape {
     fn simplified(&self) -> Result<Cleaned<IntShape>, Refused>;
 }
 
+/// The same of shapes.
 pub trait SimpleShapes {
     /// Whether every contour of every shape is simple.
     fn is_simple(&self) -> Result<bool, Refused>;
