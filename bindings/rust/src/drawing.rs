@@ -1,7 +1,7 @@
 //! Drawings in millimetres: outlines as commands, brought onto the grid as contours, and given back.
 //!
 //! A millimetre is 1,024 units of the grid. Drawings lie on the narrow grid, which ends at
-//! [`NARROW_LIMIT`](crate::NARROW_LIMIT), 524,288 mm either side of 0. A coordinate becomes the whole number nearest to
+//! [`NARROW_LIMIT`], 524,288 mm either side of 0. A coordinate becomes the whole number nearest to
 //! 1,024 times its exact value, halves away from zero.
 //!
 //! ```
@@ -26,7 +26,8 @@
 
 use crate::flat::buffer::FlatContoursBuffer;
 use crate::library::{self, MOST};
-use crate::refused::Refused;
+use crate::refused::{At, Refused};
+use crate::NARROW_LIMIT;
 
 /// A place in millimetres.
 #[repr(C)]
@@ -105,8 +106,8 @@ impl FlatContoursBuffer {
     }
 
     /// The drawing of the set: each contour as a Move, Lines and a Close, an empty one as nothing. That loses nothing
-    /// else: [`import_mm`](Self::import_mm) gives the same contours back. Refused as `OffGrid` where a coordinate is
-    /// beyond [`NARROW_LIMIT`](crate::NARROW_LIMIT).
+    /// else: [`import_mm`](Self::import_mm) gives the same contours back. Refused as `OffGridAt` where a coordinate is
+    /// beyond [`NARROW_LIMIT`].
     pub fn export_mm(&self) -> Result<Vec<Command>, Refused> {
         let points = self.points.len();
         library::at_most(points)?;
@@ -114,7 +115,8 @@ impl FlatContoursBuffer {
         let mut kinds = vec![0; 2 * points];
         let mut places = vec![Place::default(); points];
         let drawn = library::export_mm(&self.points, &self.ranges, &mut kinds, &mut places);
-        let (kinds, places) = drawn.read(kinds, places)?;
+        let drawn = drawn.read(kinds, places);
+        let (kinds, places) = drawn.at(&self.points, &self.ranges, NARROW_LIMIT)?;
         let mut places = places.into_iter();
         let mut next = || places.next().unwrap_or_default();
         let command = |kind| match kind {

@@ -39,7 +39,7 @@ pub const LIMIT: i32 = 1_073_741_823;
 /// The largest coordinate of the narrow grid, either side of 0: of set files of edition 1, read, written or salvaged, and
 /// of drawings in millimetres, in and out.
 ///
-/// A set that goes further is cleaned and asked about like any other, and refused as [`Refused::OffGrid`] by
+/// A set that goes further is cleaned and asked about like any other, and refused as [`Refused::OffGridAt`] by
 /// [`write_set`](flat::buffer::FlatShapesBuffer::write_set) and by
 /// [`export_mm`](flat::buffer::FlatContoursBuffer::export_mm).
 pub const NARROW_LIMIT: i32 = 536_870_912;

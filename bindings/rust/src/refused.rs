@@ -1,3 +1,4 @@
+use crate::int::point::IntPoint;
 use std::error::Error;
 use std::fmt;
 
@@ -11,9 +12,16 @@ pub enum Refused {
     Odd,
     /// 2: over 65,536 points, or a file of over 65,536 bytes.
     TooMany,
-    /// 3: a coordinate or the asked point is beyond [`LIMIT`](crate::LIMIT), or that of an edition 1 file or a drawing
-    /// beyond [`NARROW_LIMIT`](crate::NARROW_LIMIT).
+    /// 3: the asked point, or a coordinate of a file or a drawing, or of what is added to a set, is beyond
+    /// [`LIMIT`](crate::LIMIT), or [`NARROW_LIMIT`](crate::NARROW_LIMIT) where that is the grid.
     OffGrid,
+    /// 3 too: this point of the contour or the set is.
+    OffGridAt {
+        /// Which contour has it, from 0; 0 for a contour by itself.
+        contour: usize,
+        /// Which of its points it is, from 0.
+        point: usize,
+    },
     /// 4: a scratch row with fewer entries than there are points.
     Scratch,
     /// 5: an output row that is too short; for a program, over 8,192 points.
@@ -60,7 +68,7 @@ impl Refused {
         match self {
             Refused::Odd => 1,
             Refused::TooMany => 2,
-            Refused::OffGrid => 3,
+            Refused::OffGrid | Refused::OffGridAt { .. } => 3,
             Refused::Scratch => 4,
             Refused::Room => 5,
             Refused::Ranges => 6,
@@ -77,6 +85,25 @@ impl Refused {
             Refused::Full => 17,
             Refused::NoneLeft => 18,
             Refused::Unknown { reply } => reply,
+        }
+    }
+
+    /// Where a coordinate is off the grid, the first point of these contours of which one is beyond the limit, if any is.
+    pub(crate) fn at(self, points: &[IntPoint], ranges: &[[usize; 2]], limit: i32) -> Refused {
+        let beyond = |number: i32| number.unsigned_abs() > limit.unsigned_abs();
+        let off = |point: &IntPoint| beyond(point.x) || beyond(point.y);
+        let place = match self {
+            Refused::OffGrid => points.iter().position(off),
+            _ => None,
+        };
+        let Some(place) = place else { return self };
+        let within = |&[start, end]: &[usize; 2]| (start..end).contains(&place);
+        match ranges.iter().position(within) {
+            Some(contour) => Refused::OffGridAt {
+                contour,
+                point: place - ranges[contour][0],
+            },
+            None => self,
         }
     }
 
@@ -113,6 +140,9 @@ impl fmt::Display for Refused {
             Refused::Odd => "an odd count of coordinates",
             Refused::TooMany => "over 65,536 points, or a file of over 65,536 bytes",
             Refused::OffGrid => "a coordinate beyond 1,073,741,823 either side of 0; of an edition 1 file or a drawing, beyond 536,870,912",
+            Refused::OffGridAt { contour, point } => {
+                return write!(f, "contour {contour}, point {point}: {}", Refused::OffGrid);
+            }
             Refused::Scratch => "a scratch row with fewer entries than there are points",
             Refused::Room => "an output row that is too short; for a program, over 8,192 points",
             Refused::Ranges => "ranges that are not sound",
@@ -137,6 +167,18 @@ impl fmt::Display for Refused {
                 return write!(f, "the library's reply {reply}, which has no words here");
             }
         })
+    }
+}
+
+/// What is said of an answer's refusal.
+pub(crate) trait At {
+    /// See [`Refused::at`].
+    fn at(self, points: &[IntPoint], ranges: &[[usize; 2]], limit: i32) -> Self;
+}
+
+impl<T> At for Result<T, Refused> {
+    fn at(self, points: &[IntPoint], ranges: &[[usize; 2]], limit: i32) -> Self {
+        self.map_err(|refused| refused.at(points, ranges, limit))
     }
 }
 

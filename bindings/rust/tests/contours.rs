@@ -142,8 +142,17 @@ fn the_limits() {
         Ok(4 * (i64::from(NARROW_LIMIT) + 1))
     );
     let off = contour([[0, 0], [LIMIT + 1, 0], [0, 4]]);
-    assert_eq!(off.is_simple(), Err(Refused::OffGrid));
-    assert_eq!(off.simplified(), Err(Refused::OffGrid));
+    let at = Refused::OffGridAt {
+        contour: 0,
+        point: 1,
+    };
+    assert_eq!(off.is_simple(), Err(at));
+    assert_eq!(off.simplified(), Err(at));
+    assert_eq!(off.despiked_contour(), Err(at));
+    assert_eq!(off.area(), Err(at));
+    assert_eq!(at.number(), 3);
+    let words = format!("contour 0, point 1: {}", Refused::OffGrid);
+    assert_eq!(at.to_string(), words);
     assert_eq!(
         on.contains_point(IntPoint::new(0, LIMIT + 1)),
         Err(Refused::OffGrid)

@@ -48,7 +48,16 @@ fn a_refusal_says_whose_set_it_is() {
     };
     let many = set(&[&vec![[5, 6]; 65_537]]);
     let refused = |set, refused| Err(RefusedSet { set, refused });
-    assert_eq!(off.compare(&many), refused(1, Refused::OffGrid));
+    assert_eq!(
+        off.compare(&many),
+        refused(
+            1,
+            Refused::OffGridAt {
+                contour: 0,
+                point: 0,
+            }
+        )
+    );
     assert_eq!(sound.compare(&many), refused(2, Refused::TooMany));
     assert_eq!(sound.compare(&loose), refused(2, Refused::Ranges));
     assert_eq!(loose.compare(&off), refused(1, Refused::Ranges));

@@ -142,7 +142,10 @@ fn the_way_back() {
     for off in [NARROW_LIMIT + 1, -NARROW_LIMIT - 1, LIMIT, -LIMIT] {
         assert_eq!(
             set(&[[1, off]], &[[0, 1]]).export_mm(),
-            Err(Refused::OffGrid)
+            Err(Refused::OffGridAt {
+                contour: 0,
+                point: 0,
+            })
         );
     }
 }

@@ -25,7 +25,10 @@ fn there_and_back() {
     );
     // Four headers of 22 bits, three first points, and nine steps in 6, 4 and 3 bits.
     let bytes = set.write_set_2().unwrap();
-    assert_eq!(bytes.len(), 2 + (4 * 22 + 3 * 64 + 6 * (6 + 4 + 3) + 7) / 8);
+    assert_eq!(
+        bytes.len(),
+        2 + (4_usize * 22 + 3 * 64 + 6 * (6 + 4 + 3)).div_ceil(8)
+    );
     assert_eq!(bytes[..4], [0x20, 4, 0x80, 4]);
     assert_eq!(
         FlatShapesBuffer::read_set(&bytes),
@@ -126,9 +129,13 @@ fn files_of_edition_2_go_to_the_ends_of_the_grid() {
         IntPoint::new(LIMIT, -LIMIT),
         IntPoint::new(-LIMIT, LIMIT),
     ]);
-    assert_eq!(ends.write_set(), Err(Refused::OffGrid));
+    let at = Refused::OffGridAt {
+        contour: 0,
+        point: 0,
+    };
+    assert_eq!(ends.write_set(), Err(at));
     let bytes = ends.write_set_2().unwrap();
-    assert_eq!(bytes.len(), 2 + (22 + 64 + 64 + 7) / 8);
+    assert_eq!(bytes.len(), 2 + (22_usize + 64 + 64).div_ceil(8));
     assert_eq!(
         FlatShapesBuffer::read_set(&bytes),
         carried(Edition::Two, &ends)

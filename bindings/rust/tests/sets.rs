@@ -208,11 +208,15 @@ fn a_set_off_the_narrow_grid_is_answered_and_not_carried() {
             .unwrap();
         assert_eq!(set.area_two(), Ok(i64::from(number)));
         assert_eq!(set.in_shape(IntPoint::new(number, 0)), Ok(true));
-        assert_eq!(set.export_mm(), Err(Refused::OffGrid));
+        let at = Refused::OffGridAt {
+            contour: 0,
+            point: 1,
+        };
+        assert_eq!(set.export_mm(), Err(at));
         let mut shapes = FlatShapesBuffer::default();
         shapes.add_shape(&[set.points]).unwrap();
         assert_eq!(shapes.is_simple(), Ok(true));
-        assert_eq!(shapes.write_set(), Err(Refused::OffGrid));
+        assert_eq!(shapes.write_set(), Err(at));
     }
 }
 
@@ -225,7 +229,20 @@ fn ranges_come_before_the_grid_and_before_an_empty_contour() {
     };
     assert_eq!(set.area(), Err(Refused::Ranges));
     set.shape_ranges = vec![[0, 2]];
-    assert_eq!(set.area(), Err(Refused::OffGrid));
+    let at = Refused::OffGridAt {
+        contour: 0,
+        point: 1,
+    };
+    assert_eq!(set.area(), Err(at));
+    set.contour_ranges = vec![[0, 0], [0, 1], [1, 3]];
+    set.shape_ranges = vec![[0, 3]];
+    let at = Refused::OffGridAt {
+        contour: 2,
+        point: 0,
+    };
+    assert_eq!(set.simplified(), Err(at));
+    set.contour_ranges = vec![[0, 3], [3, 3]];
+    set.shape_ranges = vec![[0, 2]];
     set.points[1].x = 1;
     assert_eq!(set.area(), Err(Refused::Empty));
     assert_eq!(set.is_simple(), Ok(false));

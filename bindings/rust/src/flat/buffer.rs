@@ -3,8 +3,8 @@
 use crate::int::point::IntPoint;
 use crate::int::shape::{IntContour, IntShape, IntShapes};
 use crate::library::{self, Scratch, MOST};
-use crate::refused::Refused;
-use crate::Cleaned;
+use crate::refused::{At, Refused};
+use crate::{Cleaned, LIMIT};
 
 /// Contours: their points end to end, and for each the start and the end of its own.
 ///
@@ -122,18 +122,24 @@ impl FlatContoursBuffer {
 
     /// Whether every contour is simple.
     pub fn is_simple(&self) -> Result<bool, Refused> {
-        library::set_is_simple(&self.points, &self.ranges).read()
+        library::set_is_simple(&self.points, &self.ranges)
+            .read()
+            .at(&self.points, &self.ranges, LIMIT)
     }
 
     /// Whether no contour has spikes.
     pub fn has_no_spikes(&self) -> Result<bool, Refused> {
-        library::set_has_no_spikes(&self.points, &self.ranges).read()
+        library::set_has_no_spikes(&self.points, &self.ranges)
+            .read()
+            .at(&self.points, &self.ranges, LIMIT)
     }
 
     /// Whether the set, as a shape, has the point: it is inside the first contour or on its boundary, and inside no later
     /// one. So the rims of the outline and of the holes belong to the shape.
     pub fn in_shape(&self, point: IntPoint) -> Result<bool, Refused> {
-        library::in_shape(&self.points, &self.ranges, point).read()
+        library::in_shape(&self.points, &self.ranges, point)
+            .read()
+            .at(&self.points, &self.ranges, LIMIT)
     }
 
     /// The set, as a shape, simplified: see [`SimpleShape`](crate::int::simple::SimpleShape).
@@ -147,6 +153,7 @@ impl FlatContoursBuffer {
             &mut out.ranges,
         )
         .read_contours(out)
+        .at(&self.points, &self.ranges, LIMIT)
     }
 
     /// The set, as a shape, despiked: see [`DeSpikeShape`](crate::int::despike::DeSpikeShape).
@@ -160,6 +167,7 @@ impl FlatContoursBuffer {
             &mut out.ranges,
         )
         .read_contours(out)
+        .at(&self.points, &self.ranges, LIMIT)
     }
 
     /// The contours end to end, as they are.
@@ -289,12 +297,16 @@ impl FlatShapesBuffer {
 
     /// Whether every contour is simple.
     pub fn is_simple(&self) -> Result<bool, Refused> {
-        library::shapes_is_simple(&self.points, &self.contour_ranges, &self.shape_ranges).read()
+        library::shapes_is_simple(&self.points, &self.contour_ranges, &self.shape_ranges)
+            .read()
+            .at(&self.points, &self.contour_ranges, LIMIT)
     }
 
     /// Whether no contour has spikes.
     pub fn has_no_spikes(&self) -> Result<bool, Refused> {
-        library::shapes_has_no_spikes(&self.points, &self.contour_ranges, &self.shape_ranges).read()
+        library::shapes_has_no_spikes(&self.points, &self.contour_ranges, &self.shape_ranges)
+            .read()
+            .at(&self.points, &self.contour_ranges, LIMIT)
     }
 
     /// The shapes, each simplified: see [`SimpleShapes`](crate::int::simple::SimpleShapes).
@@ -310,6 +322,7 @@ impl FlatShapesBuffer {
             &mut out.shape_ranges,
         )
         .read_shapes(out)
+        .at(&self.points, &self.contour_ranges, LIMIT)
     }
 
     /// The shapes, each despiked: see [`DeSpikeShapes`](crate::int::despike::DeSpikeShapes).
@@ -325,6 +338,7 @@ impl FlatShapesBuffer {
             &mut out.shape_ranges,
         )
         .read_shapes(out)
+        .at(&self.points, &self.contour_ranges, LIMIT)
     }
 
     /// The shapes end to end, as they are.

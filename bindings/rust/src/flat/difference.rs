@@ -3,6 +3,7 @@
 use crate::flat::buffer::FlatContoursBuffer;
 use crate::library;
 use crate::refused::Refused;
+use crate::LIMIT;
 use std::error::Error;
 use std::fmt;
 
@@ -57,6 +58,11 @@ impl FlatContoursBuffer {
             &mut listing,
         )
         .read(&listing)
+        .map_err(|RefusedSet { set, refused }| {
+            let of = if set == 2 { other } else { self };
+            let refused = refused.at(&of.points, &of.ranges, LIMIT);
+            RefusedSet { set, refused }
+        })
     }
 }
 

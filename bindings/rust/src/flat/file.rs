@@ -2,7 +2,8 @@
 
 use crate::flat::buffer::FlatShapesBuffer;
 use crate::library;
-use crate::refused::Refused;
+use crate::refused::{At, Refused};
+use crate::{LIMIT, NARROW_LIMIT};
 use std::fmt;
 
 /// The most contours of a file: its count has twelve bits.
@@ -55,7 +56,7 @@ pub struct Read {
 /// The set file, of both editions.
 impl FlatShapesBuffer {
     /// The set of a file, and which edition that is. Refused as `OffGrid` where a coordinate of edition 1 is beyond
-    /// [`NARROW_LIMIT`](crate::NARROW_LIMIT), or one of edition 2 beyond [`LIMIT`](crate::LIMIT).
+    /// [`NARROW_LIMIT`], or one of edition 2 beyond [`LIMIT`].
     pub fn read_set(bytes: &[u8]) -> Result<Read, Refused> {
         library::at_most(bytes.len())?;
         // A contour takes two bytes or more. A point takes eight bytes in edition 1, and two bits or more in edition 2:
@@ -75,8 +76,8 @@ impl FlatShapesBuffer {
         read.read(set)
     }
 
-    /// The file of the set, of edition 1. Refused as `OffGrid` where a coordinate is beyond
-    /// [`NARROW_LIMIT`](crate::NARROW_LIMIT).
+    /// The file of the set, of edition 1. Refused as `OffGridAt` where a coordinate is beyond
+    /// [`NARROW_LIMIT`].
     pub fn write_set(&self) -> Result<Vec<u8>, Refused> {
         let length = 2 + 2 * self.contour_ranges.len() + 8 * self.points.len();
         library::at_most(length)?;
@@ -88,9 +89,10 @@ impl FlatShapesBuffer {
             &mut bytes,
         )
         .read(bytes)
+        .at(&self.points, &self.contour_ranges, NARROW_LIMIT)
     }
 
-    /// The file of the set, of edition 2. It carries coordinates up to [`LIMIT`](crate::LIMIT), and the smaller the
+    /// The file of the set, of edition 2. It carries coordinates up to [`LIMIT`], and the smaller the
     /// steps from point to point, the shorter it is. Refused as `TooMany` where it would be over 65,536 bytes long.
     pub fn write_set_2(&self) -> Result<Vec<u8>, Refused> {
         library::at_most(self.points.len())?;
@@ -105,6 +107,7 @@ impl FlatShapesBuffer {
             &mut bytes,
         )
         .read(bytes)
+        .at(&self.points, &self.contour_ranges, LIMIT)
     }
 }
 
@@ -134,7 +137,7 @@ pub struct Dropped {
 #[derive(Debug, Clone, Copy, PartialEq, Eq)]
 #[non_exhaustive]
 pub enum Reason {
-    /// 3: a coordinate is beyond [`NARROW_LIMIT`](crate::NARROW_LIMIT).
+    /// 3: a coordinate is beyond [`NARROW_LIMIT`].
     OffGrid,
     /// 11: it belongs to no shape that is kept.
     NoShape,

@@ -4,8 +4,8 @@ use crate::flat::buffer::{FlatContoursBuffer, FlatShapesBuffer};
 use crate::int::point::IntPoint;
 use crate::int::shape::{IntContour, IntShape, IntShapes};
 use crate::library::{self, Scratch};
-use crate::refused::Refused;
-use crate::Cleaned;
+use crate::refused::{At, Refused};
+use crate::{Cleaned, LIMIT};
 
 /// Whether one contour has spikes, and the contour without them.
 pub trait DeSpikeContour {
@@ -38,12 +38,16 @@ pub trait DeSpikeShapes {
 
 impl DeSpikeContour for [IntPoint] {
     fn has_no_spikes(&self) -> Result<bool, Refused> {
-        library::has_no_spikes(self).read()
+        library::has_no_spikes(self)
+            .read()
+            .at(self, &[[0, self.len()]], LIMIT)
     }
 
     fn despiked_contour(&self) -> Result<Cleaned<IntContour>, Refused> {
         let mut out = library::room(self.len())?;
-        library::despiked(self, &mut Scratch::default(), &mut out).read(out)
+        library::despiked(self, &mut Scratch::default(), &mut out)
+            .read(out)
+            .at(self, &[[0, self.len()]], LIMIT)
     }
 }
 

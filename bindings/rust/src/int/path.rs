@@ -2,7 +2,8 @@
 
 use crate::int::point::IntPoint;
 use crate::library;
-use crate::refused::Refused;
+use crate::refused::{At, Refused};
+use crate::LIMIT;
 
 /// Where a point lies of a contour; as a number it is the library's.
 #[derive(Debug, Clone, Copy, PartialEq, Eq, Hash)]
@@ -27,7 +28,7 @@ impl Location {
     }
 }
 
-/// Questions about one contour. Refused as `TooMany` or `OffGrid`.
+/// Questions about one contour. Refused as `TooMany` or `OffGridAt`, and as `OffGrid` for the asked point.
 pub trait ContourExtension {
     /// Whether all turns have one sign and no edge reverses, equal neighbours skipped.
     fn is_convex(&self) -> Result<bool, Refused>;
@@ -45,18 +46,26 @@ pub trait ContourExtension {
 
 impl ContourExtension for [IntPoint] {
     fn is_convex(&self) -> Result<bool, Refused> {
-        library::is_convex(self).read()
+        library::is_convex(self)
+            .read()
+            .at(self, &[[0, self.len()]], LIMIT)
     }
 
     fn is_clockwise_ordered(&self) -> Result<bool, Refused> {
-        library::is_clockwise(self).read()
+        library::is_clockwise(self)
+            .read()
+            .at(self, &[[0, self.len()]], LIMIT)
     }
 
     fn contains_point(&self, point: IntPoint) -> Result<bool, Refused> {
-        library::contains(self, point).read()
+        library::contains(self, point)
+            .read()
+            .at(self, &[[0, self.len()]], LIMIT)
     }
 
     fn locate(&self, point: IntPoint) -> Result<Location, Refused> {
-        library::locate(self, point).read()
+        library::locate(self, point)
+            .read()
+            .at(self, &[[0, self.len()]], LIMIT)
     }
 }

@@ -4,8 +4,8 @@ use crate::flat::buffer::{FlatContoursBuffer, FlatShapesBuffer};
 use crate::int::point::IntPoint;
 use crate::int::shape::{IntContour, IntShape, IntShapes};
 use crate::library::{self, Scratch};
-use crate::refused::Refused;
-use crate::Cleaned;
+use crate::refused::{At, Refused};
+use crate::{Cleaned, LIMIT};
 
 /// Whether one contour has such vertices, and the contour without them.
 pub trait SimpleContour {
@@ -37,7 +37,9 @@ pub trait SimpleShapes {
 
 impl SimpleContour for [IntPoint] {
     fn is_simple(&self) -> Result<bool, Refused> {
-        library::is_simple(self).read()
+        library::is_simple(self)
+            .read()
+            .at(self, &[[0, self.len()]], LIMIT)
     }
 
     fn simplified(&self) -> Result<Cleaned<IntContour>, Refused> {
@@ -80,6 +82,8 @@ impl ContourSimplifier {
         contour: &[IntPoint],
     ) -> Result<Cleaned<IntContour>, Refused> {
         let mut out = library::room(contour.len())?;
-        library::simplified(contour, &mut self.scratch, &mut out).read(out)
+        library::simplified(contour, &mut self.scratch, &mut out)
+            .read(out)
+            .at(contour, &[[0, contour.len()]], LIMIT)
     }
 }
