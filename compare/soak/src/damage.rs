@@ -57,7 +57,11 @@ fn of_the_list() -> Vec<Vec<u8>> {
     files::list().iter().filter_map(files::Case::file).collect()
 }
 
-/// Every example: whole, cut at every byte, with each bit flipped, and with a byte behind it.
+/// An example that is longer is left out.
+const LONGEST_EXAMPLE: usize = 1000;
+
+/// Every example, set files and lists of cases and what else there is: whole, cut at every byte, with each bit flipped, and
+/// with a byte behind it.
 fn of_examples(root: &Path) -> Vec<Vec<u8>> {
     let mut files = vec![];
     for example in examples(root) {
@@ -73,16 +77,9 @@ fn of_examples(root: &Path) -> Vec<Vec<u8>> {
 }
 
 fn examples(root: &Path) -> Vec<Vec<u8>> {
-    let entries = fs::read_dir(root.join("examples")).into_iter().flatten();
-    let mut paths: Vec<_> = entries
-        .filter_map(|entry| Some(entry.ok()?.path()))
-        .collect();
-    paths.retain(|path| path.extension().is_some_and(|end| end == "set"));
-    paths.sort();
-    paths
-        .iter()
-        .filter_map(|path| fs::read(path).ok())
-        .collect()
+    let paths = written(&root.join("examples")).unwrap_or_default();
+    let files = paths.iter().filter_map(|path| fs::read(path).ok());
+    files.filter(|file| file.len() <= LONGEST_EXAMPLE).collect()
 }
 
 /// Random bytes, most of them behind the head of a file of some edition with few contours.
