@@ -1,0 +1,4 @@
+pub mod Fates
+pub mod Outcome
+pub mod inside
+pub mod Promises
