@@ -1,4 +1,4 @@
-/* A worked example: ask about a contour, clean it, ask where pins lie, clean a shape with a hole, ask about shapes,
+/* A worked example: ask about a contour, clean it, ask where pins lie, clean a shape with a hole, ask what goes, ask about shapes,
  * build a set, write it in both editions and read it, bring in a drawing, and salvage a damaged file. */
 #include <inttypes.h>
 #include <math.h>
@@ -75,6 +75,22 @@ static void one_shape(void)
     printf("despiked: reply %" PRIu32 ", contours %zu of %zu\n", cleaned.reply, cleaned.contours, LENGTH(ranges));
     for (size_t i = 0; i < cleaned.contours; i++)
         print_points(out, records[i].start, records[i].end);
+}
+
+/* A plate, and a line with a hole behind it: what becomes of each contour, and a word for each that goes. */
+static void fates(void)
+{
+    const int32_t points[] = {0, 0, 8, 0, 8, 8, 0, 8, /* line */ 9, 0, 11, 0, 13, 0, /* hole */ 9, 1, 10, 1, 9, 2};
+    const UkmRange contours[] = {{0, 4}, {4, 7}, {7, 10}}, shapes[] = {{0, 1}, {1, 3}};
+    const char *const words[] = {"kept", "collapsed", "gone with its outline"};
+    uint32_t next[10], prev[10];
+    uint8_t mark[10], told[3];
+
+    UkmCounted kept = ukm_despiked_fates(points, LENGTH(points), contours, LENGTH(contours), shapes, LENGTH(shapes), next,
+                                         LENGTH(next), prev, LENGTH(prev), mark, LENGTH(mark), told, LENGTH(told));
+    printf("fates: reply %" PRIu32 ", %zu of %zu contours kept\n", kept.reply, kept.count, LENGTH(contours));
+    for (size_t i = 0; i < LENGTH(told); i++)
+        printf("contour %zu %s\n", i, words[told[i]]);
 }
 
 /* Two shapes, the first with a hole; then the same points with a shape that names contours which are not there. */
@@ -221,6 +237,7 @@ int main(void)
     one_contour();
     pins();
     one_shape();
+    fates();
     two_shapes();
     a_set();
     two_editions();

@@ -88,6 +88,13 @@ int main(void)
     DUE(ukm_despiked_shapes(NO, NO, NO, NO_SCRATCH, NO, NO, NO), a.reply == 0 && a.shapes == 0);
     DUE(ukm_simplified_shapes(NO, NO, empty_contour, 1, NO_SCRATCH, NO, NO, groups, 1), a.reply == 0 && a.shapes == 1);
 
+    DUE(ukm_simplified_fates(NO, NO, NO, NO_SCRATCH, NO), a.reply == 0 && a.count == 0);
+    DUE(ukm_despiked_fates(NO, NO, empty_contour, 1, NO_SCRATCH, NO), a.reply == 0 && a.count == 0);
+    DUE(ukm_simplified_fates(NO, empty_contour, 1, one, 1, NO_SCRATCH, NO), a.reply == 5 && a.count == 0);
+    DUE(ukm_despiked_fates(NO, empty_contour, 1, one, 1, NO_SCRATCH, mark, 1),
+        a.reply == 0 && a.count == 0 && mark[0] == UKM_FATE_COLLAPSED);
+    DUE(ukm_despiked_fates(triangle, 6, three, 1, one, 1, NO_SCRATCH, mark, 1), a.reply == 4);
+
     DUE(ukm_pack_contour(NO, NO, NO, NO), a.reply == 5);
     DUE(ukm_pack_contour(NO, NO, records, 1, groups, 1), a.reply == 0 && a.contours == 1 && a.shapes == 1);
     DUE(ukm_pack_shape(NO, NO, NO, NO, NO), a.reply == 5);

@@ -401,6 +401,33 @@ UkmCleanedSet ukm_despiked_shapes(const int32_t *points, size_t points_len,
                                   UkmRange *records, size_t records_len,
                                   UkmRange *groups, size_t groups_len);
 
+/* What becomes of a contour when its shape is cleaned. */
+enum {
+    UKM_FATE_KEPT = 0,      /* it is kept */
+    UKM_FATE_COLLAPSED = 1, /* it collapsed */
+    UKM_FATE_BEHIND = 2     /* it stood behind an outline that collapsed, and went with it */
+};
+
+/* What becomes of each contour when ukm_simplified_shapes cleans the set: one of these for contour i in fates[i]; count
+ * is how many are kept. No point is written, so out, records and groups are not lent. Refuses with 1, 2, 6, 3, with 4 if
+ * a scratch row has fewer entries than the whole set has points, and with 5 if fates is shorter than contours. */
+UkmCounted ukm_simplified_fates(const int32_t *points, size_t points_len,
+                                const UkmRange *contours, size_t contours_len,
+                                const UkmRange *shapes, size_t shapes_len,
+                                uint32_t *next, size_t next_len,
+                                uint32_t *prev, size_t prev_len,
+                                uint8_t *mark, size_t mark_len,
+                                uint8_t *fates, size_t fates_len);
+
+/* The same of ukm_despiked_shapes. */
+UkmCounted ukm_despiked_fates(const int32_t *points, size_t points_len,
+                              const UkmRange *contours, size_t contours_len,
+                              const UkmRange *shapes, size_t shapes_len,
+                              uint32_t *next, size_t next_len,
+                              uint32_t *prev, size_t prev_len,
+                              uint8_t *mark, size_t mark_len,
+                              uint8_t *fates, size_t fates_len);
+
 /* Packing: a set written in front of out (points), records (contour ranges) and groups (shape ranges). */
 
 /* One shape of one contour. Refuses with 1, 2, 3, and 5 if an output row is too short for what is written. */

@@ -23,6 +23,7 @@ use Rattle.path.proofs as path
 use Rattle.clean.proofs as clean
 use Rattle.buffer.proofs as buffer
 use Rattle.sets.proofs as sets
+use Rattle.fates.proofs as fates
 use denote.Ref.{now}
 use Rattle.setfile.proofs as setfile
 use Rattle.salvage.proofs as salvage
@@ -32,7 +33,7 @@ use Rattle.pool.proofs as pool
 use Rattle.promises.specs.Calls.{numbers, _and_}
 use Rattle.promises.specs.Demand1.{NothingTraps, TheOrderOfTheNumbers, EveryBadInputGetsItsNumber, OutputAndScratchAreThenUntouched, ACollapsedContourLeavesOutputUntouchedAndItsScratchZeroed, Demand1}
 use Rattle.promises.proofs.Calls.{numbered, verdict-numbered, area-numbered, location-numbered, count-numbered}
-use Rattle.promises.proofs.Refusals.{handed-none, first-none, packing-numbered, packing-untouched, reading-numbered, reading-untouched, cleaning-numbered, cleaning-collapsed, shape-numbered, shape-collapsed, shapes-numbered, writing-numbered, writing-untouched, writing-2-numbered, writing-2-untouched, salvage-numbered, salvage-untouched, export-numbered, export-untouched, press-numbered, press-untouched, comparison-numbered, comparison-untouched}
+use Rattle.promises.proofs.Refusals.{handed-none, first-none, packing-numbered, packing-untouched, reading-numbered, reading-untouched, cleaning-numbered, cleaning-collapsed, shape-numbered, shape-collapsed, shapes-numbered, fates-numbered, writing-numbered, writing-untouched, writing-2-numbered, writing-2-untouched, salvage-numbered, salvage-untouched, export-numbered, export-untouched, press-numbered, press-untouched, comparison-numbered, comparison-untouched}
 
 nothing-traps : NothingTraps
 nothing-traps = record {
@@ -83,6 +84,8 @@ nothing-traps = record {
   sets·despike·despiked-shape = record { is-proved = sets.despike.despiked_shape.Met.met; asks-nothing = λ κs a. tt };
   sets·simple·simplified-shapes = record { is-proved = sets.simple.simplified_shapes.Met.met; asks-nothing = λ κs a. tt };
   sets·despike·despiked-shapes = record { is-proved = sets.despike.despiked_shapes.Met.met; asks-nothing = λ κs a. tt };
+  fates·simplified = record { is-proved = fates.simplified.Met.met; asks-nothing = λ κs a. tt };
+  fates·despiked = record { is-proved = fates.despiked.Met.met; asks-nothing = λ κs a. tt };
   setfile·read = record { is-proved = setfile.read.Met.met; asks-nothing = λ κs a. tt };
   setfile·write = record { is-proved = setfile.write.Met.met; asks-nothing = λ κs a. tt };
   setfile·write-2 = record { is-proved = setfile.write_2.Met.met; asks-nothing = λ κs a. tt };
@@ -121,6 +124,7 @@ the-order-of-the-numbers = record {
   a-drawing-to-be-brought-in = λ kinds floats. refl;
   a-set-to-be-drawn = λ points ranges kinds floats. refl;
   two-sets-to-be-compared = λ points ranges others other-ranges listing. refl;
+  contours-to-be-told-of = λ points contours shapes l. refl;
   a-contour-to-be-put-in-a-pool = λ press tool contour s. refl;
   a-contour-to-be-taken-out = λ press s. refl;
 }
@@ -176,6 +180,8 @@ every-bad-input-gets-its-number = record {
   setfile·write-2 = λ κs a x e h. writing-2-numbered _ _ _ _ _ h;
   path·locate = λ κs a x e h. location-numbered _ h;
   sets·in-shape = λ κs a x e h. verdict-numbered _ h;
+  fates·simplified = λ κs a x e h. fates-numbered Collinear _ _ _ _ _ h;
+  fates·despiked = λ κs a x e h. fates-numbered Spike _ _ _ _ _ h;
   salvage·mend = λ κs a x e h. salvage-numbered _ _ _ _ h;
   drawing·import = λ κs a x e h. packing-numbered _ _ _ _ _ _ _ _ h;
   drawing·export = λ κs a x e h. export-numbered _ _ _ _ _ h;
@@ -208,6 +214,8 @@ output-and-scratch-are-then-untouched = record {
   sets·despike·despiked-shape = λ κs a x e h. sets.Untouched.a-refused-shape-leaves-every-row-as-it-was Spike _ _ _ _ h;
   sets·simple·simplified-shapes = λ κs a x e h not-0 not-7. sets.Untouched.refused-shapes-leave-every-row-as-it-was Collinear _ _ _ _ _ h not-0;
   sets·despike·despiked-shapes = λ κs a x e h not-0 not-7. sets.Untouched.refused-shapes-leave-every-row-as-it-was Spike _ _ _ _ _ h not-0;
+  fates·simplified = λ κs a x e h not-0 not-7. fates.Theorems.a-refusal-leaves-every-row-as-it-was Collinear _ _ _ _ _ h not-0;
+  fates·despiked = λ κs a x e h not-0 not-7. fates.Theorems.a-refusal-leaves-every-row-as-it-was Spike _ _ _ _ _ h not-0;
   setfile·read = λ κs a x e h not-0 not-7. reading-untouched (now (a .0)) (now (a .1 .0)) (now (a .1 .1 .0)) (now (a .1 .1 .1 .0)) _ h not-0;
   setfile·write = λ κs a x e h not-0 not-7. writing-untouched _ _ _ _ _ h not-0;
   setfile·write-2 = λ κs a x e h not-0 not-7. writing-2-untouched _ _ _ _ _ h not-0;

@@ -27,6 +27,8 @@ no-export-traps = record {
   ukm-despiked-shape = record { is-proved = ukmerelt.shapes.ukm_despiked_shape.Met.met; asks-nothing = λ κs a. tt };
   ukm-simplified-shapes = record { is-proved = ukmerelt.shapes.ukm_simplified_shapes.Met.met; asks-nothing = λ κs a. tt };
   ukm-despiked-shapes = record { is-proved = ukmerelt.shapes.ukm_despiked_shapes.Met.met; asks-nothing = λ κs a. tt };
+  ukm-simplified-fates = record { is-proved = ukmerelt.telling.ukm_simplified_fates.Met.met; asks-nothing = λ κs a. tt };
+  ukm-despiked-fates = record { is-proved = ukmerelt.telling.ukm_despiked_fates.Met.met; asks-nothing = λ κs a. tt };
   ukm-pack-contour = record { is-proved = ukmerelt.packing.ukm_pack_contour.Met.met; asks-nothing = λ κs a. tt };
   ukm-pack-shape = record { is-proved = ukmerelt.packing.ukm_pack_shape.Met.met; asks-nothing = λ κs a. tt };
   ukm-pack-shapes = record { is-proved = ukmerelt.packing.ukm_pack_shapes.Met.met; asks-nothing = λ κs a. tt };
@@ -71,6 +73,8 @@ every-export-hands-on = record {
   ukm-despiked-shape = λ κs a x e h. h;
   ukm-simplified-shapes = λ κs a x e h. h;
   ukm-despiked-shapes = λ κs a x e h. h;
+  ukm-simplified-fates = λ κs a x e h. h;
+  ukm-despiked-fates = λ κs a x e h. h;
   ukm-pack-contour = λ κs a x e h. h;
   ukm-pack-shape = λ κs a x e h. h;
   ukm-pack-shapes = λ κs a x e h. h;

@@ -25,6 +25,8 @@ use Rattle.buffer.proofs.Theorems as buffer
 use Rattle.sets.specs.Fates.{ShapeFate, shape-fate, shapes-fate}
 use Rattle.sets.specs.Fates.ShapeFate.{stands, fallen}
 use Rattle.sets.specs.Outcome as SetCleaning
+use Rattle.fates.specs.Fates.{fates}
+use Rattle.fates.specs.Outcome as Fates
 use Rattle.sets.proofs.Untouched as sets
 use Rattle.setfile.specs.Entries.{Entry, contours-of, shapes-of, read-contours}
 use Rattle.setfile.specs.Editions.{is-second, parsed}
@@ -39,8 +41,8 @@ use Rattle.difference.specs.Outcome as Comparing
 use Rattle.pool.specs.Calls.{Call, done}
 use Rattle.pool.specs.Rows.{Lent, contents}
 use Rattle.pool.specs.Outcome as Pool
-use Rattle.promises.specs.Calls.{numbers, cleanings, packings, readings, set-cleanings, writings, salvagings, drawings, comparisons, Numbered, _and_, OnlyZeroed, ShapeOnlyZeroed}
-use Rattle.promises.specs.Demand1.{first-refusals, cleaning-refusals, shape-refusals, shapes-refusals, packed, read-refusals, write-refusals, write-2-refusals, export-refusals}
+use Rattle.promises.specs.Calls.{numbers, cleanings, packings, readings, set-cleanings, counts, writings, salvagings, drawings, comparisons, Numbered, _and_, OnlyZeroed, ShapeOnlyZeroed}
+use Rattle.promises.specs.Demand1.{first-refusals, cleaning-refusals, shape-refusals, shapes-refusals, fates-refusals, packed, read-refusals, write-refusals, write-2-refusals, export-refusals}
 use Rattle.promises.proofs.Calls.{numbered}
 
 -- A part that is handed out.
@@ -125,6 +127,14 @@ module _ (rule : Rule) (p : List ℤ) (cs ss : List (List ℕ)) (l : SetCleaning
   shapes-numbered =
       numbered set-cleanings _ (λ k. SetCleaning.outcome k l (SetCleaning.cleaned-shapes (count p) (shapes-fate rule (shapes p (spans cs) (spans ss))) l) .answer) (λ k. refl) (inl refl)
       (ap (λ (w : SetCleaning.Outcome). w .answer) is)
+
+-- Contours of which the fates are told.
+module _ (rule : Rule) (p : List ℤ) (cs ss : List (List ℕ)) (l : Fates.Lent) (o : Fates.Outcome) (is : o ≡ Fates.fates-outcome rule p cs ss l) where
+  pub fates-numbered : Numbered counts (fates-refusals p cs ss l) (o .answer)
+  unfolding Fates.fates-outcome
+  fates-numbered =
+      numbered counts _ (λ k. Fates.outcome k l (Fates.telling (count p) (fates rule (shapes p (spans cs) (spans ss))) l) .answer) (λ k. refl) (inl refl)
+      (ap (λ (w : Fates.Outcome). w .answer) is)
 
 -- A file that is written, in whichever edition.
 module _ (ladder : List Rung) (f row : List ℕ) (o : Writing.Outcome) (is : o ≡ Writing.written (first-of ladder) f row) where

@@ -19,6 +19,7 @@ use Rattle.clean.specs.Outcome as Cleaning
 use Rattle.clean.specs.Promises.{Zeroed}
 use Rattle.sets.specs.declared.cleaning.CleanedSet.{CleanedSet}
 use Rattle.sets.specs.Outcome as SetCleaning
+use Rattle.fates.specs.Outcome as Fates
 use Rattle.setfile.specs.declared.answer.Read.{Read}
 use Rattle.setfile.specs.declared.answer.Written.{Written}
 use Rattle.salvage.specs.declared.answer.Salvaged.{Salvaged}
@@ -183,6 +184,10 @@ shape-lent a = seven a λ points ranges next prev mark out records.
 abbrev pub shapes-lent : {A B C D : Type 0} → A × (B × (C × Scratch (RefT (List ℤ) × (RefT (List (List ℕ)) × (RefT (List (List ℕ)) × D))))) → SetCleaning.Lent
 shapes-lent a = nine a λ points contours shapes next prev mark out records groups.
     SetCleaning.lent (now next) (now prev) (now mark) (now out) (now records) (now groups)
+
+-- behind shapes of which the contours' fates are told
+abbrev pub fates-lent : {A B C D : Type 0} → A × (B × (C × Scratch (RefT (List ℕ) × D))) → Fates.Lent
+fates-lent a = seven a λ points contours shapes next prev mark fates. Fates.lent (now next) (now prev) (now mark) (now fates)
 
 -- one row and others
 abbrev pub _and_ : {A B : Type 0} → A → B → A × B

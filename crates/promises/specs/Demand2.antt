@@ -38,6 +38,7 @@ use Rattle.sets.specs.Verdicts as SetVerdicts
 use Rattle.sets.specs.Area as SetAreas
 use Rattle.sets.specs.Contains.{in-shape}
 use Rattle.sets.specs.Outcome as SetCleaning
+use Rattle.fates.specs.Outcome as Fates
 use Rattle.setfile.specs.Reading as Reading
 use Rattle.setfile.specs.Editions.{number, is-second}
 use Rattle.setfile.specs.Writing as Writing
@@ -56,13 +57,14 @@ use Rattle.path.proofs as path
 use Rattle.clean.proofs as clean
 use Rattle.buffer.proofs as buffer
 use Rattle.sets.proofs as sets
+use Rattle.fates.proofs as fates
 use Rattle.setfile.proofs as setfile
 use Rattle.salvage.proofs as salvage
 use Rattle.drawing.proofs as drawing
 use Rattle.difference.proofs as difference
 use Rattle.pool.proofs as pool
 use Rattle.ukmerelt.proofs as ukmerelt
-use Rattle.promises.specs.Calls.{of-contour, of-set, of-shapes, contour-lent, shape-lent, shapes-lent, Follows, Answers, HandsOut}
+use Rattle.promises.specs.Calls.{of-contour, of-set, of-shapes, contour-lent, shape-lent, shapes-lent, fates-lent, Follows, Answers, HandsOut}
 
 -- each function, and its rule: what it answers, or what it answers and leaves in the rows that it was lent
 pub record EveryAnswerEqualsTheRules : Type 0 where
@@ -151,12 +153,16 @@ pub record EveryAnswerEqualsTheRules : Type 0 where
   pub setfile·write : Follows setfile.write.Reads.Learnt
       (λ x e. four e λ points contours shapes bytes. Writing.leaving (x .reply) (x .bytes) (now bytes))
       (λ a. four a λ points contours shapes bytes. Writing.outcome (now points) (now contours) (now shapes) (now bytes))
-  -- Beyond 01: where a point lies, and whether a shape has it, which 02 says in place of 01; a file of edition 2 written, salvage of a file, drawings in millimetres, two sets compared, and a pool that two presses share.
+  -- Beyond 01: where a point lies, and whether a shape has it, which 02 says in place of 01; what becomes of each contour, a file of edition 2 written, salvage of a file, drawings in millimetres, two sets compared, and a pool that two presses share.
   pub setfile·write-2 : Follows setfile.write_2.Reads.Learnt
       (λ x e. four e λ points contours shapes bytes. Writing.leaving (x .reply) (x .bytes) (now bytes))
       (λ a. four a λ points contours shapes bytes. Writing2.outcome (now points) (now contours) (now shapes) (now bytes))
   pub path·locate : Answers path.locate.Reads.Learnt λ a. three a λ points x y. located (now points) x y
   pub sets·in-shape : Answers sets.in_shape.Reads.Learnt λ a. four a λ points ranges x y. in-shape (now points) (now ranges) x y
+  pub fates·simplified : Follows fates.simplified.Reads.Learnt
+      (λ x e. Fates.leaving x (fates-lent e)) (λ a. of-shapes (Fates.fates-outcome Collinear) a (fates-lent a))
+  pub fates·despiked : Follows fates.despiked.Reads.Learnt
+      (λ x e. Fates.leaving x (fates-lent e)) (λ a. of-shapes (Fates.fates-outcome Spike) a (fates-lent a))
   pub salvage·mend : Follows salvage.mend.Reads.Learnt
       (λ x e. three e λ bytes out dropped. Salvage.leaving x (now out) (now dropped))
       (λ a. three a λ bytes out dropped. Salvage.outcome (now bytes) (now out) (now dropped))

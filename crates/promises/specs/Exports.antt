@@ -4,6 +4,7 @@ use Rattle.path.proofs as path
 use Rattle.clean.proofs as clean
 use Rattle.buffer.proofs as buffer
 use Rattle.sets.proofs as sets
+use Rattle.fates.proofs as fates
 use Rattle.setfile.proofs as setfile
 use Rattle.salvage.proofs as salvage
 use Rattle.drawing.proofs as drawing
@@ -37,6 +38,8 @@ pub record NoExportTraps : Type 2 where
   pub ukm-despiked-shape : NeverTraps ukmerelt.shapes.ukm_despiked_shape.Statement.statement ukmerelt.shapes.ukm_despiked_shape.Reads.Asked
   pub ukm-simplified-shapes : NeverTraps ukmerelt.shapes.ukm_simplified_shapes.Statement.statement ukmerelt.shapes.ukm_simplified_shapes.Reads.Asked
   pub ukm-despiked-shapes : NeverTraps ukmerelt.shapes.ukm_despiked_shapes.Statement.statement ukmerelt.shapes.ukm_despiked_shapes.Reads.Asked
+  pub ukm-simplified-fates : NeverTraps ukmerelt.telling.ukm_simplified_fates.Statement.statement ukmerelt.telling.ukm_simplified_fates.Reads.Asked
+  pub ukm-despiked-fates : NeverTraps ukmerelt.telling.ukm_despiked_fates.Statement.statement ukmerelt.telling.ukm_despiked_fates.Reads.Asked
   pub ukm-pack-contour : NeverTraps ukmerelt.packing.ukm_pack_contour.Statement.statement ukmerelt.packing.ukm_pack_contour.Reads.Asked
   pub ukm-pack-shape : NeverTraps ukmerelt.packing.ukm_pack_shape.Statement.statement ukmerelt.packing.ukm_pack_shape.Reads.Asked
   pub ukm-pack-shapes : NeverTraps ukmerelt.packing.ukm_pack_shapes.Statement.statement ukmerelt.packing.ukm_pack_shapes.Reads.Asked
@@ -80,6 +83,8 @@ pub record EveryExportHandsOn : Type 0 where
   pub ukm-despiked-shape : HandsOn ukmerelt.shapes.ukm_despiked_shape.Reads.Learnt sets.despike.despiked_shape.Reads.Learnt
   pub ukm-simplified-shapes : HandsOn ukmerelt.shapes.ukm_simplified_shapes.Reads.Learnt sets.simple.simplified_shapes.Reads.Learnt
   pub ukm-despiked-shapes : HandsOn ukmerelt.shapes.ukm_despiked_shapes.Reads.Learnt sets.despike.despiked_shapes.Reads.Learnt
+  pub ukm-simplified-fates : HandsOn ukmerelt.telling.ukm_simplified_fates.Reads.Learnt fates.simplified.Reads.Learnt
+  pub ukm-despiked-fates : HandsOn ukmerelt.telling.ukm_despiked_fates.Reads.Learnt fates.despiked.Reads.Learnt
   pub ukm-pack-contour : HandsOn ukmerelt.packing.ukm_pack_contour.Reads.Learnt buffer.shapes.set_with_contour.Reads.Learnt
   pub ukm-pack-shape : HandsOn ukmerelt.packing.ukm_pack_shape.Reads.Learnt buffer.shapes.set_with_shape.Reads.Learnt
   pub ukm-pack-shapes : HandsOn ukmerelt.packing.ukm_pack_shapes.Reads.Learnt buffer.shapes.set_with_shapes.Reads.Learnt

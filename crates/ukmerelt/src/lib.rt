@@ -8,3 +8,4 @@ pub mod packing;
 pub mod pools;
 pub mod shape_sets;
 pub mod shapes;
+pub mod telling;

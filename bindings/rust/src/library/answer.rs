@@ -3,6 +3,7 @@
 use crate::drawing::Place;
 use crate::flat::buffer::{FlatContoursBuffer, FlatShapesBuffer};
 use crate::flat::difference::{Line, RefusedSet};
+use crate::flat::fate::Fate;
 use crate::flat::file::{self, Dropped, Edition};
 use crate::int::path::Location;
 use crate::int::shape::IntContour;
@@ -99,6 +100,12 @@ pub struct Counted {
 impl Counted {
     pub fn read(self) -> Result<usize, Refused> {
         Refused::read(self.reply, 0).map(|()| self.count)
+    }
+
+    /// The fates in the row that was lent, one for each contour.
+    pub fn read_fates(self, fates: &[u8]) -> Result<Vec<Fate>, Refused> {
+        Refused::read(self.reply, 0)?;
+        Ok(fates.iter().map(Fate::read).collect())
     }
 }
 

@@ -242,6 +242,32 @@ pub fn despiked_shapes(
     call!(ukm_despiked_shapes(points, contours, shapes; next, prev, mark, out, records, groups;))
 }
 
+/// Of the points, the contours and the shapes of a set, with scratch, into the row for the fates.
+pub type Fates =
+    fn(&[IntPoint], &[Range], &[Range], &mut Scratch, &mut [u8]) -> Counted;
+
+pub fn simplified_fates(
+    points: &[IntPoint],
+    contours: &[Range],
+    shapes: &[Range],
+    scratch: &mut Scratch,
+    fates: &mut [u8],
+) -> Counted {
+    let (next, prev, mark) = scratch.lend(points.len());
+    call!(ukm_simplified_fates(points, contours, shapes; next, prev, mark, fates;))
+}
+
+pub fn despiked_fates(
+    points: &[IntPoint],
+    contours: &[Range],
+    shapes: &[Range],
+    scratch: &mut Scratch,
+    fates: &mut [u8],
+) -> Counted {
+    let (next, prev, mark) = scratch.lend(points.len());
+    call!(ukm_despiked_fates(points, contours, shapes; next, prev, mark, fates;))
+}
+
 pub fn pack_contour(
     contour: &[IntPoint],
     out: &mut [IntPoint],

@@ -176,6 +176,38 @@ extern "C" {
         groups: *mut Range,
         groups_len: usize,
     ) -> CleanedSet;
+    pub fn ukm_simplified_fates(
+        points: *const i32,
+        points_len: usize,
+        contours: *const Range,
+        contours_len: usize,
+        shapes: *const Range,
+        shapes_len: usize,
+        next: *mut u32,
+        next_len: usize,
+        prev: *mut u32,
+        prev_len: usize,
+        mark: *mut u8,
+        mark_len: usize,
+        fates: *mut u8,
+        fates_len: usize,
+    ) -> Counted;
+    pub fn ukm_despiked_fates(
+        points: *const i32,
+        points_len: usize,
+        contours: *const Range,
+        contours_len: usize,
+        shapes: *const Range,
+        shapes_len: usize,
+        next: *mut u32,
+        next_len: usize,
+        prev: *mut u32,
+        prev_len: usize,
+        mark: *mut u8,
+        mark_len: usize,
+        fates: *mut u8,
+        fates_len: usize,
+    ) -> Counted;
     pub fn ukm_pack_contour(
         contour: *const i32,
         contour_len: usize,
