@@ -2,36 +2,12 @@
 pub mod inner;
 
 ghost use mathlib.Core.Path.{_≡_};
-ghost use mathlib.Core.List.{_++_};
-ghost use Rattle.replies.specs.Ladder.{first-of, so-far, room as room-for};
 ghost use Rattle.ring.specs.declared.Rule as R;
-ghost use Rattle.clean.specs.Outcome.{scratch};
 ghost use Rattle.fates.specs.Outcome.{lent, leaving, fates-outcome};
 use buffer::Counted;
 use inner::shapes;
 use ring::Rule;
-
-// The number of the refusal so far, or 4 or 5 where a scratch row or the row for the fates is too short, or 0.
-fn or_lacking(refusal: u32, n: usize, next: usize, prev: usize, mark: usize, room: bool) -> u32
-    ensures { λ r. ⌜ r ≡ first-of (so-far refusal ++ (scratch n next prev mark ++ room-for room)) ⌝ }
-{
-    if refusal != 0 {
-        return refusal;
-    }
-    if next < n {
-        return replies::SCRATCH;
-    }
-    if prev < n {
-        return replies::SCRATCH;
-    }
-    if mark < n {
-        return replies::SCRATCH;
-    }
-    if !room {
-        return replies::ROOM;
-    }
-    replies::DONE
-}
+use sets::inner::lacking;
 
 // The fates by a rule: refused, or a number for each contour in front of their row, and how many are kept.
 fn told(
@@ -54,7 +30,7 @@ fn told(
     let k = contours.len();
     let room = k <= fates.len();
     let asked = buffer::shapes::refused(points, contours, shapes);
-    let refused = or_lacking(asked, n, next.len(), prev.len(), mark.len(), room);
+    let refused = lacking::or_lacking(asked, n, next.len(), prev.len(), mark.len(), room);
     if refused != 0 {
         return buffer::answer::how_many(refused, 0);
     }

@@ -1,11 +1,10 @@
 // The cleaning of a shape and of shapes: what it refuses, and what it answers.
 ghost use mathlib.Core.Path.{_≡_};
-ghost use mathlib.Core.List.{[], _++_};
-ghost use Rattle.replies.specs.Ladder.{first-of, so-far, room as room-for};
-ghost use Rattle.clean.specs.Outcome.{scratch};
+ghost use mathlib.Core.List.{[]};
 ghost use Rattle.sets.specs.Outcome.{answer, lent, leaving, shape-outcome, shapes-outcome};
 ghost use Rattle.sets.specs.inside.Shape.{shape-answer};
 use crate::inner::contour::Tried;
+use crate::inner::lacking;
 use crate::inner::shapes;
 use crate::inner::shapes::Total;
 use ring::Rule;
@@ -71,28 +70,6 @@ fn shapes_answer(at: Total) -> CleanedSet
     }
 }
 
-// The number of the refusal so far, or 4 or 5 where a scratch row or an output row is too short, or 0.
-fn or_lacking(refusal: u32, n: usize, next: usize, prev: usize, mark: usize, room: bool) -> u32
-    ensures { λ r. ⌜ r ≡ first-of (so-far refusal ++ (scratch n next prev mark ++ room-for room)) ⌝ }
-{
-    if refusal != 0 {
-        return refusal;
-    }
-    if next < n {
-        return replies::SCRATCH;
-    }
-    if prev < n {
-        return replies::SCRATCH;
-    }
-    if mark < n {
-        return replies::SCRATCH;
-    }
-    if !room {
-        return replies::ROOM;
-    }
-    replies::DONE
-}
-
 // A shape cleaned by a rule: refused, or kept in front of the rows, or collapsed with its first contour.
 pub fn clean_shape(
     rule: Rule,
@@ -116,7 +93,7 @@ pub fn clean_shape(
     let n = points.len() / 2;
     let room = (points.len() <= out.len()) & (ranges.len() <= records.len());
     let asked = buffer::contours::refused(points, ranges);
-    let refused = or_lacking(asked, n, next.len(), prev.len(), mark.len(), room);
+    let refused = lacking::or_lacking(asked, n, next.len(), prev.len(), mark.len(), room);
     if refused != 0 {
         return nothing(refused, 0, 0);
     }
@@ -160,7 +137,7 @@ pub fn clean_shapes(
         & (contours.len() <= records.len())
         & (shapes.len() <= groups.len());
     let asked = buffer::shapes::refused(points, contours, shapes);
-    let refused = or_lacking(asked, n, next.len(), prev.len(), mark.len(), room);
+    let refused = lacking::or_lacking(asked, n, next.len(), prev.len(), mark.len(), room);
     if refused != 0 {
         return nothing(refused, 0, 0);
     }

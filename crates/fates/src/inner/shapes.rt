@@ -65,18 +65,6 @@ fn each(
     }
 }
 
-// All of the scratch is zeroed.
-fn zero_scratch(next: &mut [u32], prev: &mut [u32], mark: &mut [u8])
-    ensures { λ _. ⌜
-        Zeroed (now (next .entry)) (now (prev .entry)) (now (mark .entry))
-        (now (next .exit)) (now (prev .exit)) (now (mark .exit))
-        ⌝ }
-{
-    rows::inner::zero(next);
-    rows::inner::zero(prev);
-    rows::inner::zero_bytes(mark);
-}
-
 // All of them, with the scratch zeroed after them; answers how many are kept.
 pub fn sweep(
     rule: Rule,
@@ -106,6 +94,6 @@ pub fn sweep(
         ⌝ }
 {
     each(rule, points, contours, shapes, next, prev, mark, fates);
-    zero_scratch(next, prev, mark);
+    sets::inner::shapes::zero_scratch(next, prev, mark);
     kept(fates)
 }

@@ -140,7 +140,7 @@ fn each(
 }
 
 // All of the scratch is zeroed.
-fn zero_scratch(next: &mut [u32], prev: &mut [u32], mark: &mut [u8])
+pub fn zero_scratch(next: &mut [u32], prev: &mut [u32], mark: &mut [u8])
     ensures { λ r. ⌜
         Zeroed (now (next .entry)) (now (prev .entry)) (now (mark .entry))
         (now (next .exit)) (now (prev .exit)) (now (mark .exit))

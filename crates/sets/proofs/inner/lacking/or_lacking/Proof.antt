@@ -1,11 +1,11 @@
--- `sets::cleaning::or_lacking` meets its contract, refusal by refusal.
+-- `sets::inner::lacking::or_lacking` meets its contract, refusal by refusal.
 use borrow.Author.Tests.{eq-eqb, ne-eqb, lt-ltb, le-ltb}
 use mathlib.Core.Path.{ap}
 use mathlib.Core.Bool.{not}
 use Rattle.replies.proofs.LadderLaws.{first-is}
 use Rattle.replies.proofs.LadderLaws.First.{here, past, foot}
-use Rattle.sets.proofs.cleaning.or_lacking.Statement.{statement}
-use Rattle.sets.proofs.cleaning.or_lacking.Tie as tie
+use Rattle.sets.proofs.inner.lacking.or_lacking.Statement.{statement}
+use Rattle.sets.proofs.inner.lacking.or_lacking.Tie as tie
 
 returns : tie.Need-returns
 returns c = first-is _ _ (here (ap not (ne-eqb _ _ (c .if1 .taken))))
