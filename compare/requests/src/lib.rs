@@ -1,7 +1,7 @@
 //! What the original does not have, written from the sentences of documents 01 and 02 alone:
 //! the replies, whether ranges are sound, the set file of both editions, what is sound of a damaged one,
-//! drawings in millimetres, where a point lies, the walk with its turns, two sets compared,
-//! and two presses that share a pool.
+//! drawings in millimetres, where a point lies, the walk with its turns, what becomes of each
+//! contour that is cleaned, two sets compared, and two presses that share a pool.
 
 pub mod bits;
 pub mod difference;
@@ -10,6 +10,7 @@ pub mod edition;
 pub mod edition_1;
 pub mod edition_2;
 pub mod exact;
+pub mod fates;
 pub mod grid;
 pub mod locate;
 pub mod pool;

@@ -2,12 +2,13 @@
 
 use crate::contours::hold_scratch;
 use crate::input::{Found, Input};
-use crate::library::answer::{CleanedSet, Packed};
-use crate::library::{Flat, Rows, Scratch};
+use crate::library::answer::{CleanedSet, Counted, Packed};
+use crate::library::{Flat, Lent, Rows, Scratch};
 use crate::ranges;
 use lists::cleaner::Cleaner;
 use lists::cleaning::case::{Form, Lengths};
 use lists::cleaning::cleaned::{self, Cleaning};
+use lists::cleaning::fates::{self, Fates};
 use lists::cleaning::{self, off_every_boundary, Verdicts};
 use lists::counted::COUNTED;
 use lists::point::Point;
@@ -47,7 +48,17 @@ impl Input for cleaning::Case {
             }
             cleaning::case::Kind::Cleaning { form, lent } => {
                 let original = cleaned::answer(form, lent, &self.of);
-                hold_cleaning(&mut found, form, lent, &original, flat(&self.of, &points))
+                hold_cleaning(&mut found, form, lent, &original, flat(&self.of, &points));
+                if form.shapes {
+                    let original = fates::answer(form.cleaner, lent, &self.of);
+                    hold_fates(
+                        &mut found,
+                        form.cleaner,
+                        lent,
+                        &original,
+                        flat(&self.of, &points),
+                    )
+                }
             }
         }
         found.hold_unchanged(&before, self);
@@ -138,6 +149,24 @@ pub fn hold_cleaning(
     found.hold(name, expected, answer);
     hold_scratch(found, &original.scratch, &scratch);
     hold_rows(found, &original.rows, &rows);
+}
+
+/// What the library tells of a set's contours.
+fn hold_fates(found: &mut Found, cleaner: Cleaner, lent: Lengths, original: &Fates, library: Flat) {
+    let mut scratch = Scratch::with_canaries(lent.scratch);
+    let mut row = Lent::new(7, lent.rows.records);
+    let answer = library.fates(cleaner, &mut scratch, &mut row);
+    let expected = Counted {
+        reply: original.reply.into(),
+        count: original.count,
+    };
+    let name = match cleaner {
+        Cleaner::Simplified => "simplified_fates",
+        Cleaner::Despiked => "despiked_fates",
+    };
+    found.hold(name, expected, answer);
+    hold_scratch(found, &original.scratch, &scratch);
+    found.hold_row("fates", &original.fates, &row);
 }
 
 impl Input for sets::Case {

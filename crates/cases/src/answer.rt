@@ -3,7 +3,7 @@ use crate::text;
 use crate::text::TEXT;
 
 // How many columns an answer can have.
-pub const COLUMNS: usize = 16;
+pub const COLUMNS: usize = 18;
 
 pub struct Answer {
     pub count: usize,

@@ -1,9 +1,11 @@
 // What the library answers to a case of the kind `q` or `W`: sets judged and cleaned.
 use answers::column;
 use answers::contours;
+use buffer::Counted;
 use cases::answer;
 use cases::answer::Answer;
 use cases::case::HEAD;
+use cases::marks;
 use cases::number;
 use cases::room;
 use cases::room::SET;
@@ -52,8 +54,85 @@ fn with_shapes(
     column::with_area(answer, area)
 }
 
-// The kind `W`: a cleaning in rows of given lengths, full of canaries.
+// The kind `W`: a cleaning in rows of given lengths, full of canaries, and where shapes are cleaned what becomes of each
+// contour.
 pub fn lent(
+    head: [usize; HEAD],
+    points: &[i32],
+    contours: &[[usize; 2]],
+    shapes: &[[usize; 2]],
+) -> Answer {
+    let answer = in_rows(head, points, contours, shapes);
+    if head[0] < 2 {
+        return answer;
+    }
+    with_fates(answer, head, points, contours, shapes)
+}
+
+// The fates, in rows of the same lengths; their row has as many entries as that of the contour records.
+fn with_fates(
+    answer: Answer,
+    head: [usize; HEAD],
+    points: &[i32],
+    contours: &[[usize; 2]],
+    shapes: &[[usize; 2]],
+) -> Answer {
+    let mut next = [7u32; SET];
+    let mut prev = [7u32; SET];
+    let mut mark = [7u8; SET];
+    let mut fates = [7u8; SET];
+    let next_end = room::at_most(head[1], SET);
+    let prev_end = room::at_most(head[2], SET);
+    let mark_end = room::at_most(head[3], SET);
+    let fates_end = room::at_most(head[5], SET);
+    after_telling(
+        answer,
+        head[0],
+        points,
+        contours,
+        shapes,
+        &mut next[0..next_end],
+        &mut prev[0..prev_end],
+        &mut mark[0..mark_end],
+        &mut fates[0..fates_end],
+    )
+}
+
+// A telling, and the checksums of the rows after it.
+fn after_telling(
+    answer: Answer,
+    form: usize,
+    points: &[i32],
+    contours: &[[usize; 2]],
+    shapes: &[[usize; 2]],
+    next: &mut [u32],
+    prev: &mut [u32],
+    mark: &mut [u8],
+    fates: &mut [u8],
+) -> Answer {
+    let told = tell(form, points, contours, shapes, next, prev, mark, fates);
+    let counts = answer.numbers(&[told.reply as u64, told.count as u64]);
+    let sums = contours::with_scratch(counts, next, prev, mark);
+    sums.numbers(&[marks::checksum(fates)])
+}
+
+fn tell(
+    form: usize,
+    points: &[i32],
+    contours: &[[usize; 2]],
+    shapes: &[[usize; 2]],
+    next: &mut [u32],
+    prev: &mut [u32],
+    mark: &mut [u8],
+    fates: &mut [u8],
+) -> Counted {
+    match form {
+        2 => fates::simplified(points, contours, shapes, next, prev, mark, fates),
+        _ => fates::despiked(points, contours, shapes, next, prev, mark, fates),
+    }
+}
+
+fn in_rows(
     head: [usize; HEAD],
     points: &[i32],
     contours: &[[usize; 2]],

@@ -2,6 +2,7 @@
 
 use super::case::{Case, Kind};
 use super::cleaned;
+use super::fates;
 use crate::cleaner::{Cleaner, Contour};
 use crate::contours::{column, yes_or_no};
 use crate::point::Point;
@@ -17,7 +18,14 @@ use std::fmt;
 pub fn answer(case: &Case) -> String {
     match case.kind {
         Kind::Asked { asked } => Verdicts::new(asked, &case.of).to_string(),
-        Kind::Cleaning { form, lent } => cleaned::answer(form, lent, &case.of).to_string(),
+        Kind::Cleaning { form, lent } => {
+            let cleaning = cleaned::answer(form, lent, &case.of);
+            if form.shapes {
+                let fates = fates::answer(form.cleaner, lent, &case.of);
+                return format!("{cleaning} {fates}");
+            }
+            cleaning.to_string()
+        }
     }
 }
 

@@ -6,6 +6,7 @@ pub mod case;
 mod chosen;
 pub mod cleaned;
 mod damaged;
+pub mod fates;
 pub mod lent;
 mod original;
 pub mod random;

@@ -234,6 +234,23 @@ impl Flat<'_> {
         }
     }
 
+    pub fn fates(self, cleaner: Cleaner, scratch: &mut Scratch, fates: &mut Lent<u8>) -> Counted {
+        let Flat {
+            points,
+            contours,
+            shapes,
+        } = self;
+        let Scratch { next, prev, mark } = scratch;
+        match cleaner {
+            Cleaner::Simplified => {
+                call!(ukm_simplified_fates(points, contours, shapes; next, prev, mark, fates;))
+            }
+            Cleaner::Despiked => {
+                call!(ukm_despiked_fates(points, contours, shapes; next, prev, mark, fates;))
+            }
+        }
+    }
+
     pub fn cleaned_shapes(
         self,
         cleaner: Cleaner,

@@ -8,7 +8,7 @@ abbrev Inv-loop : tie.InvT-loop
 Inv-loop text₀ at answer forms values end₀ i₀ text end i = Unit
 
 abbrev μ-loop : tie.MeasureT-loop
-μ-loop text₀ at answer forms values end₀ i₀ text end i = 16 - i
+μ-loop text₀ at answer forms values end₀ i₀ text end i = 18 - i
 
 pub put-spec : {M : Type 1} → statement M
 put-spec =
