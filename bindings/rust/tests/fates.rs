@@ -28,7 +28,10 @@ fn both(shapes: &[IntShape], fates: &[Fate]) {
     assert_eq!(set.despiked_fates().unwrap(), fates);
     let kept = fates.iter().filter(|&&fate| fate == Kept).count();
     assert_eq!(set.simplified().unwrap().kept.contour_ranges.len(), kept);
-    assert_eq!(set.despiked_shapes().unwrap().kept.contour_ranges.len(), kept);
+    assert_eq!(
+        set.despiked_shapes().unwrap().kept.contour_ranges.len(),
+        kept
+    );
 }
 
 #[test]

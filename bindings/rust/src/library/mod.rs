@@ -243,8 +243,7 @@ pub fn despiked_shapes(
 }
 
 /// Of the points, the contours and the shapes of a set, with scratch, into the row for the fates.
-pub type Fates =
-    fn(&[IntPoint], &[Range], &[Range], &mut Scratch, &mut [u8]) -> Counted;
+pub type Fates = fn(&[IntPoint], &[Range], &[Range], &mut Scratch, &mut [u8]) -> Counted;
 
 pub fn simplified_fates(
     points: &[IntPoint],
