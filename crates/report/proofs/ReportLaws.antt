@@ -111,7 +111,7 @@ pub record Told (s : Bool) (f : List ℕ) (j : Judged) (r : ℕ) : Type 0 where
   pub with-room : r ≡ first-of (so-far (j .reply) ++ room (leb (j .points) most-listed))
 
 module _ {s : Bool} {f : List ℕ} {j : Judged} {r : ℕ} (file : Told s f j r) where
-  refusal-is : r ≡ first-of (listing-refusals f)
+  pub refusal-is : r ≡ first-of (listing-refusals f)
   refusal-is = go (j .reply) refl (file .with-room)
     where
       go : (k : ℕ) → j .reply ≡ k → r ≡ first-of (so-far k ++ room (leb (j .points) most-listed)) → r ≡ first-of (listing-refusals f)

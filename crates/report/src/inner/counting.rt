@@ -13,7 +13,7 @@ use clean::Cleaned;
 use ring::Rule;
 
 // The rule of an edition.
-fn rule(second: bool) -> Rule
+pub fn rule(second: bool) -> Rule
     ensures { λ r. ⌜ r ≡ rule-of second ⌝ }
 {
     if second {
