@@ -24,13 +24,7 @@ fn remove_all(mark: &mut [u8])
 }
 
 // Cleans a contour, and leaves in its marks which points are kept: of one that collapses none.
-fn settle(
-    second: bool,
-    contour: &[i32],
-    next: &mut [u32],
-    prev: &mut [u32],
-    mark: &mut [u8],
-)
+fn settle(second: bool, contour: &[i32], next: &mut [u32], prev: &mut [u32], mark: &mut [u8])
     requires { ⌜ Contour (now contour) (length (now mark)) ⌝ }
     requires { ⌜ (length (now next) ≡ length (now mark)) × (length (now prev) ≡ length (now mark)) ⌝ }
     ensures { λ _. ⌜ survive (now (mark .exit)) ≡ kept-of (rule-of second) (now (contour .entry)) ⌝ }

@@ -54,7 +54,7 @@ shared-slice-read-put-vertex : tie.Need-shared-slice-read-put-vertex Inv-loop μ
 shared-slice-read-put-vertex c = search needs
 
 put-vertex-requires : tie.Need-put-vertex-requires Inv-loop μ-loop
-put-vertex-requires c κs = 
+put-vertex-requires c κs =
     let point = c .before .before in
     let pass = point .before in
     let l = pass .before .loop in
@@ -70,7 +70,7 @@ loop-less : tie.Need-loop-less Inv-loop μ-loop
 loop-less c = omega (arith, c .before .before .before .before .before .before .loop-test .taken)
 
 loop-again : tie.Need-loop-again Inv-loop μ-loop
-loop-again c = 
+loop-again c =
     let put = c .before .before in
     let point = put .before .before .before in
     let pass = point .before in
@@ -83,7 +83,7 @@ same-length : tie.Need-same-length Inv-loop μ-loop
 same-length c = c .before .loop .inv .going .long
 
 returns : tie.Need-returns Inv-loop μ-loop
-returns c = 
+returns c =
     let l = c .before in
     let s = l .before .before .before in
     writing-all (dot-if (s .args .kept)) (l .loop .inv) (omega (arith, c .loop-test .left, marked-length (s .args .points .now) (s .args .mark .now) (s .pre .0 .1)))

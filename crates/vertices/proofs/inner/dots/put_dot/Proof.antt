@@ -38,7 +38,7 @@ wide-requires : tie.Need-wide-requires
 wide-requires c κs = search needs
 
 put-signed-requires : tie.Need-put-signed-requires
-put-signed-requires c κs = 
+put-signed-requires c κs =
     let first = c .before .before .before .before .before in
     rw (is-x c) (going-room (going-more (going (first .before .before .before .before)) (first .put .ensures)))
 
@@ -46,7 +46,7 @@ slice-aggregate-put-2 : tie.Need-slice-aggregate-put-2
 slice-aggregate-put-2 c = search needs
 
 put-requires-2 : tie.Need-put-requires-2
-put-requires-2 c κs = 
+put-requires-2 c κs =
     let second = c .before .before .before .before in
     let first = second .before .before .before .before .before .before in
     going-room (going-more (going-more (going (first .before .before .before .before)) (first .put .ensures)) (rw (is-x (second .before)) at (second .put-signed .ensures)))
@@ -55,7 +55,7 @@ wide-requires-2 : tie.Need-wide-requires-2
 wide-requires-2 c κs = search needs
 
 put-signed-requires-2 : tie.Need-put-signed-requires-2
-put-signed-requires-2 c κs = 
+put-signed-requires-2 c κs =
     let third = c .before .before .before .before .before in
     let second = third .before .before .before .before .before in
     let first = second .before .before .before .before .before .before in
@@ -65,7 +65,7 @@ slice-aggregate-put-3 : tie.Need-slice-aggregate-put-3
 slice-aggregate-put-3 c = search needs
 
 put-requires-3 : tie.Need-put-requires-3
-put-requires-3 c κs = 
+put-requires-3 c κs =
     let fourth = c .before .before .before .before in
     let third = fourth .before .before .before .before .before .before in
     let second = third .before .before .before .before .before in
@@ -76,7 +76,7 @@ same-length : tie.Need-same-length
 same-length c = search needs
 
 returns : tie.Need-returns
-returns c = 
+returns c =
     let last = c .before .before in
     let fourth = last .before .before .before .before .before in
     let third = fourth .before .before .before .before .before .before in

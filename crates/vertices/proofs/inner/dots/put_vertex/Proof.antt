@@ -5,7 +5,7 @@ use Rattle.vertices.proofs.inner.dots.put_vertex.Statement.{statement}
 use Rattle.vertices.proofs.inner.dots.put_vertex.Tie as tie
 
 put-dot-requires : tie.Need-put-dot-requires
-put-dot-requires c κs = 
+put-dot-requires c κs =
     let shown = c .before in
     let s = shown .before .before .before in
     (s .pre .0, rw (kept-shown _ _ _ (shown .before .if1 .taken) (shown .if2 .taken)) at (s .pre .1))
@@ -14,22 +14,22 @@ same-length : tie.Need-same-length
 same-length c = search needs
 
 returns : tie.Need-returns
-returns c = 
+returns c =
     let shown = c .before .before .before .before in
     rw (kept-shown _ _ _ (shown .before .if1 .taken) (shown .if2 .taken)) (c .before .before .put-dot .ensures)
 
 returns-2 : tie.Need-returns-2
-returns-2 c = 
+returns-2 c =
     let s = c .before .before .before .args in
     rw (removed-hidden _ _ _ (c .before .if1 .taken) (c .if2 .left)) (nothing-put (s .at) (s .text .now))
 
 returns-3 : tie.Need-returns-3
-returns-3 c = 
+returns-3 c =
     let s = c .before .before .before .args in
     rw (kept-hidden _ _ _ (c .before .if1 .left) (c .if3 .taken)) (nothing-put (s .at) (s .text .now))
 
 put-dot-requires-2 : tie.Need-put-dot-requires-2
-put-dot-requires-2 c κs = 
+put-dot-requires-2 c κs =
     let shown = c .before in
     let s = shown .before .before .before in
     (s .pre .0, rw (removed-shown _ _ _ (shown .before .if1 .left) (shown .if3 .left)) at (s .pre .1))
@@ -38,7 +38,7 @@ same-length-2 : tie.Need-same-length-2
 same-length-2 c = search needs
 
 returns-4 : tie.Need-returns-4
-returns-4 c = 
+returns-4 c =
     let shown = c .before .before .before .before in
     rw (removed-shown _ _ _ (shown .before .if1 .left) (shown .if3 .left)) (c .before .before .put-dot2 .ensures)
 

@@ -20,7 +20,7 @@ same-length : tie.Need-same-length
 same-length c = search needs
 
 returns : tie.Need-returns
-returns c = 
+returns c =
     let few = c .before .before .before .before in
     let s = few .before .before .before .before in
     settled-few (rule-of (s .args .second)) (s .args .contour .now) _ (s .pre .0) (few .if1 .taken) _ (c .before .before .remove-all .ensures)
@@ -29,7 +29,7 @@ rule-requires : tie.Need-rule-requires
 rule-requires c κs = search needs
 
 walk-requires : tie.Need-walk-requires
-walk-requires c κs = 
+walk-requires c κs =
     let long = c .before .before .before .before in
     let s = long .before .before .before .before in
     ((s .pre .0, long .if1 .left), (s .pre .1, (omega (arith, long .if1 .left), λ j h. absurd (omega arith))))
@@ -47,7 +47,7 @@ same-length-4 : tie.Need-same-length-4
 same-length-4 c = search needs
 
 returns-2 : tie.Need-returns-2
-returns-2 c = 
+returns-2 c =
     let gone = c .before .before .before .before in
     let done = gone .before .before .before .before .before .before .before .before in
     let ruled = done .before .before .before .before in
@@ -66,7 +66,7 @@ same-length-7 : tie.Need-same-length-7
 same-length-7 c = search needs
 
 returns-3 : tie.Need-returns-3
-returns-3 c = 
+returns-3 c =
     let done = c .before .before .before .before .before .before .before .before in
     let ruled = done .before .before .before .before in
     let s = ruled .before .before .before .before .before in

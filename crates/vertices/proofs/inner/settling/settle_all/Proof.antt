@@ -74,7 +74,7 @@ marks c =
     mid-len (l .start) (l .start + k) (l .mark) (omega (arith, r .0, r .1)) ∙ e
 
 loop-holds : tie.Need-loop-holds Inv-loop μ-loop
-loop-holds c = 
+loop-holds c =
     let s = c .before .before .before .before in
     (settling-none _ (s .pre .0 .0) (s .pre .0 .1), refl, refl)
 
@@ -131,17 +131,17 @@ settle-requires c κs =
     let r = room h in
     let m = marks h in (
       subst (λ (w : List ℤ). Contour w (length (midOf (l .start) (l .start + k - l .start) (l .mark)))) (sym (part h))
-      (subst (Contour _) (sym m) (settling-contour (l .inv .0) (h .before .loop-test .taken) _ (h .header-at .ensures))),
+          (subst (Contour _) (sym m) (settling-contour (l .inv .0) (h .before .loop-test .taken) _ (h .header-at .ensures))),
       (length-take-le k (l .next) (omega (arith, r .0, r .1, r .3)) ∙ sym m, length-take-le k (l .prev) (omega (arith, r .0, r .1, r .4)) ∙ sym m),
     )
 
 size-requires : tie.Need-size-requires Inv-loop μ-loop
-size-requires c κs = 
+size-requires c κs =
     let h = c .before .before .before .before .before .before .before .before .before .before .before in
     whole-small (there (h .before)) _ (h .header-at .ensures)
 
 add-at : tie.Need-add-at Inv-loop μ-loop
-add-at c = 
+add-at c =
     let h = c .before .before .before .before .before .before .before .before .before .before .before .before in
     let w = there (h .before) in
     omega (arith, whole-ends w _ (h .header-at .ensures) _ (c .size .ensures), w .here .short)
@@ -164,10 +164,10 @@ loop-again c =
     let as-many = done .settle .kept .1 .1 .1 .1 .0 in
     let before = length-take-le (l .start) (l .mark) (omega (arith, r .0, r .1)) in (
       settling-more (l .inv .0) (h .before .loop-test .taken) _ (h .header-at .ensures) new (putMid (l .start) (l .start + k - l .start) (l .mark) new)
-      (done .settle .ensures ∙ ap (kept-of (rule-of (s .second))) (part h))
-      (ap (take (l .start + k)) (sym (append-assoc (take (l .start) (l .mark)) new (postOf (l .start) (l .start + k - l .start) (l .mark))))
-      ∙ take-at (take (l .start) (l .mark) ++ new) _ (l .start + k) (omega (arith, length-append (take (l .start) (l .mark)) new, before, as-many, marks h)))
-      (same-len-mid (l .start) (l .start + k - l .start) (l .mark) new as-many) _ (c .size .ensures),
+          (done .settle .ensures ∙ ap (kept-of (rule-of (s .second))) (part h))
+          (ap (take (l .start + k)) (sym (append-assoc (take (l .start) (l .mark)) new (postOf (l .start) (l .start + k - l .start) (l .mark))))
+          ∙ take-at (take (l .start) (l .mark) ++ new) _ (l .start + k) (omega (arith, length-append (take (l .start) (l .mark)) new, before, as-many, marks h)))
+          (same-len-mid (l .start) (l .start + k - l .start) (l .mark) new as-many) _ (c .size .ensures),
       length-front (l .next) (done .settle .last .1 .1 .0) k (done .settle .kept .1 .1 .0) ∙ l .inv .1,
       length-front (l .prev) (done .settle .last .1 .1 .1 .0) k (done .settle .kept .1 .1 .1 .0) ∙ l .inv .2,
     )
@@ -182,7 +182,7 @@ same-length-3 : tie.Need-same-length-3 Inv-loop μ-loop
 same-length-3 c = c .before .loop .inv .0 .long
 
 returns : tie.Need-returns Inv-loop μ-loop
-returns c = 
+returns c =
     let l = c .before in
     let s = l .before .before .before .before .before in
     settling-all (l .loop .inv .0) (c .loop-test .left) (omega (arith, s .pre .1 .each, l .loop .inv .0 .long))

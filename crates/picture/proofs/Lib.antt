@@ -1,0 +1,10 @@
+pub mod ExtentLaws
+pub mod ScaleLaws
+pub mod PartLaws
+pub mod OutlineLaws
+pub mod PictureLaws
+pub mod LengthLaws
+pub mod FormLaws
+pub mod OnceLaws
+pub mod Theorems
+pub mod Cases

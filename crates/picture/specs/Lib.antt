@@ -1,0 +1,5 @@
+pub mod Names
+pub mod Markup
+pub mod Frame
+pub mod Picture
+pub mod inside
