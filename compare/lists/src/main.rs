@@ -1,6 +1,6 @@
 //! `lists list` writes the list of cases; `lists answers` reads a list and writes the answers
-//! to it; `lists listings` writes set files and their listings, and `lists changes` pairs
-//! of set files and what is said of them.
+//! to it; `lists listings` writes set files and their listings, `lists changes` pairs of set
+//! files and what is said of them, and `lists texts` set files and their texts.
 
 use lists::{answer, files, list, HEADER};
 use std::io::{self, BufRead, BufWriter, Write};
@@ -8,14 +8,7 @@ use std::process::ExitCode;
 
 fn main() -> ExitCode {
     let words: Vec<String> = std::env::args().skip(1).collect();
-    let outcome = match words.iter().map(String::as_str).collect::<Vec<_>>()[..] {
-        ["list"] => write_list(),
-        ["answers"] => write_answers(),
-        ["listings", folder] => files::write_listings(folder.as_ref()).map_err(Into::into),
-        ["changes", folder, count] => write_changes(folder, count),
-        _ => Err(USAGE.into()),
-    };
-    match outcome {
+    match run(&words) {
         Ok(()) => ExitCode::SUCCESS,
         Err(problem) => {
             eprintln!("lists: {problem}");
@@ -24,8 +17,22 @@ fn main() -> ExitCode {
     }
 }
 
+fn run(words: &[String]) -> Outcome {
+    match words.iter().map(String::as_str).collect::<Vec<_>>()[..] {
+        ["list"] => write_list(),
+        ["answers"] => write_answers(),
+        ["listings", folder] => files::write_listings(folder.as_ref()).map_err(Into::into),
+        ["changes", folder, count] => write_changes(folder, count),
+        ["texts", folder, count, ref others @ ..] => {
+            files::write_texts(folder.as_ref(), count.parse()?, others).map_err(Into::into)
+        }
+        _ => Err(USAGE.into()),
+    }
+}
+
 const USAGE: &str =
-    "usage: lists list | lists answers <list | lists listings FOLDER | lists changes FOLDER COUNT";
+    "usage: lists list | answers <list | listings FOLDER | changes FOLDER COUNT | \
+     texts FOLDER COUNT [FILE]...";
 
 type Outcome = Result<(), Box<dyn std::error::Error>>;
 

@@ -2,9 +2,3 @@ pub mod PlaceLaws
 pub mod RunLaws
 pub mod RowLaws
 pub mod BoundLaws
-pub mod PackLaws
-pub mod DigitRun
-pub mod LineRun
-pub mod LinesRun
-pub mod Theorems
-pub mod Cases

@@ -1,4 +1,3 @@
 pub mod Places
 pub mod Reading
-pub mod Packing
 pub mod inside

@@ -1,4 +1,4 @@
-// A job's text, read back: the set that it carries, and its file.
+// A job's text, read back into the rows of a set.
 pub mod inner;
 
 // Where in a text its reader is.
@@ -34,21 +34,3 @@ pub struct Reader {
     pub shapes: usize,
     pub first: usize,
 }
-
-// How long the file is, and what is said.
-pub struct Lengths {
-    pub bytes: usize,
-    pub words: usize,
-}
-
-// The most bytes of a file.
-pub const BYTES: usize = 65536;
-
-// Room for what is said.
-pub const WORDS: usize = 40;
-
-// The most numbers of a job.
-const NUMBERS: usize = 131072;
-
-// The most contours of a job.
-const CONTOURS: usize = 4095;

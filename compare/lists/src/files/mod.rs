@@ -12,6 +12,7 @@ mod mend;
 pub mod mendings;
 pub mod sound;
 mod text;
+mod texts;
 pub mod writings;
 
 pub use answers::{answer, Reading, Writing};
@@ -19,6 +20,7 @@ pub use case::Case;
 pub use changes::write_changes;
 pub use listing::write_listings;
 pub use mend::{Lent, Mending};
+pub use texts::write_texts;
 
 use crate::point::OFF_NARROW;
 use requests::edition::Edition;

@@ -1,0 +1,6 @@
+pub mod PackLaws
+pub mod DigitRun
+pub mod LineRun
+pub mod LinesRun
+pub mod Theorems
+pub mod Cases

@@ -1,0 +1,3 @@
+// A text, read and packed into rows that have room.
+pub mod packing;
+pub mod writing;
