@@ -1,7 +1,6 @@
 -- Worked texts, and what is made of them.
 use mathlib.Core.Path.{_≡_, refl}
 use mathlib.Core.List.{[], _∷_, _++_}
-use Rattle.report.specs.Text.{places, decimal}
 use Rattle.jobread.specs.Places.{first-head, after-head, digit, begun, after-space, after-dash, more, after-digit}
 use Rattle.jobread.specs.Reading.{after-start, ended, behind, in-word, in-number, step, run}
 use Rattle.jobpack.specs.Packing.{refusing, damaging, packed}

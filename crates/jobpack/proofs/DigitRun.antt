@@ -1,11 +1,11 @@
 -- A number that is read from its digits is the number.
 use mathlib.Core.Path.{_≡_, refl, sym, _∙_, ap, subst}
-use mathlib.Core.Bool.{Bool, true, false, _&&_}
-use mathlib.Core.List.{List, [], _∷_, _++_}
+use mathlib.Core.Bool.{Bool, true, false}
+use mathlib.Core.List.{[], _∷_}
 use Prim.Native.Nat.{ℕ, zero, suc, _+_, _-_, _*_, _/_, _%_, _^_, _≤_, _<_}
 use native.Mathlib.Nat.{mod-lt, div-add-mod', div-lt-iff-lt-mul, div-le-self, pow-le-pow-right, le-div-iff-mul-le}
 use native.Mathlib.Omega.{arith}
-use lib.Dec.{T, eqb, ltb, leb, lit<}
+use lib.Dec.{T, leb, lit<}
 use lib.IntN.{ℤ, natAbs}
 use lib.IntN.ℤ.{pos, negsuc}
 use borrow.Author.Tests.{lt-ltb, le-ltb, le-leb, ne-eqb}

@@ -1,11 +1,11 @@
 -- A line that is read brings its contour.
-use mathlib.Core.Path.{_≡_, refl, sym, _∙_, ap}
-use mathlib.Core.Bool.{Bool, true, false, not, _&&_, _||_}
+use mathlib.Core.Path.{_≡_, refl, _∙_, ap}
+use mathlib.Core.Bool.{Bool, true, false, not, _&&_}
 use mathlib.Core.List.{List, [], _∷_, _++_, append-assoc}
-use Prim.Native.Nat.{ℕ, zero, suc, _+_, _*_, _%_, _≤_, _<_}
+use Prim.Native.Nat.{ℕ, _+_, _%_, _≤_, _<_}
 use native.Mathlib.Omega.{arith}
-use lib.Dec.{eqb, ltb, leb}
-use lib.ListN.{length, getD}
+use lib.Dec.{eqb}
+use lib.ListN.{length}
 use lib.IntN.{ℤ, natAbs}
 use lib.IntN.ℤ.{pos, negsuc}
 use borrow.Author.Tests.{le-ltb, lt-leb, ne-eqb}
@@ -13,8 +13,7 @@ use Rattle.setfile.specs.Entries.{Entry}
 use Rattle.setfile.specs.Writing.{most-contours}
 use Rattle.setfile.specs.Promises.{Each}
 use Rattle.report.specs.Text.{space, signed, line-end}
-use Rattle.jobtext.specs.Text.{word, spaced, numbers, line}
-use Rattle.jobread.specs.declared.Place.{Place}
+use Rattle.jobtext.specs.Text.{word, numbers, line}
 use Rattle.jobread.specs.declared.Place.the-variants.{Start, Word, Space, Number}
 use Rattle.jobread.specs.declared.Reader.{Reader}
 use Rattle.jobread.specs.Places.{digit, largest}

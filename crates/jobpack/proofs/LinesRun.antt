@@ -2,7 +2,7 @@
 use mathlib.Core.Path.{_≡_, refl, sym, _∙_, ap, ap₂, subst}
 use mathlib.Core.Bool.{Bool, true, false}
 use mathlib.Core.List.{List, [], _∷_, _++_, map, append-assoc, append-nil}
-use Prim.Native.Nat.{ℕ, zero, suc, _+_, _-_, _*_, _/_, _%_, _≤_, _<_}
+use Prim.Native.Nat.{ℕ, suc, _+_, _-_, _*_, _/_, _≤_, _<_}
 use native.Mathlib.Omega.{arith}
 use native.Mathlib.Nat.{add-zero}
 use lib.Dec.{T}
@@ -10,8 +10,7 @@ use lib.ListN.{length, take, length-append}
 use lib.Seq.{take-at, take-length}
 use lib.IntN.{ℤ}
 use Rattle.grid.specs.Domain.{count}
-use Rattle.buffer.specs.declared.ranges.Span.{Span}
-use Rattle.buffer.specs.Spans.{row, rows, laid}
+use Rattle.buffer.specs.Spans.{rows, laid}
 use Rattle.buffer.specs.Sets.{joined, contour-spans, shape-spans, Even}
 use Rattle.setfile.specs.Entries.{Entry, entry, contours-of, Gathered, gathered, shapes-of}
 use Rattle.setfile.specs.Writing.{most-contours}
@@ -19,7 +18,7 @@ use Rattle.setfile.specs.Promises.{Each, Started}
 use Rattle.jobtext.specs.Text.{line, lines}
 use Rattle.jobread.specs.declared.Place.the-variants.{Start}
 use Rattle.jobread.specs.declared.Reader.{Reader}
-use Rattle.jobread.specs.Reading.{Lines, State, most-numbers, state-at, run, nothing}
+use Rattle.jobread.specs.Reading.{State, most-numbers, state-at, run, nothing}
 use Rattle.jobread.proofs.RunLaws.{run-append}
 use Rattle.jobpack.proofs.LineRun.{push, push-all, Endable, finish, Small, worded, line-run}
 

@@ -1,8 +1,8 @@
 -- What is made of a set that was read, by what the writer answers.
 use mathlib.Core.Path.{_≡_, refl, sym, _∙_, ap, ap₂}
 use mathlib.Core.Bool.{Bool, true, false}
-use mathlib.Core.List.{List, [], _∷_, _++_}
-use Prim.Native.Nat.{ℕ, zero, suc, _+_, _≤_}
+use mathlib.Core.List.{List, []}
+use Prim.Native.Nat.{ℕ, zero, suc, _≤_}
 use native.Mathlib.Omega.{arith}
 use lib.Dec.{leb}
 use lib.ListN.{length}
@@ -19,7 +19,7 @@ use Rattle.setfile.proofs.Theorems.{an-edition-can-carry, room-decides}
 use Rattle.report.specs.inside.Lines.{Put}
 use Rattle.report.proofs.PutLaws.{put-front, front-within}
 use Rattle.jobpack.specs.declared.Lengths.{Lengths}
-use Rattle.jobpack.specs.Packing.{Packed, refusing, written, set-packed, packed, Outcome, leaving, outcome, packing}
+use Rattle.jobpack.specs.Packing.{refusing, written, packed, Outcome, leaving, outcome, packing}
 
 -- a row for the longest file is never too short
 module _ (p : List ℤ) (cs ss : List (List ℕ)) (row : List ℕ) where

@@ -2,10 +2,9 @@
 use mathlib.Core.Path.{_≡_, refl, sym, _∙_, ap, ap₂}
 use mathlib.Core.Bool.{Bool, true, false}
 use mathlib.Core.List.{List, [], _∷_, _++_}
-use Prim.Native.Nat.{ℕ, _*_, _≤_}
+use Prim.Native.Nat.{ℕ, _≤_}
 use native.Mathlib.Omega.{arith}
-use lib.Dec.{eqb, ltb}
-use lib.ListN.{length, getD}
+use lib.ListN.{length}
 use lib.IntN.{ℤ, natAbs}
 use borrow.Author.Tests.{leb-true, le-ltb}
 use denote.Ref.{now}
@@ -20,7 +19,7 @@ use Rattle.buffer.specs.Sets.{joined, contour-spans, shape-spans}
 use Rattle.setfile.specs.Entries.{Entry, contours-of, shapes-of, read-contours}
 use Rattle.setfile.specs.Editions.{bound, is-second, parsed}
 use Rattle.setfile.specs.Reading.{refusals}
-use Rattle.setfile.specs.Promises.{Each, Started, edition-file, write-refusals, points-of, contour-ranges, shape-ranges}
+use Rattle.setfile.specs.Promises.{Each, points-of}
 use Rattle.setfile.proofs.SizeLaws.{promised-few}
 use Rattle.setfile.proofs.HoldLaws.{bound-within, first-started}
 use Rattle.setfile.proofs.EditionsLaws.{what-is-read-can-be-carried}
@@ -32,7 +31,7 @@ use Rattle.jobtext.proofs.DumpLaws.{dumped-done}
 use Rattle.jobtext.proofs.LengthLaws.{dumped-short}
 use Rattle.jobread.specs.declared.Place.{Place}
 use Rattle.jobread.specs.declared.Place.the-variants.{Start}
-use Rattle.jobread.specs.Places.{after-head, largest}
+use Rattle.jobread.specs.Places.{after-head}
 use Rattle.jobread.specs.Reading.{State, state-at, step, run, nothing}
 use Rattle.jobpack.specs.Packing.{Packed, written, set-packed, packed-at, says-second, longest, packed, leaving, packing}
 use Rattle.jobread.proofs.RunLaws.{run-append}

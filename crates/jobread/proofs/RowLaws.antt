@@ -8,16 +8,15 @@ use native.Mathlib.Numerals.{add-one}
 use lib.Dec.{eqb, leb}
 use lib.ListN.{length, getD, take, set}
 use lib.Seq.{take-suc-set, take-take}
-use lib.IntN.{ℤ, pos, negsuc, negℤ, _-ℤ_, +ℤ-idl}
+use lib.IntN.{ℤ, pos, negℤ, _-ℤ_, +ℤ-idl}
 use mir.Syntax.{w32}
 use mir.Val.{SFits, toZ, ofZ}
 use mir.Facts.{toZ-pos, toZ-ofZ}
 use Rattle.setfile.specs.Writing.{most-contours}
 use Rattle.jobtext.specs.Text.{word}
-use Rattle.jobread.specs.declared.Place.{Place}
 use Rattle.jobread.specs.declared.Place.the-variants.{Start, Space, Word, NoLine, Refused}
 use Rattle.jobread.specs.declared.Reader.{Reader}
-use Rattle.jobread.specs.Reading.{Lines, State, moved, lines-at, opened, after-start, slot, opens, one-more, ended, behind, in-word, counted, taken}
+use Rattle.jobread.specs.Reading.{Lines, moved, lines-at, opened, after-start, slot, opens, one-more, ended, behind, in-word, counted, taken}
 use Rattle.jobread.specs.inside.Rows.{lines-of, state-of}
 
 -- the number below zero of a size

@@ -5,7 +5,7 @@ use Prim.Native.Nat.{ℕ, _+_, _-_, _*_}
 use lib.Dec.{eqb, ltb, leb}
 use lib.ListN.{getD}
 use Rattle.jobread.specs.declared.Place.{Place}
-use Rattle.jobread.specs.declared.Place.the-variants.{Head, Start, Word, Space, Dash, Number, NoHead, NoLine, Refused}
+use Rattle.jobread.specs.declared.Place.the-variants.{Head, Start, Dash, Number, NoHead, NoLine}
 
 -- the line of edition 1
 abbrev pub first-head : List ℕ

@@ -4,13 +4,12 @@ use mathlib.Core.Bool.{true, false}
 use mathlib.Core.List.{[], _∷_, _++_}
 use lib.IntN.ℤ.{pos, negsuc}
 use Rattle.replies.specs.Ladder.{first-of}
-use Rattle.grid.specs.Limits.{limit, narrow, most, on-grid, all-on-grid}
+use Rattle.grid.specs.Limits.{narrow, most, on-grid, all-on-grid}
 use Rattle.buffer.specs.Sets.{joined}
 use Rattle.bits.specs.Bits.{value, field, bits}
 use Rattle.bits.specs.Signs.{all-fit}
 use Rattle.bits.specs.Signs as Signs
 use Rattle.bits.specs.Widths.{smallest}
-use Rattle.steps.specs.Steps.{sums}
 use Rattle.setfile.specs.Entries.{entry}
 use Rattle.setfile.specs.Layouts.{some-set, contours-in}
 use Rattle.setfile.specs.Editions.{parsed}

@@ -2,16 +2,15 @@
 use mathlib.Core.Path.{_≡_, refl, sym, _∙_}
 use mathlib.Core.Bool.{Bool, true, false}
 use mathlib.Core.List.{List, [], _∷_, _++_}
-use Prim.Native.Nat.{ℕ, zero, suc, _+_, _*_, _≤_, _<_, _^_}
+use Prim.Native.Nat.{ℕ, zero, suc, _+_, _*_, _≤_}
 use native.Mathlib.Omega.{arith}
-use lib.ListN.{length, length-append, length-map}
-use lib.IntN.{ℤ, natAbs}
+use lib.ListN.{length, length-append}
+use lib.IntN.{ℤ}
 use lib.IntN.ℤ.{pos, negsuc}
 use borrow.Author.Tests.{leb-true}
 use Rattle.integers.proofs.Logic.{and-left, and-right}
 use Rattle.grid.specs.Limits.{limit, most, on-grid, all-on-grid}
 use Rattle.grid.proofs.LimitLaws.{on-grid-size, all-on-wider, on-joined}
-use Rattle.grid.specs.Domain.{count}
 use Rattle.replies.specs.Ladder.{first-of}
 use Rattle.bits.specs.Bits.{Bytes}
 use Rattle.buffer.specs.Sets.{joined}
@@ -22,10 +21,10 @@ use Rattle.setfile.specs.Promises.{points-of}
 use Rattle.setfile.proofs.SizeLaws.{promised-few}
 use Rattle.setfile.proofs.HoldLaws.{bound-within}
 use Rattle.setfile.proofs.Theorems.{the-set-that-is-read-can-be-carried}
-use Rattle.report.specs.Text.{places, decimal, signed, line-end, refused}
+use Rattle.report.specs.Text.{places, decimal, signed, line-end}
 use Rattle.report.proofs.TextLaws.{decimal-length, decimal-short}
 use Rattle.report.proofs.JobLaws.{job-sized}
-use Rattle.jobtext.specs.Text.{edition, word, spaced, numbers, line, lines, head, text, dumped}
+use Rattle.jobtext.specs.Text.{word, spaced, numbers, line, lines, head, text, dumped}
 use Rattle.jobtext.proofs.DumpLaws.{dumped-refused, dumped-done}
 
 -- a coordinate has at most ten digits and its sign

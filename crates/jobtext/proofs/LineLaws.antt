@@ -1,8 +1,8 @@
 -- The numbers of a line, and the lines of a file's contours, one behind the other.
-use mathlib.Core.Path.{_≡_, refl, sym, _∙_, ap, subst}
+use mathlib.Core.Path.{_≡_, sym, _∙_, ap, subst}
 use mathlib.Core.Bool.{Bool, true}
 use mathlib.Core.List.{List, [], _∷_, _++_, append-nil, append-assoc}
-use Prim.Native.Nat.{ℕ, _+_, _*_, _≤_, _<_}
+use Prim.Native.Nat.{ℕ, _+_, _≤_, _<_}
 use native.Mathlib.Omega.{arith}
 use native.Mathlib.Numerals.{add-one}
 use lib.ListN.{length, getD, drop, drop-of-length-le}
@@ -13,7 +13,7 @@ use Rattle.grid.specs.Limits.{all-on-grid}
 use Rattle.buffer.specs.Sets.{joined}
 use Rattle.setfile.specs.declared.inner.headers.Header.{Header}
 use Rattle.setfile.specs.Entries.{Entry, entry}
-use Rattle.setfile.specs.Editions.{layout, bound}
+use Rattle.setfile.specs.Editions.{bound}
 use Rattle.setfile.specs.inside.Reading.{contained, from-bit, header-in, size-of, Whole, Readable}
 use Rattle.setfile.proofs.ContourLaws.{size-is, front-is}
 use Rattle.setfile.proofs.RestLaws.{Rest, Next, next, done, rest-all}

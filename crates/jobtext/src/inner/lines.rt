@@ -1,5 +1,4 @@
 // The lines of a job's contours.
-ghost use mathlib.Core.List.{_++_};
 ghost use Prim.Native.Nat.{_+_, _≤_};
 ghost use lib.ListN.{length};
 ghost use Rattle.report.specs.inside.Lines.{Put};

@@ -1,9 +1,6 @@
 -- `jobread::inner::places::begun` meets its contract.
 use borrow.Author.Needs.{needs}
-use mathlib.Core.Path.{_≡_}
-use mathlib.Core.Bool.{true, false}
 use native.Mathlib.Omega.{arith}
-use lib.Dec.{ltb}
 use borrow.Author.Tests.{lt-ltb, le-ltb}
 use Rattle.jobread.specs.Places.{digit, begun}
 use Rattle.jobread.proofs.inner.places.begun.Statement.{statement}

@@ -1,9 +1,9 @@
 -- `jobread::inner::reading::step` meets its contract: by where the reader is.
 use borrow.Author.Needs.{needs}
-use mathlib.Core.Path.{_≡_, sym, _∙_, ap}
+use mathlib.Core.Path.{sym, _∙_, ap}
 use Rattle.jobread.specs.declared.Place.{Place}
 use Rattle.jobread.specs.declared.Reader.{Reader}
-use Rattle.jobread.specs.Reading.{State, moved, step-at, step}
+use Rattle.jobread.specs.Reading.{moved, step-at, step}
 use Rattle.jobread.specs.inside.Rows.{state-of}
 use Rattle.jobread.proofs.RowLaws.{started, same-points, word-numbers}
 use Rattle.jobread.proofs.inner.reading.step.Statement.{statement}

@@ -3,7 +3,6 @@ use mathlib.Core.Path.{_≡_, refl, sym, _∙_, ap, subst}
 use mathlib.Core.List.{List}
 use Prim.Native.Nat.{_+_, _*_, _-_, _≤_}
 use native.Mathlib.Omega.{arith}
-use borrow.Author.Needs.{needs}
 use lib.ListN.{length, take}
 use lib.Seq.{length-take-le}
 use lib.IntN.{ℤ}
@@ -11,7 +10,7 @@ use Rattle.setfile.specs.Entries.{entry}
 use Rattle.setfile.specs.inside.Reading.{Whole}
 use Rattle.setfile.proofs.ContourLaws.{whole-small, whole-ends}
 use Rattle.report.specs.inside.Lines.{Put}
-use Rattle.report.proofs.LinesLaws.{contour-at, contour-long, contour-read}
+use Rattle.report.proofs.LinesLaws.{contour-at, contour-read}
 use Rattle.jobtext.specs.Text.{line}
 use Rattle.jobtext.proofs.LineLaws.{Lining, lining-none, lining-there, lining-on, lining-room, lining-more, lining-all}
 use Rattle.jobtext.proofs.inner.lines.put.Statement.{statement}

@@ -1,7 +1,6 @@
 -- `jobtext::inner::lines::put_numbers` meets its contract: the numbers that are left are put behind those that are.
 use borrow.Author.Needs.{needs}
 use Prim.Native.Nat.{_-_}
-use native.Mathlib.Omega.{arith}
 use lib.ListN.{length}
 use mir.Syntax.{w32}
 use mir.Facts.{toZ-ofZ}

@@ -1,6 +1,5 @@
 -- `jobtext::inner::lines::put_spaced` meets its contract: a space, and the number behind it.
 use mathlib.Core.Path.{_≡_, sym, _∙_, subst}
-use mathlib.Core.List.{_++_}
 use Prim.Native.Nat.{_+_, _≤_}
 use lib.ListN.{length}
 use lib.IntN.{ℤ}

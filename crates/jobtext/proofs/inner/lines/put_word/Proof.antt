@@ -1,7 +1,5 @@
 -- `jobtext::inner::lines::put_word` meets its contract.
-use mathlib.Core.Path.{ap, sym}
 use borrow.Author.Needs.{needs}
-use Rattle.jobtext.specs.Text.{word}
 use Rattle.jobtext.proofs.inner.lines.put_word.Statement.{statement}
 use Rattle.jobtext.proofs.inner.lines.put_word.Tie as tie
 
