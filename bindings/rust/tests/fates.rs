@@ -56,6 +56,15 @@ fn a_hole_behind_a_collapsed_outline_goes_with_it() {
 }
 
 #[test]
+fn a_cleaning_answers_what_was_dropped() {
+    let set = set(&[vec![square(0, 8)], vec![line(), square(2, 6)]]);
+    let told = set.simplified_with_fates().unwrap();
+    assert_eq!(told.cleaned, set.simplified().unwrap());
+    let dropped: Vec<_> = told.dropped().collect();
+    assert_eq!(dropped, [(1, Collapsed), (2, Behind)]);
+}
+
+#[test]
 fn an_empty_outline_collapses() {
     both(&[vec![contour([]), square(0, 4)]], &[Collapsed, Behind]);
     both(&[], &[]);
@@ -69,7 +78,12 @@ fn what_the_library_refuses_is_refused() {
     assert_eq!(set.despiked_fates(), Err(Refused::Ranges));
     set.shape_ranges = vec![[0, 1]];
     set.points[0] = IntPoint::new(i32::MAX, 0);
-    assert_eq!(set.simplified_fates(), Err(Refused::OffGrid));
+    let off = Refused::OffGridAt {
+        contour: 0,
+        point: 0,
+    };
+    assert_eq!(set.simplified_fates(), Err(off));
+    assert_eq!(set.despiked_shapes_with_fates(), Err(off));
     set.points = vec![IntPoint::ZERO; 65_537];
     assert_eq!(set.simplified_fates(), Err(Refused::TooMany));
 }
