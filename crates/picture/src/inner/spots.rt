@@ -17,9 +17,13 @@ use vertices::inner::settling;
 
 // Puts both paths, by the marks of the points.
 fn put_marked(text: &mut [u8], at: usize, points: &[i32], mark: &[u8]) -> usize
-    requires { ⌜ (all-on-grid limit (now points) ≡ true) × (length (now points) ≡ 2 * length (now mark)) ⌝ }
     requires { ⌜
-        at + length (all-spots (vertices-of (survive (now mark)) (points-of (now points)))) ≤ length (now text)
+        (all-on-grid limit (now points) ≡ true)
+        × (length (now points) ≡ 2 * length (now mark))
+        ⌝ }
+    requires { ⌜
+        at + length (all-spots (vertices-of (survive (now mark)) (points-of (now points))))
+        ≤ length (now text)
         ⌝ }
     ensures { λ r. ⌜
         Put at (all-spots (vertices-of (survive (now (mark .entry))) (points-of (now (points .entry)))))
@@ -45,7 +49,10 @@ fn put_settled(
     text: &mut [u8],
     at: usize,
 ) -> usize
-    requires { ⌜ Dotted second (now bytes) n (now points) × Marked (now points) (now next) (now prev) (now mark) ⌝ }
+    requires { ⌜
+        Dotted second (now bytes) n (now points)
+        × Marked (now points) (now next) (now prev) (now mark)
+        ⌝ }
     requires { ⌜ at + length (all-spots (job-vertices (now bytes))) ≤ length (now text) ⌝ }
     ensures { λ r. ⌜
         Put at (all-spots (job-vertices (now (bytes .entry)))) (now (text .entry)) r (now (text .exit))

@@ -49,9 +49,13 @@ fn put_vertex(text: &mut [u8], at: usize, kept: bool, p: Point, stays: bool) -> 
 
 // Puts the dots of the kept points, or of the others, by their marks.
 pub fn put(text: &mut [u8], from: usize, kept: bool, points: &[i32], mark: &[u8]) -> usize
-    requires { ⌜ (all-on-grid limit (now points) ≡ true) × (length (now points) ≡ 2 * length (now mark)) ⌝ }
     requires { ⌜
-        from + length (dots kept (vertices (survive (now mark)) (points-of (now points)))) ≤ length (now text)
+        (all-on-grid limit (now points) ≡ true)
+        × (length (now points) ≡ 2 * length (now mark))
+        ⌝ }
+    requires { ⌜
+        from + length (dots kept (vertices (survive (now mark)) (points-of (now points))))
+        ≤ length (now text)
         ⌝ }
     ensures { λ r. ⌜
         Put from (dots kept (vertices (survive (now (mark .entry))) (points-of (now (points .entry)))))

@@ -51,7 +51,9 @@ pub fn settle_all(
 )
     requires { ⌜ Listable second (now bytes) n × (now points ≡ joined (job (now bytes))) ⌝ }
     requires { ⌜ Marked (now points) (now next) (now prev) (now mark) ⌝ }
-    ensures { λ _. ⌜ survive (now (mark .exit)) ≡ all-kept (rule-of second) (job (now (bytes .entry))) ⌝ }
+    ensures { λ _. ⌜
+        survive (now (mark .exit)) ≡ all-kept (rule-of second) (job (now (bytes .entry)))
+        ⌝ }
 {
     let mut at: usize = 16;
     let mut start: usize = 0;
