@@ -25,7 +25,7 @@ pub fn judged(program: &Program, root: &Path, runs: &Runs) -> Result<(), String>
             )?;
         }
         two(
-            runs.end(program, &[], File::open(sound), Some(full())),
+            runs.end(program, &[], File::open(&program.answered), Some(full())),
             "a full disk",
         )
     } else {

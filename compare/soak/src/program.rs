@@ -2,7 +2,7 @@
 
 use crate::run::{self, Runs};
 use std::fs;
-use std::path::Path;
+use std::path::{Path, PathBuf};
 
 /// What a program reads.
 #[derive(Clone, Copy, Debug, PartialEq, Eq)]
@@ -20,6 +20,8 @@ pub struct Program {
     /// How many files it is given by name; with none it reads standard input.
     pub words: usize,
     pub reads: Reads,
+    /// A file for which it writes something on standard output: a sound set file, or else what its own run reads.
+    pub answered: PathBuf,
 }
 
 /// Every program that is built. Each is run on a sound file first, which builds it anew if that is due, and on one that is
@@ -43,22 +45,27 @@ pub fn all(root: &Path, runs: &Runs) -> Result<Vec<Program>, String> {
             name,
             words: words.map_or(0, |words| words.lines().count()),
             reads: Reads::Other,
+            answered: runs.sound_path().clone(),
         };
-        program.reads = reads(&program, runs)?;
+        let silent = try_out(&mut program, runs)?;
+        if silent {
+            program.answered = root.join("crates").join(&crate_name).join("stdin");
+        }
         programs.push(program);
     }
     Ok(programs)
 }
 
-fn reads(program: &Program, runs: &Runs) -> Result<Reads, String> {
+/// Tells what the program reads, and whether it writes nothing for a sound set file.
+fn try_out(program: &mut Program, runs: &Runs) -> Result<bool, String> {
     let sound = runs.sound();
     let cut = &sound[..sound.len() - 1];
-    let [sound, cut] =
-        [&sound[..], cut].map(|file| runs.run(program, 0, file, run::BUILDING).status);
-    match (sound, cut) {
-        (Some(0), Some(1)) => Ok(Reads::Sound),
-        (Some(0), Some(0)) => Ok(Reads::Damaged),
-        (Some(1), Some(1)) => Ok(Reads::Other),
-        _ => Err(format!("{} does not run: {sound:?}, {cut:?}", program.name)),
-    }
+    let [whole, cut] = [&sound[..], cut].map(|file| runs.run(program, 0, file, run::BUILDING));
+    program.reads = match (whole.status, cut.status) {
+        (Some(0), Some(1)) => Reads::Sound,
+        (Some(0), Some(0)) => Reads::Damaged,
+        (Some(1), Some(1)) => Reads::Other,
+        statuses => return Err(format!("{} does not run: {statuses:?}", program.name)),
+    };
+    Ok(whole.out.is_empty())
 }
