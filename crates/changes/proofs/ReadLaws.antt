@@ -23,9 +23,10 @@ use Rattle.buffer.proofs.WrittenLaws.{spans-rows}
 use Rattle.buffer.proofs.Theorems.{packing-then-unpacking-gives-back-every-contour, points-total, the-counts-add-up, what-is-packed-is-sound}
 use Rattle.setfile.specs.declared.answer.Read.{Read}
 use Rattle.setfile.specs.Entries.{Entry, shapes-of, read-contours}
-use Rattle.setfile.specs.Editions.{is-second, parsed}
+use Rattle.setfile.specs.Editions.{number, is-second, parsed}
 use Rattle.setfile.specs.Reading as R
 use Rattle.setfile.specs.Reading.{refusals}
+use Rattle.setfile.specs.Promises.{shape-ranges}
 use Rattle.setfile.proofs.SizeLaws.{promised-few, shapes-few}
 use Rattle.difference.specs.inside.Sets.{Sound}
 use Rattle.report.specs.Listing.{most-listed, job, listing-refusals}
@@ -129,13 +130,21 @@ module _ {f : List ℕ} {out : List ℤ} {cs ss : List (List ℕ)} {r : Read} {o
     ranges-left : cs′ ≡ front (rows (contour-spans (job f))) cs
     ranges-left = ap (λ (o : R.Outcome). o .contours) (answered 0 accepted-file)
 
+    shapes-left : ss′ ≡ front (rows (shapes-in f out cs ss (done .has))) ss
+    shapes-left = ap (λ (o : R.Outcome). o .shapes) (answered 0 accepted-file)
+
+    shapes-number : r .shapes ≡ length (rows (shapes-in f out cs ss (done .has)))
+    shapes-number = ap (λ (o : R.Outcome). o .answer .shapes) (answered 0 accepted-file) ∙ sym (length-map (shapes-in f out cs ss (done .has)) row)
+
+    pub edition-is : r .edition ≡ number (is-second f)
+    edition-is = ap (λ (o : R.Outcome). o .answer .edition) (answered 0 accepted-file)
+
     -- the row of shapes has the room that it had
     pub shapes-long : 4095 ≤ length ss′
     shapes-long =
-        let left : ss′ ≡ front (rows (shapes-in f out cs ss (done .has))) ss = ap (λ (o : R.Outcome). o .shapes) (answered 0 accepted-file) in
         omega (
           arith,
-          ap length left ∙ length-append (rows (shapes-in f out cs ss (done .has))) (drop (length (rows (shapes-in f out cs ss (done .has)))) ss),
+          ap length shapes-left ∙ length-append (rows (shapes-in f out cs ss (done .has))) (drop (length (rows (shapes-in f out cs ss (done .has)))) ss),
           length-drop (length (rows (shapes-in f out cs ss (done .has)))) ss,
           done .has .shapes,
         )
@@ -154,3 +163,15 @@ module _ {f : List ℕ} {out : List ℤ} {cs ss : List (List ℕ)} {r : Read} {o
 
     pub ranges-are : take (r .contours) cs′ ≡ rows (contour-spans (job f))
     ranges-are = ap (take (r .contours)) ranges-left ∙ take-at (rows (contour-spans (job f))) _ (r .contours) (sym contours-number)
+
+    pub shapes-in-row : r .shapes ≤ length ss′
+    shapes-in-row = omega (arith, shapes-number, ap length shapes-left ∙ length-append (rows (shapes-in f out cs ss (done .has))) (drop (length (rows (shapes-in f out cs ss (done .has)))) ss))
+
+    pub shapes-are : take (r .shapes) ss′ ≡ shape-ranges f
+    shapes-are = ap (take (r .shapes)) shapes-left ∙ take-at (rows (shapes-in f out cs ss (done .has))) _ (r .shapes) (sym shapes-number)
+
+    pub few-shapes : r .shapes ≤ 4095
+    few-shapes = omega (arith, shapes-number, length-map (shapes-in f out cs ss (done .has)) row, shapes-length f out cs ss (done .has))
+
+    pub few-contours : r .contours ≤ 4095
+    few-contours = omega (arith, contours-number, ranges-length f, job-few f)

@@ -1,0 +1,4 @@
+pub mod LineLaws
+pub mod SetLaws
+pub mod TidyLaws
+pub mod Theorems

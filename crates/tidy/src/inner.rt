@@ -1,0 +1,3 @@
+// A file cleaned, and what went put into a row that has room for it.
+pub mod lines;
+pub mod tidying;
