@@ -2,3 +2,4 @@ pub mod LineLaws
 pub mod SetLaws
 pub mod TidyLaws
 pub mod Theorems
+pub mod Cases
