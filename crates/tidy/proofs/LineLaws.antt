@@ -1,5 +1,5 @@
 -- The lines of the contours that went: their words, how long they are, and how they are put one behind the other.
-use mathlib.Core.Path.{_≡_, sym, _∙_, ap}
+use mathlib.Core.Path.{_≡_, sym}
 use mathlib.Core.Bool.{Bool, true, false}
 use mathlib.Core.List.{List, [], _∷_, _++_, append-assoc, append-nil}
 use Prim.Native.Nat.{ℕ, suc, _+_, _*_, _^_, _≤_, _<_}
@@ -20,7 +20,7 @@ use Rattle.grid.specs.Domain.{count}
 use Rattle.rows.proofs.PlacedLaws.{placed-none}
 use Rattle.buffer.specs.Spans.{span, spans}
 use Rattle.buffer.specs.Sets.{joined, contour as contour-at, contours}
-use Rattle.sets.proofs.PartLaws.{next-part, no-part}
+use Rattle.sets.proofs.PartLaws.{next-part}
 use Rattle.report.specs.Text.{decimal, signed, line-end}
 use Rattle.report.specs.inside.Lines.{Put}
 use Rattle.report.proofs.PutLaws.{Going, going-none, going-room, going-more, going-all, going-same}

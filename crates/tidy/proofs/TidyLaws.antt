@@ -1,17 +1,16 @@
 -- What is made of a file, by what reading it and writing it answered.
-use mathlib.Core.Path.{_≡_, refl, sym, _∙_, ap, ap₂}
+use mathlib.Core.Path.{_≡_, refl, sym, _∙_, ap}
 use mathlib.Core.Bool.{Bool, true, false}
-use mathlib.Core.List.{List, []}
+use mathlib.Core.List.{List}
 use Prim.Native.Nat.{ℕ, zero, suc, _*_, _≤_}
 use native.Mathlib.Omega.{arith}
 use lib.Dec.{eqb}
-use lib.ListN.{length, take, length-append}
+use lib.ListN.{length, take}
 use lib.Seq.{length-take-le}
 use lib.IntN.{ℤ}
 use Rattle.replies.specs.Ladder.{first-of}
 use Rattle.replies.proofs.LadderLaws.{front-clear}
 use Rattle.bits.specs.Bits.{Bytes}
-use Rattle.grid.specs.Domain.{count}
 use Rattle.ring.specs.declared.Rule.{Rule}
 use Rattle.buffer.specs.Spans.{spans}
 use Rattle.buffer.specs.Sets.{shapes}
@@ -20,14 +19,13 @@ use Rattle.setfile.specs.Editions.{number, is-second}
 use Rattle.setfile.specs.Reading.{refusals}
 use Rattle.setfile.specs.Promises.{points-of, contour-ranges, shape-ranges}
 use Rattle.setfile.proofs.Theorems.{the-set-that-is-read-can-be-carried}
-use Rattle.report.specs.Text.{decimal, line-end, refused}
 use Rattle.report.specs.Listing.{listing-refusals}
 use Rattle.report.specs.inside.Lines.{Put}
 use Rattle.report.proofs.ReportLaws.{accepted}
 use Rattle.report.proofs.PutLaws.{put-front, front-within}
 use Rattle.changes.proofs.ReadLaws.{HasRead, reply-is, accepted-file, edition-is, few-points, few-contours, few-shapes, points-in, ranges-in, shapes-in-row, points-are, ranges-are, shapes-are}
 use Rattle.jobpack.specs.declared.Lengths.{Lengths}
-use Rattle.jobpack.specs.Packing.{Packed, refusing, written, Outcome, leaving, outcome}
+use Rattle.jobpack.specs.Packing.{refusing, written, Outcome, leaving, outcome}
 use Rattle.tidy.specs.Words.{written-with, set-tidied, tidied-by, tidied, tidying}
 use Rattle.tidy.specs.inside.Sets.{Tidiable}
 

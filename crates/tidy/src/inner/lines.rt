@@ -1,13 +1,11 @@
 // The lines of the contours that went.
 ghost use mathlib.Core.Path.{_≡_};
-ghost use mathlib.Core.List.{_++_};
 ghost use Prim.Native.Nat.{_+_, _≤_};
 ghost use lib.ListN.{length};
 ghost use Rattle.grid.specs.Domain.{count, Contour};
 ghost use Rattle.buffer.specs.Spans.{spans};
 ghost use Rattle.buffer.specs.Sets.{contours};
 ghost use Rattle.sets.specs.inside.Shape.{Named};
-ghost use Rattle.report.specs.Text.{line-end};
 ghost use Rattle.report.specs.inside.Lines.{Put};
 ghost use Rattle.tidy.specs.Words.{why, area as area-of, line as line-of, lines as lines-of};
 use buffer::inner::parts;

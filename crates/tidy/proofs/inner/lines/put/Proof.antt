@@ -1,5 +1,4 @@
 -- `tidy::inner::lines::put` meets its contract: the lines that are left are put from where the loop has come to.
-use mathlib.Core.Path.{_≡_}
 use Prim.Native.Nat.{_-_}
 use native.Mathlib.Omega.{arith}
 use borrow.Author.Needs.{needs}

@@ -1,5 +1,5 @@
 -- `tidy::inner::tidying::tidy` meets its contract: what reading the file answered says what is made of it.
-use mathlib.Core.Path.{_≡_, sym, _∙_, ap}
+use mathlib.Core.Path.{sym, _∙_, ap}
 use mathlib.Core.List.{List}
 use Prim.Native.Nat.{ℕ, _≤_}
 use native.Mathlib.Omega.{arith}

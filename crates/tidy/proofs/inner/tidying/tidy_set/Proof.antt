@@ -1,6 +1,5 @@
 -- `tidy::inner::tidying::tidy_set` meets its contract: by whether the writer has said something.
 use mathlib.Core.List.{List}
-use Prim.Native.Nat.{ℕ}
 use lib.IntN.{ℤ}
 use borrow.Author.Needs.{needs}
 use Rattle.buffer.specs.Spans.{spans}
