@@ -49,7 +49,7 @@ fn refusal_of(lent: Lengths, set: &Set) -> Reply<()> {
 
 impl Cleaner {
     /// A contour that passes its verdict is kept; another goes where its walk keeps nothing.
-    fn collapses(self, contour: &Contour) -> bool {
+    pub fn collapses(self, contour: &Contour) -> bool {
         !self.passes(contour) && self.walk(contour).kept.is_none()
     }
 }

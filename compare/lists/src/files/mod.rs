@@ -4,6 +4,7 @@
 mod answers;
 pub mod case;
 mod changes;
+mod cleanings;
 pub mod damaged;
 pub mod edition_2;
 mod large;
@@ -18,6 +19,7 @@ pub mod writings;
 pub use answers::{answer, Reading, Writing};
 pub use case::Case;
 pub use changes::write_changes;
+pub use cleanings::write_cleanings;
 pub use listing::write_listings;
 pub use mend::{Lent, Mending};
 pub use texts::write_texts;

@@ -28,12 +28,7 @@ const WORDS: &[&str] = &[
 /// packed to, and a damaged one.
 pub fn write_texts(folder: &Path, count: usize, others: &[&str]) -> io::Result<()> {
     fs::create_dir_all(folder)?;
-    let mut files: Vec<Vec<u8>> = others.iter().map(fs::read).collect::<io::Result<_>>()?;
-    let mut seen = HashSet::new();
-    let mut listed: Vec<Vec<u8>> = super::list().iter().filter_map(Case::file).collect();
-    listed.retain(|file| seen.insert(file.clone()));
-    let step = listed.len().div_ceil(count.max(1)).max(1);
-    files.extend(listed.into_iter().step_by(step));
+    let files = chosen(count, others)?;
     let rng = &mut Rng::new(21);
     for (number, file) in files.iter().enumerate() {
         let text = dump(file);
@@ -41,9 +36,23 @@ pub fn write_texts(folder: &Path, count: usize, others: &[&str]) -> io::Result<(
         fs::write(at("set"), file)?;
         fs::write(at("dumped"), &text)?;
         write_packing(&folder.join(format!("{number}-as-it-is")), text.as_bytes())?;
-        write_packing(&folder.join(format!("{number}-damaged")), &damaged(rng, &text))?;
+        write_packing(
+            &folder.join(format!("{number}-damaged")),
+            &damaged(rng, &text),
+        )?;
     }
     Ok(())
+}
+
+/// The other files, and about so many of the list's.
+pub(super) fn chosen(count: usize, others: &[&str]) -> io::Result<Vec<Vec<u8>>> {
+    let mut files: Vec<Vec<u8>> = others.iter().map(fs::read).collect::<io::Result<_>>()?;
+    let mut seen = HashSet::new();
+    let mut listed: Vec<Vec<u8>> = super::list().iter().filter_map(Case::file).collect();
+    listed.retain(|file| seen.insert(file.clone()));
+    let step = listed.len().div_ceil(count.max(1)).max(1);
+    files.extend(listed.into_iter().step_by(step));
+    Ok(files)
 }
 
 /// Writes a text, and what it is packed to: its file, or the words that say why there is none.
