@@ -42,19 +42,21 @@ struct Lent {
     prev: Vec<u32>,
     mark: Vec<u8>,
     out: Flat,
+    fates: Vec<u8>,
 }
 
 impl Lent {
     fn new(set: &Flat) -> Lent {
         let n = set.count();
-        Lent { next: vec![0; n], prev: vec![0; n], mark: vec![0; n], out: set.room() }
+        let fates = vec![0; set.contours.len()];
+        Lent { next: vec![0; n], prev: vec![0; n], mark: vec![0; n], out: set.room(), fates }
     }
 }
 
 /// Calls the cleaner of a shape, and answers the points, contours and shapes that it keeps.
 macro_rules! cleaned_shape {
     ($name:ident, $set:expr, $lent:expr) => {{
-        let (Flat { points, contours, .. }, Lent { next, prev, mark, out }) = (black_box($set), &mut *$lent);
+        let (Flat { points, contours, .. }, Lent { next, prev, mark, out, .. }) = (black_box($set), &mut *$lent);
         let cleaned = call!($name(points, contours; next, prev, mark, out.points, out.contours;));
         [cleaned.points, cleaned.contours, 0]
     }};
@@ -63,9 +65,17 @@ macro_rules! cleaned_shape {
 /// The same, of shapes.
 macro_rules! cleaned_shapes {
     ($name:ident, $set:expr, $lent:expr) => {{
-        let (Flat { points, contours, shapes }, Lent { next, prev, mark, out }) = (black_box($set), &mut *$lent);
+        let (Flat { points, contours, shapes }, Lent { next, prev, mark, out, .. }) = (black_box($set), &mut *$lent);
         let cleaned = call!($name(points, contours, shapes; next, prev, mark, out.points, out.contours, out.shapes;));
         [cleaned.points, cleaned.contours, cleaned.shapes]
+    }};
+}
+
+/// Calls the function that tells what becomes of each contour, and answers how many are kept.
+macro_rules! fates {
+    ($name:ident, $set:expr, $lent:expr) => {{
+        let (Flat { points, contours, shapes }, Lent { next, prev, mark, fates, .. }) = (black_box($set), &mut *$lent);
+        call!($name(points, contours, shapes; next, prev, mark, fates;)).count
     }};
 }
 
@@ -88,6 +98,14 @@ const SHAPE_CLEANERS: [(&str, Original<IntShape<i32>>, Cleaner); 2] = [
 const SHAPES_CLEANERS: [(&str, Original<IntShapes<i32>>, Cleaner); 2] = [
     ("simplified_shapes", |s| s[..].simplified(), |set, lent| cleaned_shapes!(ukm_simplified_shapes, set, lent)),
     ("despiked_shapes", |s| s.despiked_shapes(), |set, lent| cleaned_shapes!(ukm_despiked_shapes, set, lent)),
+];
+
+type Teller = fn(&Flat, &mut Lent) -> usize;
+
+/// Who has the original alone cleans the shapes, and counts what is left.
+const FATES: [(&str, Original<IntShapes<i32>>, Teller); 2] = [
+    ("simplified_fates", |s| s[..].simplified(), |set, lent| fates!(ukm_simplified_fates, set, lent)),
+    ("despiked_fates", |s| s.despiked_shapes(), |set, lent| fates!(ukm_despiked_fates, set, lent)),
 ];
 
 type Question<T> = fn(&T) -> i64;
@@ -161,6 +179,11 @@ pub fn lines(kind: &Kind) {
     }
     for (function, rust, ours) in SHAPES_CLEANERS {
         cleaning(name, function, shapes, &set, rust, ours, |s| Flat::of(&s));
+    }
+    let mut lent = Lent::new(&set);
+    for (function, rust, ours) in FATES {
+        let kept = |cleaned: IntShapes<i32>| cleaned.iter().map(Vec::len).sum::<usize>() as i64;
+        line(name, function, set.count(), &mut || kept(rust(black_box(shapes))), &mut || ours(&set, &mut lent) as i64);
     }
     for (function, rust, ours) in OF_A_SHAPE {
         asking(name, function, &shape, &set, rust, ours);
