@@ -1,7 +1,7 @@
 //! `lists list` writes the list of cases; `lists answers` reads a list and writes the answers
 //! to it; `lists listings` writes set files and their listings, `lists changes` pairs of set
-//! files and what is said of them, `lists texts` set files and their texts, and `lists cleanings`
-//! set files and what cleaning makes of them.
+//! files and what is said of them, `lists texts` set files and their texts, `lists cleanings` set
+//! files and what cleaning makes of them, and `lists pictures` set files and their pictures.
 
 use lists::{answer, files, list, HEADER};
 use std::io::{self, BufRead, BufWriter, Write};
@@ -30,12 +30,16 @@ fn run(words: &[String]) -> Outcome {
         ["cleanings", folder, count, ref others @ ..] => {
             files::write_cleanings(folder.as_ref(), count.parse()?, others).map_err(Into::into)
         }
+        ["pictures", folder, count, ref others @ ..] => {
+            files::write_pictures(folder.as_ref(), count.parse()?, others).map_err(Into::into)
+        }
         _ => Err(USAGE.into()),
     }
 }
 
 const USAGE: &str = "usage: lists list | answers <list | listings FOLDER | changes FOLDER COUNT | \
-     texts FOLDER COUNT [FILE]... | cleanings FOLDER COUNT [FILE]...";
+     texts FOLDER COUNT [FILE]... | cleanings FOLDER COUNT [FILE]... | \
+     pictures FOLDER COUNT [FILE]...";
 
 type Outcome = Result<(), Box<dyn std::error::Error>>;
 

@@ -11,6 +11,7 @@ mod large;
 mod listing;
 mod mend;
 pub mod mendings;
+mod pictures;
 pub mod sound;
 mod text;
 mod texts;
@@ -22,6 +23,7 @@ pub use changes::write_changes;
 pub use cleanings::write_cleanings;
 pub use listing::write_listings;
 pub use mend::{Lent, Mending};
+pub use pictures::write_pictures;
 pub use texts::write_texts;
 
 use crate::point::OFF_NARROW;
