@@ -107,7 +107,7 @@ fn chosen() -> Vec<Pair> {
     let [one, two] = Edition::BOTH;
     let of = |edition: Edition, set: &Set| match set.is_empty() {
         true => edition.write(&[]),
-        false => edition.write(&[set.clone()]),
+        false => edition.write(std::slice::from_ref(set)),
     };
     let stair = |count: usize| -> Vec<Point> { (0..count as i32).map(|x| [x, x % 2]).collect() };
     let turned = |count: usize, start: usize| {
