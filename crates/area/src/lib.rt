@@ -1,4 +1,5 @@
 // The doubled and the halved area of a contour.
+#![tactic(auto)]
 mod answer;
 pub mod inner;
 

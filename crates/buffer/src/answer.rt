@@ -4,7 +4,7 @@ ghost use Rattle.buffer.specs.Answers.{counted as counted_of, packed};
 
 // A count: its reply number, and 0 where it is refused.
 #[repr(C)]
-#[derive(Drop)]
+#[derive(Clone, Copy)]
 pub struct Counted {
     pub reply: u32,
     pub count: usize,
@@ -12,7 +12,7 @@ pub struct Counted {
 
 // What packing wrote: its reply number, and how many of each; 0 where it is refused, and no shapes in a contour set.
 #[repr(C)]
-#[derive(Drop)]
+#[derive(Clone, Copy)]
 pub struct Packed {
     pub reply: u32,
     pub points: usize,

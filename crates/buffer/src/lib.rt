@@ -1,4 +1,5 @@
 // Sets of contours and of shapes, flat: points, and the ranges that name their parts.
+#![tactic(auto)]
 pub mod answer;
 pub mod contours;
 pub mod inner;

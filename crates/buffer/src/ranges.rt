@@ -4,7 +4,7 @@ ghost use Rattle.buffer.specs.Spans.{follows, spans, sound as sound_of};
 
 // A range as a struct, which lies in memory as a row of two numbers does.
 #[repr(C)]
-#[derive(Drop)]
+#[derive(Clone, Copy)]
 pub struct Span {
     pub start: usize,
     pub end: usize,

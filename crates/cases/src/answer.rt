@@ -5,7 +5,7 @@ use crate::text::TEXT;
 // How many columns an answer can have.
 pub const COLUMNS: usize = 18;
 
-#[derive(Drop)]
+#[derive(Clone, Copy)]
 pub struct Answer {
     pub count: usize,
     pub forms: [u8; COLUMNS],

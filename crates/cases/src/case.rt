@@ -12,14 +12,14 @@ use crate::{floats, line, marks, number, numbers, records};
 pub const HEAD: usize = 7;
 
 // The numbers in front, in their order, and the place after them.
-#[derive(Drop)]
+#[derive(Clone, Copy)]
 pub struct Head {
     pub numbers: [usize; HEAD],
     pub at: usize,
 }
 
 // How many numbers, or else bytes or kinds, and how many floats stand in their rows, and the place after them.
-#[derive(Drop)]
+#[derive(Clone, Copy)]
 pub struct Rows {
     pub count: usize,
     pub floats: usize,
@@ -28,7 +28,7 @@ pub struct Rows {
 
 // A case that was read: where its records end in their row, of each list behind those of the one before; how many
 // numbers, or else bytes or kinds, and how many floats stand in their rows; and the line's end, or where it is damaged.
-#[derive(Drop)]
+#[derive(Clone, Copy)]
 pub struct Case {
     pub kind: u8,
     pub head: [usize; HEAD],

@@ -1,4 +1,5 @@
 // Lists of cases: their lines, the rows that a case fills and lends, and the line of its answers.
+#![tactic(auto)]
 pub mod answer;
 pub mod case;
 pub mod checksum;

@@ -5,7 +5,7 @@
 pub const DAMAGE: usize = 4294967296;
 
 // Entries that were read: where they end in their row, and the place after them.
-#[derive(Drop)]
+#[derive(Clone, Copy)]
 pub struct Read {
     pub end: usize,
     pub at: usize,

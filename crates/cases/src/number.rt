@@ -7,7 +7,7 @@ use crate::line;
 pub const LARGEST: usize = 2147483647;
 
 // A number that was read, and the place after it.
-#[derive(Drop)]
+#[derive(Clone, Copy)]
 pub struct Number {
     pub value: usize,
     pub at: usize,

@@ -1,4 +1,5 @@
 // Compares the set files that its two words name, and says on standard output what changed from the first to the second.
+#![tactic(auto)]
 ghost use Rattle.io.specs.Counts.{IsPrefixLen};
 
 use changes::TEXT;

@@ -9,7 +9,7 @@ use ring::Rule;
 // The answer of a cleaning: its reply number, how many points are kept, after how many decisions, and in how many turns:
 // those that decided, and those that stepped over a marked point.
 #[repr(C)]
-#[derive(Drop)]
+#[derive(Clone, Copy)]
 pub struct Cleaned {
     pub reply: u32,
     pub points: usize,

@@ -1,4 +1,5 @@
 // Reads a set file on standard input, writes the file of its shapes without their collinear points on standard output, and on standard error what went.
+#![tactic(auto)]
 use libc::{STDERR_FILENO, STDIN_FILENO, STDOUT_FILENO};
 use ring::Rule;
 use tidy::{BYTES, TEXT};

@@ -1,4 +1,5 @@
 // What the library answers to a case of the kind `q` or `W`: sets judged and cleaned.
+#![tactic(auto)]
 use answers::{column, contours};
 use buffer::Counted;
 use cases::answer::Answer;

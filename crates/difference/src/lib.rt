@@ -1,4 +1,5 @@
 // Two sets compared, contour by contour: what is the same, what starts elsewhere, what differs, and what only one of them has. Nothing is copied.
+#![tactic(auto)]
 pub mod inner;
 pub mod kind;
 pub mod walker;
@@ -10,7 +11,7 @@ use crate::inner::listing;
 
 // How a comparison ended: its reply number; whose set was refused, 1 or 2, and 0 where none was; and how many contours are listed, 0 where it is refused.
 #[repr(C)]
-#[derive(Drop)]
+#[derive(Clone, Copy)]
 pub struct Compared {
     pub reply: u32,
     pub refused: u32,

@@ -1,4 +1,5 @@
 // Reads a set file on standard input, and writes its picture on standard output.
+#![tactic(auto)]
 ghost use Rattle.std.specs.Prelude.{◌≤◌, length};
 ghost use Rattle.picture.specs.Picture.{picture as picture-of};
 

@@ -2,7 +2,7 @@
 
 // What was drawn: its reply number, and how many commands and floats; 0 where it is refused.
 #[repr(C)]
-#[derive(Drop)]
+#[derive(Clone, Copy)]
 pub struct Drawn {
     pub reply: u32,
     pub commands: usize,

@@ -12,13 +12,13 @@ pub const LINE: u8 = 1;
 pub const CLOSE: u8 = 2;
 
 // A place, in millimetres.
-#[derive(Drop)]
+#[derive(Clone, Copy)]
 pub struct Place {
     pub x: f64,
     pub y: f64,
 }
 
-#[derive(Drop)]
+#[derive(Clone, Copy)]
 pub enum Command {
     Move(Place),
     Line(Place),

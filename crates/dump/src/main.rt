@@ -1,4 +1,5 @@
 // Reads a set file on standard input, and writes its job as text.
+#![tactic(auto)]
 use jobtext::TEXT;
 use jobtext::inner::dumping;
 use libc::{STDIN_FILENO, STDOUT_FILENO};

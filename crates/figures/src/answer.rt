@@ -3,7 +3,7 @@
 // How many contours and refused sets had each reply, the points before and after, the decisions, and the sum of the kept
 // contours' doubled areas, which is high * 2^32 + low.
 #[repr(C)]
-#[derive(Drop)]
+#[derive(Clone, Copy)]
 pub struct Figures {
     pub totals: [u32; 22],
     pub before: u64,
@@ -15,7 +15,7 @@ pub struct Figures {
 
 // The reply number, and the figures then: as they were given where they are refused.
 #[repr(C)]
-#[derive(Drop)]
+#[derive(Clone, Copy)]
 pub struct Added {
     pub reply: u32,
     pub figures: Figures,

@@ -1,4 +1,5 @@
 // The weekly figures: what any number of sets came to, up to 65,535 contours and refused sets in all.
+#![tactic(auto)]
 pub mod answer;
 pub mod inner;
 

@@ -4,7 +4,7 @@ use cases::{checksum, room};
 use figures::{Added, Figures};
 
 // What was told: the last reply, how many there were, and all of them in one checksum; and the figures after the last.
-#[derive(Drop)]
+#[derive(Clone, Copy)]
 pub struct Told {
     pub last: u32,
     pub count: usize,

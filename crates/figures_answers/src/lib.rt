@@ -1,4 +1,5 @@
 // What the library answers to a case of the kind `a`: sets that are added to figures, and figures that are joined.
+#![tactic(auto)]
 mod calls;
 mod words;
 

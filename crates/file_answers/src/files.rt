@@ -8,7 +8,7 @@ use salvage::Salvaged;
 use setfile::{Read, Written};
 
 // The listing of a file: how long it is, and the checksum of its text.
-#[derive(Drop)]
+#[derive(Clone, Copy)]
 pub struct Listed {
     pub length: usize,
     pub sum: u64,

@@ -1,4 +1,6 @@
 // The grid: its bounds, its points and edges, and the domain of a row of coordinates.
+#![tactic(auto)]
+
 pub mod inner;
 
 ghost use Rattle.std.specs.Prelude.{◌≡◌};
@@ -17,14 +19,14 @@ pub const NARROW: u32 = 536_870_912;
 // The most points of a contour or a set.
 pub const MOST: usize = 65_536;
 
-#[derive(Drop)]
+#[derive(Clone, Copy)]
 pub struct Point {
     pub x: i32,
     pub y: i32,
 }
 
 // An edge: how far it goes in x and in y.
-#[derive(Drop)]
+#[derive(Clone, Copy)]
 pub struct Edge {
     pub dx: i64,
     pub dy: i64,

@@ -1,4 +1,6 @@
 // Whole numbers for every crate above: a few conversions between their types, and, with no code, identities, linear facts, bounds, and sums modulo 2^64.
+#![tactic(auto)]
+
 ghost use Rattle.std.specs.Prelude.{◌≡◌, nat_abs};
 ghost use Rattle.std.specs.Int.{w32, w64};
 ghost use Rattle.std.proofs.Common.{to_z, of_z};

@@ -1,8 +1,9 @@
 // The file of a text's job: what the program `pack` writes.
+#![tactic(auto)]
 pub mod inner;
 
 // How long the file is, and what is said.
-#[derive(Drop)]
+#[derive(Clone, Copy)]
 pub struct Lengths {
     pub bytes: usize,
     pub words: usize,

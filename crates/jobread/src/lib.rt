@@ -1,4 +1,5 @@
 // A job's text, read back into the rows of a set.
+#![tactic(auto)]
 pub mod inner;
 
 // Where in a text its reader is.

@@ -1,4 +1,5 @@
 // Reads a set file on standard input, cleans each contour by itself, and lists what changed.
+#![tactic(auto)]
 ghost use Rattle.std.specs.Prelude.{◌≤◌, length};
 ghost use Rattle.report.specs.Listing.{listing as listing-of};
 

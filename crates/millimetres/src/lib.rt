@@ -1,4 +1,5 @@
 // Millimetres as floats, and the units of the grid, 1,024 to the millimetre: each from the other.
+#![tactic(auto)]
 pub mod inner;
 
 ghost use Rattle.std.specs.Prelude.{◌≡◌};

@@ -1,4 +1,5 @@
 // Reads a job's text on standard input, and writes its file on standard output, or on standard error why there is none.
+#![tactic(auto)]
 use jobpack::inner::packing;
 use jobpack::{BYTES, WORDS};
 use libc::{STDERR_FILENO, STDIN_FILENO, STDOUT_FILENO};

@@ -20,7 +20,7 @@ use crate::{BOUNDARY, INSIDE, OUTSIDE};
 use grid::{Edge, Point};
 
 // What the corners met so far have shown.
-#[derive(Drop)]
+#[derive(Clone, Copy)]
 struct Seen {
     left: bool,
     right: bool,

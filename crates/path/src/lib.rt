@@ -1,4 +1,5 @@
 // Whether a contour is convex, wound clockwise, or contains a point, and where a point lies.
+#![tactic(auto)]
 pub mod inner;
 
 ghost use Rattle.std.specs.Prelude.{◌≡◌};
@@ -18,7 +19,7 @@ pub const INSIDE: u8 = 2;
 
 // Where a point lies: the reply number, and one of the three places, OUTSIDE where it is refused.
 #[repr(C)]
-#[derive(Drop)]
+#[derive(Clone, Copy)]
 pub struct Located {
     pub reply: u32,
     pub place: u8,

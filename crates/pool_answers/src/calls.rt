@@ -2,7 +2,7 @@
 use cases::{checksum, room};
 
 // What was told: the last reply, how many there were, and all of them in one checksum.
-#[derive(Drop)]
+#[derive(Clone, Copy)]
 pub struct Told {
     pub last: u32,
     pub count: usize,

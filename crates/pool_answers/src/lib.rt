@@ -1,4 +1,5 @@
 // What the library answers to a case of the kind `h`: a history of two presses that share a pool.
+#![tactic(auto)]
 mod calls;
 mod reads;
 mod records;

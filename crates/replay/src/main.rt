@@ -3,6 +3,7 @@
 // A line is a case: its kind, then numbers, each after one space, and rows, which are given as they are, so that they
 // may be sound or not. A list that is damaged is replayed up to the first byte that cannot stand where it does, and
 // that place is written.
+#![tactic(auto)]
 mod answering;
 mod list;
 

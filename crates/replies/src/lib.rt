@@ -21,6 +21,8 @@
 // | 16 | a fill bit of a file that is set | all unchanged |
 // | 17 | a press's held points would pass the pool less the other's part | all unchanged |
 // | 18 | removing with none left | all unchanged |
+#![tactic(auto)]
+
 ghost use Rattle.std.specs.Prelude.{◌≡◌, ◌++◌};
 ghost use Rattle.replies.specs.Ladder.{first_of, so_far, room as room_for};
 ghost use Rattle.replies.specs.Verdicts.{verdict as verdict-of};
@@ -65,7 +67,7 @@ pub const NONE_LEFT: u32 = 18;
 
 // The answer to a question of yes or no: its reply number, and no where it is refused.
 #[repr(C)]
-#[derive(Drop)]
+#[derive(Clone, Copy)]
 pub struct Verdict {
     pub reply: u32,
     pub yes: bool,

@@ -4,7 +4,7 @@ ghost use Rattle.salvage.specs.Outcome.{salvaged};
 
 // What was salvaged: its reply number, how many bytes were written, how many contours were dropped and how many never came, and how many bytes stood past the promised count; 0 where it is refused.
 #[repr(C)]
-#[derive(Drop)]
+#[derive(Clone, Copy)]
 pub struct Salvaged {
     pub reply: u32,
     pub bytes: usize,

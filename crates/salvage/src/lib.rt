@@ -1,4 +1,5 @@
 // What is sound of a damaged file, written as a file of its own, with a list of what was dropped.
+#![tactic(auto)]
 pub mod answer;
 mod inner;
 

@@ -1,4 +1,5 @@
 // Reads a damaged set file on standard input, writes what is sound of it on standard output, and what was lost, in words, on standard error.
+#![tactic(auto)]
 use account::{BYTES, TEXT};
 use libc::{STDERR_FILENO, STDIN_FILENO, STDOUT_FILENO};
 

@@ -2,7 +2,7 @@
 
 // What was read: its reply number, the edition of the file, and how many of each; 0 where it is refused.
 #[repr(C)]
-#[derive(Drop)]
+#[derive(Clone, Copy)]
 pub struct Read {
     pub reply: u32,
     pub edition: u32,
@@ -13,7 +13,7 @@ pub struct Read {
 
 // What was written: its reply number, and how many bytes; 0 where it is refused.
 #[repr(C)]
-#[derive(Drop)]
+#[derive(Clone, Copy)]
 pub struct Written {
     pub reply: u32,
     pub bytes: usize,

@@ -1,4 +1,5 @@
 // The set file: both editions, read and written.
+#![tactic(auto)]
 pub mod answer;
 pub mod inner;
 mod reading;

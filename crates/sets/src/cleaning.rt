@@ -10,7 +10,7 @@ use ring::Rule;
 
 // The answer of cleaning a set: its reply number, how many of each are kept, after how many decisions, and in how many turns.
 #[repr(C)]
-#[derive(Drop)]
+#[derive(Clone, Copy)]
 pub struct CleanedSet {
     pub reply: u32,
     pub points: usize,

@@ -1,4 +1,5 @@
 // A job cleaned: the file of its cleaned shapes, and a line for each contour that went.
+#![tactic(auto)]
 pub mod inner;
 
 // The most bytes of a file.

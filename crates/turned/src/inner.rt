@@ -86,7 +86,7 @@ fn together(row: &[i32], n: usize, i: usize, j: usize) -> usize
 }
 
 // Where the least rotation of a contour begins first, after how many points the contour repeats, and in how many steps that was found.
-#[derive(Drop)]
+#[derive(Clone, Copy)]
 pub struct Turned {
     pub start: usize,
     pub period: usize,
@@ -94,7 +94,7 @@ pub struct Turned {
 }
 
 // Two starts that race, i and j: each start before j but i has lost to another.
-#[derive(Drop)]
+#[derive(Clone, Copy)]
 struct Race {
     i: usize,
     j: usize,

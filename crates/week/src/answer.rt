@@ -2,7 +2,7 @@
 use figures::Figures;
 
 // The figures, how many files were counted, whether one more would have been too many, and whether the last was taken to be all that was left.
-#[derive(Drop)]
+#[derive(Clone, Copy)]
 pub struct Week {
     pub figures: Figures,
     pub files: u32,

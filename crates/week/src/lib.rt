@@ -1,4 +1,5 @@
 // The weekly figures of set files that stand one behind the other: what the program `weekly` writes.
+#![tactic(auto)]
 pub mod answer;
 pub mod inner;
 

@@ -1,4 +1,5 @@
 // Reads set files that stand one behind the other on standard input, and writes the figures of them all, in words, on standard output.
+#![tactic(auto)]
 ghost use mathlib.Core.Path.{◌≡◌};
 ghost use mathlib.Core.Bool.{true};
 ghost use Prim.Native.Nat.{◌-◌, ◌≤◌};

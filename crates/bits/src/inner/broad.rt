@@ -7,7 +7,7 @@ use crate::inner::pens;
 use crate::inner::pens::Pen;
 
 // How many bytes are written, and the bits that are kept behind them: the first so many of a word, and zeros.
-#[derive(Drop)]
+#[derive(Clone, Copy)]
 pub struct Broad {
     pub at: usize,
     pub kept: u64,

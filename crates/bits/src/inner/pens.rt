@@ -6,7 +6,7 @@ ghost use Rattle.bits.specs.inside.Words.{spelled};
 ghost use Rattle.bits.specs.inside.Pens.{reached, Ready, Space, Wrote, Lifted};
 
 // How many bytes are written, and the bits that are kept behind them: a number of this width.
-#[derive(Drop)]
+#[derive(Clone, Copy)]
 pub struct Pen {
     pub at: usize,
     pub kept: u64,

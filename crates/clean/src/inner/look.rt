@@ -13,7 +13,7 @@ use grid::Edge;
 use ring::Rule;
 
 // Whether a contour passes its verdict, and how many of its vertices stand from the front.
-#[derive(Drop)]
+#[derive(Clone, Copy)]
 pub struct Look {
     pub passes: bool,
     pub standing: usize,

@@ -21,7 +21,7 @@ fn put(points: &[i32], i: usize, out: &mut [i32], k: usize)
 }
 
 // How many points survive, and how many of them are marked.
-#[derive(Drop)]
+#[derive(Clone, Copy)]
 pub struct Survived {
     pub points: usize,
     pub marked: usize,

@@ -7,7 +7,7 @@ ghost use Rattle.difference.specs.inside.Sets.{Long};
 use crate::kind;
 
 // A line: its kind, and the place that goes with it.
-#[derive(Drop)]
+#[derive(Clone, Copy)]
 pub struct Line {
     pub kind: usize,
     pub place: usize,

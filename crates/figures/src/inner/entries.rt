@@ -12,7 +12,7 @@ use crate::answer::Figures;
 use ring::Rule;
 
 // An area as high * 2^32 + low.
-#[derive(Drop)]
+#[derive(Clone, Copy)]
 pub struct Halves {
     pub high: i64,
     pub low: u32,

@@ -12,14 +12,14 @@ use grid::Point;
 use report::inner::text;
 
 // The corners of the smallest box along the axes that has every point.
-#[derive(Drop)]
+#[derive(Clone, Copy)]
 pub struct Extent {
     pub low: Point,
     pub high: Point,
 }
 
 // Its width and its height, and how high a letter is, in units.
-#[derive(Drop)]
+#[derive(Clone, Copy)]
 pub struct Sizes {
     pub width: u64,
     pub height: u64,

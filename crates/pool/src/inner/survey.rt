@@ -7,7 +7,7 @@ ghost use Rattle.pool.specs.inside.Surveys.{Surveyed, share_of};
 use crate::inner::records;
 
 // What a survey finds: whether the records are sound, and then the points and what each press holds.
-#[derive(Drop)]
+#[derive(Clone, Copy)]
 pub struct Survey {
     pub sound: bool,
     pub points: usize,

@@ -9,7 +9,7 @@ use crate::answer::Salvaged;
 use setfile::inner::fields;
 
 // Where the pass has come to: the positions that are read and written, how many contours are dropped, and whether the shape that stands open is kept.
-#[derive(Drop)]
+#[derive(Clone, Copy)]
 struct Sifted {
     at: usize,
     to: usize,

@@ -49,7 +49,7 @@ pub fn ranges(second: bool, bytes: &[u8], n: usize, records: &mut [[usize; 2]])
 }
 
 // The shape that is met: its number, and its first contour.
-#[derive(Drop)]
+#[derive(Clone, Copy)]
 struct Open {
     number: usize,
     from: usize,

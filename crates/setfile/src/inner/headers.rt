@@ -7,7 +7,7 @@ ghost use Rattle.setfile.specs.inside.Reading.{from_bit, At, header_size, header
 use crate::inner::fields;
 
 // A contour's header. The numbers of edition 1 are all 32 bits wide.
-#[derive(Drop)]
+#[derive(Clone, Copy)]
 pub struct Header {
     pub begins: bool,
     pub count: usize,

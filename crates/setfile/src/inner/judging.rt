@@ -13,7 +13,7 @@ use crate::inner::headers::Header;
 use crate::inner::{contours as points_of, head, headers};
 
 // What is met so far: the bit behind it, its counts of points and shapes, and whether all is on the grid.
-#[derive(Drop)]
+#[derive(Clone, Copy)]
 struct Met {
     at: usize,
     points: usize,
@@ -22,7 +22,7 @@ struct Met {
 }
 
 // The judgement of a file: its reply number, and its counts of points, contours and shapes.
-#[derive(Drop)]
+#[derive(Clone, Copy)]
 pub struct Judged {
     pub reply: u32,
     pub points: usize,

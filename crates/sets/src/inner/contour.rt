@@ -7,7 +7,7 @@ use clean::inner::look;
 use ring::Rule;
 
 // How far a cleaning has come: how many points and contours are written, after how many decisions and turns.
-#[derive(Drop)]
+#[derive(Clone, Copy)]
 pub struct Progress {
     pub points: usize,
     pub contours: usize,
@@ -16,7 +16,7 @@ pub struct Progress {
 }
 
 // Whether what was cleaned stays, and how far the cleaning has come.
-#[derive(Drop)]
+#[derive(Clone, Copy)]
 pub struct Tried {
     pub stays: bool,
     pub progress: Progress,

@@ -11,7 +11,7 @@ use crate::inner::shape;
 use ring::Rule;
 
 // How many shapes are written, and how far the cleaning has come.
-#[derive(Drop)]
+#[derive(Clone, Copy)]
 pub struct Total {
     pub shapes: usize,
     pub progress: Progress,

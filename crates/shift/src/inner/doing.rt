@@ -19,7 +19,7 @@ use ring::Rule;
 use sifting::inner::cleaning;
 
 // What a request is told, and what is counted of the pool then.
-#[derive(Drop)]
+#[derive(Clone, Copy)]
 pub struct Done {
     pub reply: u32,
     pub result: usize,

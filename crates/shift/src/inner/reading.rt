@@ -24,7 +24,7 @@ pub const NO_STEP: u8 = 5;
 const MOST: u32 = 2147483647;
 
 // What is read of a step: its kind, or none; its press, how many points it adds, and how many numbers it takes.
-#[derive(Drop)]
+#[derive(Clone, Copy)]
 pub struct Head {
     pub kind: u8,
     pub second: bool,

@@ -9,7 +9,7 @@ use pool::inner::records;
 use ring::Rule;
 
 // How far a cleaning has come: how many contours and points are kept, how many both presses hold of them and how many the second, and after how many decisions.
-#[derive(Drop)]
+#[derive(Clone, Copy)]
 pub struct Progress {
     pub contours: usize,
     pub points: usize,

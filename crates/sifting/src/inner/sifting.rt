@@ -15,7 +15,7 @@ use pool::inner::moving;
 use ring::{Ending, Rule};
 
 // Whether a contour stays, with how many points, and after how many decisions.
-#[derive(Drop)]
+#[derive(Clone, Copy)]
 pub struct Kept {
     pub stays: bool,
     pub points: usize,

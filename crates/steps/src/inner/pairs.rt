@@ -43,7 +43,7 @@ fn raised(from: i64, to: i64, halves: u64) -> u64
 }
 
 // The bits of the four differences behind a point, and the last point as one number.
-#[derive(Drop)]
+#[derive(Clone, Copy)]
 pub struct Pair {
     pub bits: u64,
     pub last: i64,
