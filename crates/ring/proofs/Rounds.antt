@@ -45,6 +45,7 @@ module _ (m : List ℕ) where
   -- Up to an unmarked position all count.
   way-some : (l : List ℕ) (x : ℕ) → Memᴰ x l → mark_at m x ≡ unmarked → 0 < to_last_unmarked m l
   unfolding to_last_unmarked
+  way-some [] x x4 u = elim x4 [ ]
   way-some (q ∷ l) x (Memᴰ.head e) u = let z : mark_at m q ≡ unmarked = rw (← e) u in rw (eq-eqb _ _ z, to_last_unmarked) (omega arith)
   way-some (q ∷ l) x (Memᴰ.tail i) u = rw (front_some _ _ (way-some l x i u), to_last_unmarked) (omega arith)
 

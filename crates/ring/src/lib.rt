@@ -1,5 +1,6 @@
 // The walk over the surviving positions of a ring: its rule, and how it ended. What walks is inner.
 #![tactic(auto)]
+
 pub mod inner;
 
 // Which vertex is to go.
