@@ -56,11 +56,11 @@ impl Answer {
     }
 
     // Writes the line of a case, and answers whether that went well.
-    pub fn write(self, case: u64) -> bool {
+    pub fn write(self, rt: &impl Print, case: u64) -> bool {
         let mut text = [0u8; TEXT];
         let behind = text::put_number(&mut text, 0, case);
         let end = put(&mut text, behind, self);
-        text::write(&mut text, end)
+        text::write(rt, &mut text, end)
     }
 }
 

@@ -1,5 +1,6 @@
 // Lists of cases: their lines, the rows that a case fills and lends, and the line of its answers.
 #![tactic(auto)]
+
 pub mod answer;
 pub mod case;
 pub mod checksum;

@@ -1,5 +1,6 @@
-// The list, read from standard input line by line through a buffer.
-use libc::STDIN_FILENO;
+// The list, read from a stream line by line through a buffer.
+use std::io;
+use std::io::Read;
 
 // How many bytes one read can bring, and how many a line can have with its end.
 pub const BUFFER: usize = 65536;
@@ -7,7 +8,7 @@ pub const BUFFER: usize = 65536;
 pub const LINE: usize = 524288;
 
 // Where in the list the program reads.
-#[derive(Drop)]
+#[derive(Clone, Copy)]
 pub struct Source {
     // The byte that was taken last, which past the end of the list is a line's end.
     pub here: u8,
@@ -34,11 +35,16 @@ pub fn begin() -> Source {
 
 impl Source {
     // Reads the next line into the front of `line`. One without an end there fills it.
-    pub fn read_line(self, bytes: &mut [u8], line: &mut [u8]) -> Source {
+    pub fn read_line<R: Read>(
+        self,
+        stream: &mut R,
+        bytes: &mut [u8],
+        line: &mut [u8],
+    ) -> io::Result<Source> {
         let mut source = self;
         let mut end: usize = 0;
         while end < line.len() {
-            source = source.step(bytes);
+            source = source.step(stream, bytes)?;
             if source.here == b'\n' {
                 break;
             }
@@ -46,17 +52,16 @@ impl Source {
             end += 1;
         }
         source.length = end;
-        source
+        Ok(source)
     }
 
-    // The next byte of the list. A read that fails counts as its end.
-    fn step(self, bytes: &mut [u8]) -> Source {
+    // The next byte of the list.
+    fn step<R: Read>(self, stream: &mut R, bytes: &mut [u8]) -> io::Result<Source> {
         if self.next < self.filled {
-            return taken(bytes, self.next, self.filled);
+            return Ok(taken(bytes, self.next, self.filled));
         }
-        let got = libc::read(STDIN_FILENO, bytes);
-        let filled = io::count(got, bytes);
-        taken(bytes, 0, filled)
+        let filled = stream.read(bytes)?;
+        Ok(taken(bytes, 0, filled))
     }
 }
 

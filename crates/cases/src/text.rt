@@ -1,6 +1,4 @@
 // The line that is to be written, gathered in a buffer as far as it has room.
-use libc::STDOUT_FILENO;
-
 // Room for the longest line of answers.
 pub const TEXT: usize = 512;
 
@@ -33,17 +31,17 @@ pub fn put_after(text: &mut [u8; TEXT], at: usize, mark: &[u8], value: u64) -> u
 }
 
 // Writes the first `count` bytes of `text` and a line's end, and answers whether that went well.
-pub fn write(text: &mut [u8; TEXT], count: usize) -> bool {
+pub fn write(rt: &impl Print, text: &mut [u8; TEXT], count: usize) -> bool {
     let end = put(text, count, b"\n");
     let whole: &[u8] = text;
     if whole.len() < end {
         return false;
     }
-    io::write_all(STDOUT_FILENO, &whole[0..end])
+    rt.write_all(&whole[0..end]).is_ok()
 }
 
 // Writes that a line is damaged at a place, counted from 1.
-pub fn write_damage(line: u64, at: usize) {
+pub fn write_damage(rt: &impl Print, line: u64, at: usize) {
     let mut text = [0u8; TEXT];
     let behind = put_after(&mut text, 0, b"damaged: line ", line);
     let end = put_after(
@@ -52,5 +50,5 @@ pub fn write_damage(line: u64, at: usize) {
         b", byte ",
         std::num::wrapping_add_u64(at as u64, 1),
     );
-    write(&mut text, end);
+    write(rt, &mut text, end);
 }

@@ -1,8 +1,7 @@
 -- `cases::floats::of_bits` is safe: of a NaN's pattern the exponent is all ones, and the fraction is not 0. Assumes nothing.
-use Rattle.std.proofs.Common.{◌≡◌, ℕ, ◌/◌, ◌%◌, Bool, true, false, not, ◌&&◌, T, eqb, sym, subst, rules, eq-eqb, ne_eqb}
+use Rattle.std.proofs.Common.{◌≡◌, ℕ, ◌/◌, ◌%◌, Bool, true, false, not, ◌&&◌, T, eqb, sym, subst, eq-eqb, ne_eqb}
 use lib.Ieee.{binary64, nan_bits}
-use Rattle.cases.proofs.floats.of_bits.Statement.{statement}
-use Rattle.cases.proofs.floats.of_bits.Tie as tie
+use Rattle.cases.proofs.floats.of_bits.Goals as goal
 
 neither : (p q : Bool) → p ≡ false → T (not (p && not q))
 neither p q e = subst (λ (b : Bool). T (not (b && not q))) (sym e) tt
@@ -19,18 +18,8 @@ infinite : (b : ℕ) → b % 4503599627370496 ≡ 0 → T (not (nan_bits binary6
 unfolding nan_bits
 infinite b h = nor (eqb (b % 9223372036854775808 / 4503599627370496) 2047) (eqb (b % 4503599627370496) 0) (eq-eqb _ _ h)
 
-float-from-bits-result : tie.Need-float-from-bits-result
-float-from-bits-result c = finite c.before.args.bits c.if1.true
+pub float_from_bits-result : goal.float_from_bits-result
+float_from_bits-result c = finite c.args.bits c.if-exponent-ne2047.true
 
-float-from-bits-result-2 : tie.Need-float-from-bits-result-2
-float-from-bits-result-2 c = infinite c.before.before.args.bits c.if2.true
-
-pub of_bits_spec : {M : Type 1} → statement M
-of_bits_spec =
-    tie.close
-    (tie.spec
-    float-from-bits-result
-    (λ c. search rules)
-    float-from-bits-result-2
-    (λ c. search rules)
-    (λ c. search rules))
+pub float_from_bits-result-then-fraction-eq0 : goal.float_from_bits-result-then-fraction-eq0
+float_from_bits-result-then-fraction-eq0 c = infinite c.args.bits c.if-fraction-eq0.true
