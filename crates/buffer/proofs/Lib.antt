@@ -7,7 +7,6 @@ pub mod PartLaws
 pub mod PackLaws
 pub mod AddLaws
 pub mod SetLaws
-pub mod Walks
 pub mod WrittenLaws
 pub mod Examples
 pub mod Theorems

@@ -1,5 +1,6 @@
 // Sets of contours and of shapes, flat: points, and the ranges that name their parts.
 #![tactic(auto)]
+
 pub mod answer;
 pub mod contours;
 pub mod inner;

@@ -1,0 +1,26 @@
+-- `buffer::contours::contour` meets its contract.
+use mathlib.Core.Path.{◌∙◌}
+use Rattle.rows.specs.Parts.{part}
+use Rattle.buffer.proofs.PartLaws.{contour-refused, contour-absent, contour_there, contour-named}
+use Rattle.buffer.proofs.contours.contour.Goals as goal
+
+pub returns-then-refused-ne0 : goal.returns-then-refused-ne0
+returns-then-refused-ne0 c =
+    let s = c.args in
+    contour-refused (part s.points) s.ranges.now s.k _ c.refused.ensures c.if-refused-ne0.true
+
+pub returns-then-ranges-k : goal.returns-then-ranges-k
+returns-then-ranges-k c =
+    let s = c.args in
+    contour-absent (part s.points) s.ranges.now s.k _ c.refused.ensures c.if-refused-ne0.false c.if-ranges-k.true
+
+pub named-requires : goal.named-requires
+named-requires c =
+    let s = c.args in
+    contour-named s.points.now s.ranges.now s.k _ c.refused.ensures c.if-refused-ne0.false c.if-ranges-k.false
+
+pub returns : goal.returns
+returns c =
+    let s = c.args in
+    c.named.ensures
+    ∙ contour_there (part s.points) s.ranges.now s.k _ c.refused.ensures c.if-refused-ne0.false c.if-ranges-k.false

@@ -1,0 +1,62 @@
+-- `buffer::inner::packing::shapes` meets its contract.
+use native.Mathlib.Omega.{arith}
+use lib.ListN.{length}
+use Rattle.buffer.proofs.PackLaws.{group-refused, group-fits, group-done}
+use Rattle.buffer.proofs.AnswerLaws.{Fits}
+use Rattle.buffer.proofs.inner.packing.shapes.Goals as goal
+
+pub returns-then-first-ne0 : goal.returns-then-first-ne0
+returns-then-first-ne0 c =
+    let s = c.args in
+    group-refused s.refusal _ s.points.now s.contours.now s.shapes.now s.out.now s.records.now s.groups.now
+    c.or_room-first.ensures _ c.refused.ensures c.if-first-ne0.true
+
+-- nothing is refused, and there is room
+fits : (c : goal.After-copy-arg-1) →
+    let s = c.args in
+    Fits s.refusal (length s.points.now) (length s.contours.now) (length s.shapes.now)
+    s.out.now s.records.now s.groups.now
+fits c =
+    let s = c.args in
+    group-fits s.refusal _ s.points.now s.contours.now s.shapes.now s.out.now s.records.now s.groups.now
+    c.or_room-first.ensures c.if-first-ne0.false
+
+-- nothing is refused, and there is room
+fits_2 : (c : goal.After-records-arg-1) →
+    let s = c.args in
+    Fits s.refusal (length s.points.now) (length s.contours.now) (length s.shapes.now)
+    s.out.now s.records.now s.groups.now
+fits_2 c =
+    let s = c.args in
+    group-fits s.refusal _ s.points.now s.contours.now s.shapes.now s.out.now s.records.now s.groups.now
+    c.or_room-first.ensures c.if-first-ne0.false
+
+-- nothing is refused, and there is room
+fits_3 : (c : goal.After-records-arg-2-1) →
+    let s = c.args in
+    Fits s.refusal (length s.points.now) (length s.contours.now) (length s.shapes.now)
+    s.out.now s.records.now s.groups.now
+fits_3 c =
+    let s = c.args in
+    group-fits s.refusal _ s.points.now s.contours.now s.shapes.now s.out.now s.records.now s.groups.now
+    c.or_room-first.ensures c.if-first-ne0.false
+
+pub copy-requires : goal.copy-requires
+copy-requires c = omega (arith, (fits c).points_in)
+
+pub records-requires : goal.records-requires
+records-requires c =
+    let h = fits_2 c in
+    (omega (arith, h.contours_in), (c.requires h.sound).0)
+
+pub records-requires-2 : goal.records-requires-2
+records-requires-2 c =
+    let h = fits_3 c in
+    (omega (arith, h.shapes_in), (c.requires h.sound).1)
+
+pub returns : goal.returns
+returns c =
+    let s = c.args in
+    group-done s.refusal _ s.points.now s.contours.now s.shapes.now s.out.now s.records.now s.groups.now
+    c.or_room-first.ensures _ _ _ c.if-first-ne0.false
+    c.copy.ensures c.records.ensures c.records-2.ensures

@@ -1,0 +1,13 @@
+use mathlib.Core.Path.{◌≡◌}
+use mathlib.Core.Bool.{◌&&◌}
+use Prim.Native.Nat.{◌≤◌, ◌-◌}
+use lib.ListN.{length, drop}
+use Rattle.buffer.specs.Spans.{spans, sound, sound_from}
+use Rattle.buffer.proofs.ranges.sound.Given as goal
+
+abbrev pub invariant-loop-i : goal.invariant-loop-i
+invariant-loop-i l =
+    (l.i ≤ length l.ranges) × (sound (spans l.ranges) l.count ≡ (l.all && sound_from l.at (spans (drop l.i l.ranges)) l.count))
+
+abbrev pub decreases-loop-i : goal.decreases-loop-i
+decreases-loop-i l = length l.ranges - l.i

@@ -1,0 +1,21 @@
+-- `buffer::shapes::set_with_contour` meets its contract.
+use mathlib.Core.Path.{◌∙◌}
+use mathlib.Core.List.{[], ◌∷◌}
+use native.Mathlib.Omega.{arith}
+use Rattle.grid.specs.Limits.{limit}
+use Rattle.grid.specs.Domain.{domain}
+use Rattle.buffer.specs.Sets.{whole, every}
+use Rattle.buffer.proofs.SpanLaws.{one_movable}
+use Rattle.buffer.proofs.AnswerLaws.{stored-told}
+use Rattle.buffer.proofs.shapes.set_with_contour.Goals as goal
+
+pub shapes-requires : goal.shapes-requires
+shapes-requires c = λ z. (one_movable _ 0 (omega arith), one_movable 1 0 (omega arith))
+
+pub returns : goal.returns
+returns c =
+    let s = c.args in
+    let one = whole s.contour.now ∷ [] in
+    c.shapes.ensures
+    ∙ stored-told s.contour.now one (every one ∷ []) s.out.now s.records.now s.groups.now
+    (domain limit s.contour.now) tt _ c.domain-refusal.ensures
