@@ -1,5 +1,6 @@
 // The doubled and the halved area of a contour.
 #![tactic(auto)]
+
 mod answer;
 pub mod inner;
 

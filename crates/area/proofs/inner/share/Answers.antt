@@ -10,8 +10,7 @@ use Rattle.grid.specs.Points.{at}
 use Rattle.grid.specs.Edges.{between}
 use Rattle.grid.proofs.LimitLaws.{on_grid_back}
 use Rattle.grid.proofs.PointLaws.{at_on, x-on, y-on, gap-in}
-use Rattle.area.proofs.inner.share.Statement.{statement}
-use Rattle.area.proofs.inner.share.Tie as tie
+use Rattle.area.proofs.inner.share.Goals as goal
 
 module _ (row : List ℤ) (on : all_on_grid limit row ≡ true) where
   -- a point's x, as it is passed
@@ -35,29 +34,19 @@ module _ (row : List ℤ) (on : all_on_grid limit row ≡ true) where
     unfolding limit
     rise-is = rw e (back w64 rise tt)
 
-point-at-requires : tie.Need-point-at-requires
-point-at-requires c κs = c.requires.b_in
+pub point_at-at-requires : goal.point_at-at-requires
+point_at-at-requires c = c.requires.b_in
 
-edge-at-requires : tie.Need-edge-at-requires
-edge-at-requires c κs = let p = c.before.requires in (p.on, p.a_in, p.c_in)
+pub edge_at-across-requires : goal.edge_at-across-requires
+edge_at-across-requires c = let p = c.requires in (p.on, p.a_in, p.c_in)
 
-product-requires : tie.Need-product-requires
-product-requires c κs =
-    let e = c.before.before in
-    let q = e.before in
-    let s = q.before in
-    let row = s.args.points.now in
-    (x-passed row s.requires.on s.args.here _ q.point_at.ensures, rise-in row s.requires.on s.args.before s.args.after _ e.edge_at.ensures)
+pub product-requires : goal.product-requires
+product-requires c =
+    let row = c.args.points.now in
+    (x-passed row c.requires.on c.args.here _ c.point_at-at.ensures, rise-in row c.requires.on c.args.before c.args.after _ c.edge_at-across.ensures)
 
-returns : tie.Need-returns
+pub returns : goal.returns
 returns c =
-    let e = c.before.before.before in
-    let q = e.before in
-    let s = q.before in
-    let row = s.args.points.now in
-    to_z-of_z (sfits_of c.product.type-inv) ∙ c.product.ensures
-    ∙ ap₂ ◌*ℤ◌ (x_is row s.requires.on s.args.here _ q.point_at.ensures) (rise-is row s.requires.on s.args.before s.args.after _ e.edge_at.ensures)
-
-pub share_spec : {M : Type 1} → statement M
-share_spec =
-    tie.close (tie.spec point-at-requires edge-at-requires product-requires returns)
+    let row = c.args.points.now in
+    to_z-of_z {w = w64} (sfits_of c.product.type_inv) ∙ c.product.ensures
+    ∙ ap₂ ◌*ℤ◌ (x_is row c.requires.on c.args.here _ c.point_at-at.ensures) (rise-is row c.requires.on c.args.before c.args.after _ c.edge_at-across.ensures)
