@@ -1,62 +1,53 @@
 // Compares the set files that its two words name, and says on standard output what changed from the first to the second.
 #![tactic(auto)]
-ghost use Rattle.io.specs.Counts.{IsPrefixLen};
+use std::env;
+use std::fs;
+use std::io;
 
 use changes::TEXT;
 use changes::inner::comparing;
-use libc::{STDERR_FILENO, STDOUT_FILENO};
 
 // One byte past the most that a file has, so that a longer one is told from it.
 const BYTES: usize = 65537;
 
-// Opens the file that word `i` names, or says why it cannot and answers a number below 0.
-fn open(i: usize) -> i32 {
-    let mut name = io::buffer();
-    let n = os::arg(i, &mut name);
-    let file = os::open_read(&name[..n]);
-    if file < 0 {
-        os::fail(&name[..n]);
-    }
-    file
-}
-
-// Reads a file that is open, and closes it.
-fn read(file: i32, bytes: &mut [u8]) -> usize
-    ensures { IsPrefixLen result bytes.new }
+// Opens the file of that name and reads it into the row, or says why it cannot.
+fn read(rt: &HostRuntime, name: &str, bytes: &mut [u8]) -> io::Result<Option<usize>>
+    ensures { IfOk result (λ read. IfSome read (λ n. n ≤ length bytes.new)) }
 {
-    let n = io::read_full(file, bytes);
-    libc::close(file);
-    n
+    match fs::open(rt, name) {
+        Ok(mut file) => Ok(Some(streams::read_full(&mut file, bytes)?)),
+        Err(e) => {
+            eprintln!(rt; "{name}: {e}")?;
+            Ok(None)
+        }
+    }
 }
 
 // Writes what is said of two files.
-fn print(first: &[u8], second: &[u8]) {
+fn print(rt: &HostRuntime, first: &[u8], second: &[u8]) -> io::Result<()> {
     let mut text = [0u8; TEXT];
     let length = comparing::tell(first, second, &mut text);
-    io::write_all(STDOUT_FILENO, &text[..length]);
+    rt.stdout().write_all(&text[..length])
 }
 
-// Reads two files that are open, and compares them.
-fn compare(first: i32, second: i32) {
+// Reads the files of these names, and compares them.
+fn compare(rt: &HostRuntime, first: &str, second: &str) -> io::Result<()> {
     let mut bytes = [0u8; BYTES];
     let mut others = [0u8; BYTES];
-    let m = read(first, &mut bytes);
-    let n = read(second, &mut others);
-    print(&bytes[..m], &others[..n]);
+    let Some(m) = read(rt, first, &mut bytes)? else {
+        return Ok(());
+    };
+    let Some(n) = read(rt, second, &mut others)? else {
+        return Ok(());
+    };
+    print(rt, &bytes[..m], &others[..n])
 }
 
-fn main() {
-    if os::arg_count() != 3 {
-        io::write_all(STDERR_FILENO, b"usage: changes FIRST SECOND\n");
-        return;
+fn main(rt: HostRuntime) -> io::Result<()> {
+    let mut words = env::args(&rt)?;
+    let _program = words.next();
+    match (words.next(), words.next(), words.next()) {
+        (Some(first), Some(second), None) => compare(&rt, first.as_str(), second.as_str()),
+        _ => rt.stderr().write_all(b"usage: changes FIRST SECOND\n"),
     }
-    let first = open(1);
-    if first < 0 {
-        return;
-    }
-    let second = open(2);
-    if second < 0 {
-        return;
-    }
-    compare(first, second);
 }

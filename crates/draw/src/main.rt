@@ -3,7 +3,7 @@
 ghost use Rattle.std.specs.Prelude.{◌≤◌, length};
 ghost use Rattle.picture.specs.Picture.{picture as picture-of};
 
-use libc::{STDIN_FILENO, STDOUT_FILENO};
+use std::io;
 use picture::TEXT;
 use picture::inner::drawing;
 
@@ -11,21 +11,21 @@ use picture::inner::drawing;
 const BYTES: usize = 65537;
 
 // Writes the picture of a file, by a row that has room for it.
-fn print(bytes: &[u8], text: &mut [u8])
+fn print(rt: &HostRuntime, bytes: &[u8], text: &mut [u8]) -> io::Result<()>
     requires { length (picture-of bytes.now) ≤ length text.old }
 {
     let length = drawing::draw(bytes, text);
-    io::write_all(STDOUT_FILENO, &text[..length]);
+    rt.stdout().write_all(&text[..length])
 }
 
 // A row for any file.
-fn show(bytes: &[u8]) {
+fn show(rt: &HostRuntime, bytes: &[u8]) -> io::Result<()> {
     let mut text = [0u8; TEXT];
-    print(bytes, &mut text);
+    print(rt, bytes, &mut text)
 }
 
-fn main() {
+fn main(rt: HostRuntime) -> io::Result<()> {
     let mut bytes = [0u8; BYTES];
-    let n = io::read_full(STDIN_FILENO, &mut bytes);
-    show(&bytes[..n]);
+    let n = streams::read_full(&mut rt.stdin(), &mut bytes)?;
+    show(&rt, &bytes[..n])
 }

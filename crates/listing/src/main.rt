@@ -3,7 +3,7 @@
 ghost use Rattle.std.specs.Prelude.{◌≤◌, length};
 ghost use Rattle.report.specs.Listing.{listing as listing-of};
 
-use libc::{STDIN_FILENO, STDOUT_FILENO};
+use std::io;
 use report::inner::listing;
 use report::{SHORT, TEXT};
 
@@ -11,40 +11,40 @@ use report::{SHORT, TEXT};
 const BYTES: usize = 65537;
 
 // Writes the listing of a file, by a row that has room for it.
-fn print(bytes: &[u8], text: &mut [u8])
+fn print(rt: &HostRuntime, bytes: &[u8], text: &mut [u8]) -> io::Result<()>
     requires { length (listing-of bytes.now) ≤ length text.old }
 {
     let length = listing::list(bytes, text);
-    io::write_all(STDOUT_FILENO, &text[..length]);
+    rt.stdout().write_all(&text[..length])
 }
 
 // A row for few contours: it takes less to clear.
-fn short(bytes: &[u8])
+fn short(rt: &HostRuntime, bytes: &[u8]) -> io::Result<()>
     requires { length (listing-of bytes.now) ≤ 22537 }
 {
     let mut text = [0u8; SHORT];
-    print(bytes, &mut text);
+    print(rt, bytes, &mut text)
 }
 
 // A row for any file.
-fn long(bytes: &[u8])
+fn long(rt: &HostRuntime, bytes: &[u8]) -> io::Result<()>
     requires { length (listing-of bytes.now) ≤ 184312 }
 {
     let mut text = [0u8; TEXT];
-    print(bytes, &mut text);
+    print(rt, bytes, &mut text)
 }
 
 // The listing of a file, by the shorter row if that has room.
-fn show(bytes: &[u8]) {
+fn show(rt: &HostRuntime, bytes: &[u8]) -> io::Result<()> {
     if listing::longest(bytes) <= SHORT {
-        short(bytes);
+        short(rt, bytes)
     } else {
-        long(bytes);
+        long(rt, bytes)
     }
 }
 
-fn main() {
+fn main(rt: HostRuntime) -> io::Result<()> {
     let mut bytes = [0u8; BYTES];
-    let n = io::read_full(STDIN_FILENO, &mut bytes);
-    show(&bytes[..n]);
+    let n = streams::read_full(&mut rt.stdin(), &mut bytes)?;
+    show(&rt, &bytes[..n])
 }

@@ -12,23 +12,23 @@ use cases::marks::MARKS;
 use cases::numbers::NUMBERS;
 use cases::records::RECORDS;
 use cases::source::{BUFFER, LINE};
-use libc::STDOUT_FILENO;
+use std::io;
 
-fn main() {
+fn main(rt: HostRuntime) -> io::Result<()> {
     let mut bytes = [0u8; BUFFER];
     let mut line = [0u8; LINE];
     let mut row = [0i32; NUMBERS];
     let mut given = [[0usize; 2]; RECORDS];
     let mut file = [0u8; MARKS];
     let mut floats = [0.0f64; FLOATS];
-    if io::write_all(STDOUT_FILENO, b"case answers\n") {
-        list::replay(
-            &mut bytes,
-            &mut line,
-            &mut row,
-            &mut given,
-            &mut file,
-            &mut floats,
-        );
-    }
+    rt.stdout().write_all(b"case answers\n")?;
+    list::replay(
+        &rt,
+        &mut bytes,
+        &mut line,
+        &mut row,
+        &mut given,
+        &mut file,
+        &mut floats,
+    )
 }
