@@ -5,8 +5,7 @@ ghost use Rattle.difference.specs.Outcome.{leaving, outcome};
 use difference::Compared;
 
 // Lists what two sets are to each other, contour by contour, in front of the listing.
-#[unsafe(no_mangle)]
-pub extern "C" fn ukm_compare_sets(
+pub fn ukm_compare_sets(
     points: &[i32],
     ranges: &[[usize; 2]],
     others: &[i32],

@@ -15,72 +15,63 @@ use path::Located;
 use replies::Verdict;
 
 // The doubled area: counter-clockwise is positive.
-#[unsafe(no_mangle)]
-pub extern "C" fn ukm_area_two(points: &[i32]) -> Area
+pub fn ukm_area_two(points: &[i32]) -> Area
     ensures { result ≡ doubled points.now }
 {
     area::area_two(points)
 }
 
 // The area, cut toward zero.
-#[unsafe(no_mangle)]
-pub extern "C" fn ukm_area(points: &[i32]) -> Area
+pub fn ukm_area(points: &[i32]) -> Area
     ensures { result ≡ half points.now }
 {
     area::area(points)
 }
 
 // Whether all turns have one sign and no edge reverses, equal neighbours skipped.
-#[unsafe(no_mangle)]
-pub extern "C" fn ukm_is_convex(points: &[i32]) -> Verdict
+pub fn ukm_is_convex(points: &[i32]) -> Verdict
     ensures { result ≡ convex points.now }
 {
     path::is_convex(points)
 }
 
 // Whether the reported doubled area is at or below zero.
-#[unsafe(no_mangle)]
-pub extern "C" fn ukm_is_clockwise(points: &[i32]) -> Verdict
+pub fn ukm_is_clockwise(points: &[i32]) -> Verdict
     ensures { result ≡ clockwise points.now }
 {
     path::is_clockwise_ordered(points)
 }
 
 // Whether the contour contains the point x, y.
-#[unsafe(no_mangle)]
-pub extern "C" fn ukm_contains(points: &[i32], x: i32, y: i32) -> Verdict
+pub fn ukm_contains(points: &[i32], x: i32, y: i32) -> Verdict
     ensures { result ≡ contains points.now x y }
 {
     path::contains_point(points, x, y)
 }
 
 // Where the point x, y lies: outside the contour, on its boundary or inside.
-#[unsafe(no_mangle)]
-pub extern "C" fn ukm_locate(points: &[i32], x: i32, y: i32) -> Located
+pub fn ukm_locate(points: &[i32], x: i32, y: i32) -> Located
     ensures { result ≡ located points.now x y }
 {
     path::locate(points, x, y)
 }
 
 // Whether the contour has three or more points, and no vertex whose two edges have cross 0.
-#[unsafe(no_mangle)]
-pub extern "C" fn ukm_is_simple(points: &[i32]) -> Verdict
+pub fn ukm_is_simple(points: &[i32]) -> Verdict
     ensures { result ≡ simple points.now }
 {
     clean::simple::is_simple(points)
 }
 
 // Whether the contour has no spikes, equal neighbours aside.
-#[unsafe(no_mangle)]
-pub extern "C" fn ukm_has_no_spikes(points: &[i32]) -> Verdict
+pub fn ukm_has_no_spikes(points: &[i32]) -> Verdict
     ensures { result ≡ spike_free points.now }
 {
     clean::despike::has_no_spikes(points)
 }
 
 // The contour without its collinear points.
-#[unsafe(no_mangle)]
-pub extern "C" fn ukm_simplified(
+pub fn ukm_simplified(
     points: &[i32],
     next: &mut [u32],
     prev: &mut [u32],
@@ -95,8 +86,7 @@ pub extern "C" fn ukm_simplified(
 }
 
 // The contour without its spikes and its equal neighbours.
-#[unsafe(no_mangle)]
-pub extern "C" fn ukm_despiked(
+pub fn ukm_despiked(
     points: &[i32],
     next: &mut [u32],
     prev: &mut [u32],

@@ -8,8 +8,7 @@ use buffer::Packed;
 use drawing::Drawn;
 
 // Writes the contours of a drawing, as a contour set, to the front of the rows.
-#[unsafe(no_mangle)]
-pub extern "C" fn ukm_import_mm(
+pub fn ukm_import_mm(
     kinds: &[u8],
     floats: &[f64],
     out: &mut [i32],
@@ -22,8 +21,7 @@ pub extern "C" fn ukm_import_mm(
 }
 
 // Writes the commands of a contour set to the front of the rows.
-#[unsafe(no_mangle)]
-pub extern "C" fn ukm_export_mm(
+pub fn ukm_export_mm(
     points: &[i32],
     ranges: &[[usize; 2]],
     kinds: &mut [u8],

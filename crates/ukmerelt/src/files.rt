@@ -9,8 +9,7 @@ use salvage::Salvaged;
 use setfile::{Read, Written};
 
 // Reads a file of either edition into the front of the rows.
-#[unsafe(no_mangle)]
-pub extern "C" fn ukm_read_set(
+pub fn ukm_read_set(
     bytes: &[u8],
     out: &mut [i32],
     records: &mut [[usize; 2]],
@@ -23,8 +22,7 @@ pub extern "C" fn ukm_read_set(
 }
 
 // Writes a shape set's file of edition 1 into the front of the row of bytes.
-#[unsafe(no_mangle)]
-pub extern "C" fn ukm_write_set(
+pub fn ukm_write_set(
     points: &[i32],
     contours: &[[usize; 2]],
     shapes: &[[usize; 2]],
@@ -37,8 +35,7 @@ pub extern "C" fn ukm_write_set(
 }
 
 // Writes a shape set's file of edition 2 into the front of the row of bytes.
-#[unsafe(no_mangle)]
-pub extern "C" fn ukm_write_set_2(
+pub fn ukm_write_set_2(
     points: &[i32],
     contours: &[[usize; 2]],
     shapes: &[[usize; 2]],
@@ -51,8 +48,7 @@ pub extern "C" fn ukm_write_set_2(
 }
 
 // Writes what is sound of a damaged file into the front of the row of bytes, and lists the contours that were dropped.
-#[unsafe(no_mangle)]
-pub extern "C" fn ukm_salvage(bytes: &[u8], out: &mut [u8], dropped: &mut [[usize; 2]]) -> Salvaged
+pub fn ukm_salvage(bytes: &[u8], out: &mut [u8], dropped: &mut [[usize; 2]]) -> Salvaged
     ensures { salvage-leaving result out.new dropped.new
         ≡ salvage-outcome bytes.now out.old dropped.old }
 {

@@ -7,8 +7,7 @@ ghost use Rattle.buffer.specs.Shapes.{with_contour, with_shape, with_shapes, wit
 use buffer::Packed;
 
 // Packs one shape, of one contour.
-#[unsafe(no_mangle)]
-pub extern "C" fn ukm_pack_contour(
+pub fn ukm_pack_contour(
     contour: &[i32],
     out: &mut [i32],
     records: &mut [[usize; 2]],
@@ -21,8 +20,7 @@ pub extern "C" fn ukm_pack_contour(
 }
 
 // Packs one shape.
-#[unsafe(no_mangle)]
-pub extern "C" fn ukm_pack_shape(
+pub fn ukm_pack_shape(
     points: &[i32],
     ranges: &[[usize; 2]],
     out: &mut [i32],
@@ -37,8 +35,7 @@ pub extern "C" fn ukm_pack_shape(
 }
 
 // Packs shapes.
-#[unsafe(no_mangle)]
-pub extern "C" fn ukm_pack_shapes(
+pub fn ukm_pack_shapes(
     points: &[i32],
     contours: &[[usize; 2]],
     shapes: &[[usize; 2]],
@@ -54,8 +51,7 @@ pub extern "C" fn ukm_pack_shapes(
 }
 
 // Writes a contour set and one contour more.
-#[unsafe(no_mangle)]
-pub extern "C" fn ukm_add_contour(
+pub fn ukm_add_contour(
     points: &[i32],
     ranges: &[[usize; 2]],
     contour: &[i32],
@@ -70,8 +66,7 @@ pub extern "C" fn ukm_add_contour(
 }
 
 // Writes a shape set and one shape more.
-#[unsafe(no_mangle)]
-pub extern "C" fn ukm_add_shape(
+pub fn ukm_add_shape(
     points: &[i32],
     contours: &[[usize; 2]],
     shapes: &[[usize; 2]],

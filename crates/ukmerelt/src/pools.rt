@@ -7,8 +7,7 @@ ghost use Rattle.pool.specs.Outcome.{leaving, called, number, contours_count, he
 use buffer::Counted;
 
 // A press adds a contour.
-#[unsafe(no_mangle)]
-pub extern "C" fn ukm_pool_add(
+pub fn ukm_pool_add(
     points: &mut [i32],
     records: &mut [[usize; 4]],
     contours: &mut usize,
@@ -23,8 +22,7 @@ pub extern "C" fn ukm_pool_add(
 }
 
 // A press removes its newest contour.
-#[unsafe(no_mangle)]
-pub extern "C" fn ukm_pool_remove(
+pub fn ukm_pool_remove(
     points: &mut [i32],
     records: &mut [[usize; 4]],
     contours: &mut usize,
@@ -38,8 +36,7 @@ pub extern "C" fn ukm_pool_remove(
 }
 
 // How many contours a press has.
-#[unsafe(no_mangle)]
-pub extern "C" fn ukm_pool_contours(
+pub fn ukm_pool_contours(
     points: &[i32],
     records: &[[usize; 4]],
     contours: usize,
@@ -51,8 +48,7 @@ pub extern "C" fn ukm_pool_contours(
 }
 
 // How many points a press holds.
-#[unsafe(no_mangle)]
-pub extern "C" fn ukm_pool_held(
+pub fn ukm_pool_held(
     points: &[i32],
     records: &[[usize; 4]],
     contours: usize,
@@ -64,8 +60,7 @@ pub extern "C" fn ukm_pool_held(
 }
 
 // The free count.
-#[unsafe(no_mangle)]
-pub extern "C" fn ukm_pool_free(points: &[i32], records: &[[usize; 4]], contours: usize) -> Counted
+pub fn ukm_pool_free(points: &[i32], records: &[[usize; 4]], contours: usize) -> Counted
     ensures { result ≡ free_count (lent points.now records.now contours) }
 {
     pool::free(points, records, contours)

@@ -7,8 +7,7 @@ use area::Area;
 use replies::Verdict;
 
 // Whether every contour of the set is simple.
-#[unsafe(no_mangle)]
-pub extern "C" fn ukm_shapes_is_simple(
+pub fn ukm_shapes_is_simple(
     points: &[i32],
     contours: &[[usize; 2]],
     shapes: &[[usize; 2]],
@@ -19,8 +18,7 @@ pub extern "C" fn ukm_shapes_is_simple(
 }
 
 // Whether no contour of the set has spikes.
-#[unsafe(no_mangle)]
-pub extern "C" fn ukm_shapes_has_no_spikes(
+pub fn ukm_shapes_has_no_spikes(
     points: &[i32],
     contours: &[[usize; 2]],
     shapes: &[[usize; 2]],
@@ -31,8 +29,7 @@ pub extern "C" fn ukm_shapes_has_no_spikes(
 }
 
 // The doubled area: the sum of the contours' own.
-#[unsafe(no_mangle)]
-pub extern "C" fn ukm_shapes_area_two(
+pub fn ukm_shapes_area_two(
     points: &[i32],
     contours: &[[usize; 2]],
     shapes: &[[usize; 2]],
@@ -43,8 +40,7 @@ pub extern "C" fn ukm_shapes_area_two(
 }
 
 // The area, cut toward zero.
-#[unsafe(no_mangle)]
-pub extern "C" fn ukm_shapes_area(
+pub fn ukm_shapes_area(
     points: &[i32],
     contours: &[[usize; 2]],
     shapes: &[[usize; 2]],

@@ -6,8 +6,7 @@ ghost use Rattle.sets.specs.Outcome.{lent, leaving, shape_outcome, shapes_outcom
 use sets::CleanedSet;
 
 // The shape without its collinear points.
-#[unsafe(no_mangle)]
-pub extern "C" fn ukm_simplified_shape(
+pub fn ukm_simplified_shape(
     points: &[i32],
     ranges: &[[usize; 2]],
     next: &mut [u32],
@@ -27,8 +26,7 @@ pub extern "C" fn ukm_simplified_shape(
 }
 
 // The shape without its spikes.
-#[unsafe(no_mangle)]
-pub extern "C" fn ukm_despiked_shape(
+pub fn ukm_despiked_shape(
     points: &[i32],
     ranges: &[[usize; 2]],
     next: &mut [u32],
@@ -48,8 +46,7 @@ pub extern "C" fn ukm_despiked_shape(
 }
 
 // The shapes without their collinear points.
-#[unsafe(no_mangle)]
-pub extern "C" fn ukm_simplified_shapes(
+pub fn ukm_simplified_shapes(
     points: &[i32],
     contours: &[[usize; 2]],
     shapes: &[[usize; 2]],
@@ -73,8 +70,7 @@ pub extern "C" fn ukm_simplified_shapes(
 }
 
 // The shapes without their spikes.
-#[unsafe(no_mangle)]
-pub extern "C" fn ukm_despiked_shapes(
+pub fn ukm_despiked_shapes(
     points: &[i32],
     contours: &[[usize; 2]],
     shapes: &[[usize; 2]],

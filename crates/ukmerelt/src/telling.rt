@@ -6,8 +6,7 @@ ghost use Rattle.fates.specs.Outcome.{lent, leaving, fates_outcome};
 use buffer::Counted;
 
 // The fates of the contours where their shapes lose their collinear points.
-#[unsafe(no_mangle)]
-pub extern "C" fn ukm_simplified_fates(
+pub fn ukm_simplified_fates(
     points: &[i32],
     contours: &[[usize; 2]],
     shapes: &[[usize; 2]],
@@ -24,8 +23,7 @@ pub extern "C" fn ukm_simplified_fates(
 }
 
 // The fates of the contours where their shapes lose their spikes.
-#[unsafe(no_mangle)]
-pub extern "C" fn ukm_despiked_fates(
+pub fn ukm_despiked_fates(
     points: &[i32],
     contours: &[[usize; 2]],
     shapes: &[[usize; 2]],

@@ -1,0 +1,36 @@
+// Drawings in millimetres: brought onto the grid as a contour set, and given back from one.
+ghost use Rattle.std.specs.Prelude.{◌≡◌, []};
+ghost use Rattle.buffer.specs.Answers.{leaving};
+ghost use Rattle.drawing.specs.Importing.{outcome as import-outcome};
+ghost use Rattle.drawing.specs.Exporting.{leaving as export-leaving, outcome as export-outcome};
+
+use buffer::Packed;
+use drawing::Drawn;
+
+// Writes the contours of a drawing, as a contour set, to the front of the rows.
+#[unsafe(no_mangle)]
+pub extern "C" fn ukm_import_mm(
+    kinds: &[u8],
+    floats: &[f64],
+    out: &mut [i32],
+    records: &mut [[usize; 2]],
+) -> Packed
+    ensures { leaving result out.new records.new []
+        ≡ import-outcome kinds.now floats.now out.old records.old }
+{
+    ukmerelt::drawings::ukm_import_mm(kinds, floats, out, records)
+}
+
+// Writes the commands of a contour set to the front of the rows.
+#[unsafe(no_mangle)]
+pub extern "C" fn ukm_export_mm(
+    points: &[i32],
+    ranges: &[[usize; 2]],
+    kinds: &mut [u8],
+    floats: &mut [f64],
+) -> Drawn
+    ensures { export-leaving result kinds.new floats.new
+        ≡ export-outcome points.now ranges.now kinds.old floats.old }
+{
+    ukmerelt::drawings::ukm_export_mm(points, ranges, kinds, floats)
+}
