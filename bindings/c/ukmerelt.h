@@ -1,7 +1,7 @@
 /*
  * Ukmerelt: closed contours of whole numbers, cleaned and asked about.
  *
- * Link libukmerelt.a, which `rt staticlib ukmerelt` writes into target/staticlib.
+ * Link libukmerelt.a, which `tools/build ukmerelt_c` writes into target/staticlib.
  *
  * Rows. A row is a pointer and a length in elements. A contour is a row of numbers x, y, x, y, read as closed, so its
  * length is twice its count of points. A contour set is points and a row of ranges, one for each contour; a shape set

@@ -1,4 +1,4 @@
-//! Finds libukmerelt.a: in the folder that UKMERELT_LIB names, or else where `rt staticlib ukmerelt` writes it.
+//! Finds libukmerelt.a: in the folder that UKMERELT_LIB names, or else where `tools/build ukmerelt_c` writes it.
 //! Only linking needs it. Where it cannot be linked this says why and goes on, so that `cargo check`, `cargo clippy` and
 //! `cargo doc` need neither the library nor its architecture.
 use std::env;
@@ -19,7 +19,7 @@ fn main() {
         );
     } else if !library.is_file() {
         println!(
-            "cargo:warning=nothing links: {} is not there; `rt staticlib ukmerelt` makes it, or UKMERELT_LIB names its \
+            "cargo:warning=nothing links: {} is not there; `tools/build ukmerelt_c` makes it, or UKMERELT_LIB names its \
              folder",
             library.display()
         );
