@@ -14,7 +14,6 @@ use Rattle.ring.proofs.Marks.{inside, recount, unmark_yes, unmark_no}
 use Rattle.ring.proofs.Survivors.{Same, same_sym, same_survivor}
 use Rattle.ring.proofs.Neighbours.{successor-survives, predecessor-survives, not-alone, gap-successor, gap-predecessor, far-successor, far-predecessor, same_successor, same_predecessor}
 use Rattle.ring.proofs.Changes.{same_unmark, same_remove, gap-survives}
-use Rattle.ring.proofs.Listed.{at}
 
 -- What the rows hold at a survivor.
 pub record Here (m next prev : List ℕ) (c : ℕ) : Type 0 where

@@ -1,6 +1,5 @@
 -- `ring::inner::link` meets its contract. The loop's invariant: the positions below i are linked, and none of them is marked.
 use native.Mathlib.Omega.{arith}
-use Prim.Native.Nat.{◌-◌}
 use lib.ListN.{length-set}
 use Rattle.ring.proofs.Filling.{filled_start, filled_more, filled_done}
 use Rattle.ring.proofs.inner.link.Goals as goal

@@ -1,6 +1,5 @@
 -- `ring::inner::standing_by` meets its contract: no vertex passed is to go.
 use mathlib.Core.Path.{sym, ◌∙◌}
-use Prim.Native.Nat.{◌-◌}
 use native.Mathlib.Omega.{arith}
 use Rattle.ring.specs.Rule.{by}
 use Rattle.ring.proofs.Along.{passed_none, short_on, going_met, passed_more, closing_from, last_met, passed_all}

@@ -1,6 +1,5 @@
 -- `ring::inner::turns` meets its contract: the decisions that were made, and the last round where one is unmarked still.
 use mathlib.Core.Path.{sym, ◌∙◌}
-use Prim.Native.Nat.{◌-◌}
 use native.Mathlib.Omega.{arith}
 use Rattle.ring.proofs.Rounds.{all_decided, halted_idling, turns_fit}
 use Rattle.ring.proofs.inner.turns.Goals as goal

@@ -1,5 +1,4 @@
 -- `ring::inner::unmarked` meets its contract: the unmarked positions passed are counted.
-use Prim.Native.Nat.{◌-◌}
 use native.Mathlib.Omega.{arith}
 use Rattle.ring.proofs.Counting.{found_none, found_less, found_one, found_other, found_all}
 use Rattle.ring.proofs.inner.unmarked.Goals as goal

@@ -1,11 +1,10 @@
 -- `ring::inner::walk` meets its contract: the rows are linked, marked as far as the vertices stand, and then walked.
-use mathlib.Core.Path.{◌≡◌, sym, ◌∙◌, ap, subst₂}
-use mathlib.Core.Bool.{true, false}
+use mathlib.Core.Path.{sym, ◌∙◌, ap, subst₂}
 use Prim.Native.Nat.{ℕ}
 use native.Mathlib.Omega.{arith}
 use Rattle.grid.specs.Limits.{most}
 use Rattle.ring.specs.declared.Rule.{Rule}
-use Rattle.ring.specs.Rule.{by, goes}
+use Rattle.ring.specs.Rule.{goes}
 use Rattle.ring.specs.inside.Rows.{first_marked, Begun}
 use Rattle.ring.proofs.Loop.{begun_first}
 use Rattle.ring.proofs.inner.walk.Goals as goal

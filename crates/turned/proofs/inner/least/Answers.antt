@@ -1,6 +1,6 @@
 -- `turned::inner::least` meets its contract: the race goes on, and ends with one start left or with two that are level.
 use mathlib.Core.Path.{subst}
-use Prim.Native.Nat.{ℕ, ◌+◌, ◌-◌, ◌*◌, ◌≤◌}
+use Prim.Native.Nat.{ℕ, ◌+◌, ◌*◌, ◌≤◌}
 use native.Mathlib.Omega.{arith}
 use Rattle.turned.specs.inside.Words.{word, from, Apart}
 use Rattle.turned.proofs.KeyLaws.{word_period}
