@@ -1,5 +1,6 @@
 // Whether a contour is convex, wound clockwise, or contains a point, and where a point lies.
 #![tactic(auto)]
+
 pub mod inner;
 
 ghost use Rattle.std.specs.Prelude.{◌≡◌};

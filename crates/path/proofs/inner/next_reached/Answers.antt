@@ -1,5 +1,4 @@
 -- `path::inner::next_reached` meets its contract: the grid leaves room for one below.
-use borrow.Author.Rules.{rules}
 use mathlib.Core.Path.{◌≡◌, ◌∙◌, ap, ap₂, subst}
 use mathlib.Core.Bool.{true, false}
 use Prim.Native.Nat.{◌+◌}
@@ -16,8 +15,7 @@ use Rattle.grid.proofs.LimitLaws.{on-grid-in, on_grid_back}
 use Rattle.grid.proofs.PointLaws.{x-on, y-on}
 use Rattle.path.specs.inside.Contains.{Across}
 use Rattle.path.specs.inside.Locate.{under}
-use Rattle.path.proofs.inner.next_reached.Statement.{statement}
-use Rattle.path.proofs.inner.next_reached.Tie as tie
+use Rattle.path.proofs.inner.next_reached.Goals as goal
 
 module _ (p : Point) (h : on limit p ≡ true) where
   one_below : In (limit + 1) (to_z w32 (of_z w32 p.y) -ℤ pos 1)
@@ -28,17 +26,10 @@ module _ (p : Point) (h : on limit p ≡ true) where
   unfolding limit
   passed = ap₂ (λ (x y : ℤ). record { x = x; y = y }) (on_grid_back p.x (x-on limit p h)) (back w32 one_below tt ∙ ap (λ (y : ℤ). y -ℤ pos 1) (on_grid_back p.y (y-on limit p h)))
 
-sub-t5 : tie.Need-overflow-sub-t5
+pub overflow_sub-p : goal.overflow_sub-p
 unfolding limit
-sub-t5 c = in_fits (one_below _ c.before.before.requires.2) tt
+overflow_sub-p c = in_fits (one_below _ c.requires.2) tt
 
-next-across-requires : tie.Need-next-across-requires
-next-across-requires c κs = search rules
-
-returns : tie.Need-returns
+pub returns : goal.returns
 returns c =
-    let s = c.before.before.before.before in
-    subst (λ (q : Point). Across s.args.points.now s.args.n s.args.i q false c.next-across.result) (passed _ s.requires.2) c.next-across.ensures
-
-pub next_reached_spec : {M : Type 1} → statement M
-next_reached_spec = tie.close (tie.spec sub-t5 next-across-requires returns)
+    subst (λ (q : Point). Across c.args.points.now c.args.n c.args.i q false c.next_across.result) (passed _ c.requires.2) c.next_across.ensures
