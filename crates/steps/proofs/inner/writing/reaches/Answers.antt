@@ -1,0 +1,22 @@
+-- `steps::inner::writing::reaches` meets its contract: which widths all differences fit is told by what is or-ed, and by those that are left.
+use mathlib.Core.Path.{sym, subst}
+use Prim.Native.Nat.{ℕ, ◌+◌, ◌-◌}
+use native.Mathlib.Omega.{arith}
+use lib.Bits.{bit_or}
+use Rattle.steps.proofs.WriteLaws.{Reached, reached_none, reached-more, reached-all, reached-below}
+use Rattle.steps.proofs.inner.writing.reaches.Goals as goal
+
+pub loop-k-init : goal.loop-k-init
+loop-k-init c = (omega arith, reached_none c.args.contour.now)
+
+pub loop-k-preserved : goal.loop-k-preserved
+loop-k-preserved c =
+    let l = c.loop-k in
+    let p = c.args.contour.now in
+    (omega arith, subst (λ (m : ℕ). Reached p (bit_or l.all m) (l.k + 1)) (sym c.reach-all.ensures) (reached-more p l.all l.k l.invariant.1 c.loop-k-test.true))
+
+pub returns : goal.returns
+returns c =
+    let l = c.loop-k in
+    let p = c.args.contour.now in
+    (reached-below p l.all l.k l.invariant.1 c.requires, reached-all p l.all l.k l.invariant.1 (omega arith))
