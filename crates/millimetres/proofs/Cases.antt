@@ -1,5 +1,5 @@
 -- Worked cases: floats by their bits.
-use Rattle.std.proofs.Common.{◌≡◌, ℕ, Bool, true, false, List, [], ◌∷◌, map, pos, negsuc, refl}
+use Rattle.std.proofs.Common.{◌≡◌, ℕ, true, false, List, [], ◌∷◌, map, pos, negsuc, refl}
 use lib.Ieee.{Float, binary64, of_bits, of_int, div}
 use Rattle.grid.specs.Limits.{narrow}
 use Rattle.millimetres.specs.Scale.{near, finite, size, units, on_grid, millimetres}

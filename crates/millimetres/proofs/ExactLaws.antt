@@ -1,6 +1,5 @@
 -- x / 1,024 as a float is exact: x has at most 53 binary digits, and 1,024 is a power of two.
-use Rattle.std.proofs.Common.{◌≡◌, ℕ, suc, ◌*◌, ◌^◌, ◌<◌, ◌≤◌, Bool, true, false, ℤ, pos, negsuc, sym, refl, ap, ◌∙◌, subst, lt_of_lt_of_le, le_of_lt, mul_assoc, mul_comm, mul-pos, arith, lit<, lit≤, shl_lt}
-use lib.Signed.{mag}
+use Rattle.std.proofs.Common.{◌≡◌, ℕ, suc, ◌*◌, ◌^◌, ◌<◌, Bool, true, false, pos, negsuc, sym, refl, ap, ◌∙◌, subst, lt_of_lt_of_le, le_of_lt, mul_assoc, mul_comm, mul-pos, arith, lit<, lit≤, shl_lt}
 use lib.Ieee.{Float, nan, inf, fin, binary64, up, down, round, div, of_int, of_bits, unlike}
 use lib.Ieee.Fits.{down_pos}
 use lib.Ieee.Exact.{HasValue, round_exact}

@@ -1,7 +1,7 @@
 -- The floats that the code names, and what it means that a float is one of 64 bits.
 use Rattle.std.proofs.Common.{◌≡◌, ℕ, zero, suc, ◌*◌, ◌%◌, ◌^◌, ◌<◌, ◌≤◌, Bool, true, false, ◌&&◌, T, eqb, ltb, leb, ℤ, pos, negsuc, refl, le_trans, le_of_suc-le-suc, one-mul, lt_of_not-le, not-le_of_lt, arith, lit<, lit≤, eqb→eq, ltb→lt, leb→le}
 use lib.Pow.{pow-lt}
-use lib.Ieee.{Float, fin, inf, binary64, up, down, unlike, div, neg, of_bits, of_int, fits}
+use lib.Ieee.{fin, binary64, up, down, unlike, of_bits, fits}
 
 pub nought : of_bits binary64 0 ≡ fin false 0 (pos 0)
 unfolding of_bits

@@ -1,5 +1,5 @@
 -- 2,048 times a float below 2^20 is exact, and its whole part is enough to round by.
-use Rattle.std.proofs.Common.{◌≡◌, ℕ, zero, suc, ◌+◌, ◌-◌, ◌*◌, ◌/◌, ◌^◌, ◌<◌, ◌≤◌, min, Bool, true, false, T, ℤ, pos, negsuc, sym, ap, ◌∙◌, subst, lt_of_lt_of_le, le_of_lt, mul_assoc, mul_comm, div-lt_iff_lt-mul, mul-lt-mul_of_pos_right, mul-pos, one-mul, zero-mul, mul-one, arith, lit<, lit≤, lt→ltb, pow_pos, pow_mono, pow-add, shl_lt}
+use Rattle.std.proofs.Common.{◌≡◌, ℕ, suc, ◌+◌, ◌-◌, ◌*◌, ◌/◌, ◌^◌, ◌<◌, ◌≤◌, min, Bool, true, false, T, ℤ, pos, negsuc, sym, ap, ◌∙◌, subst, lt_of_lt_of_le, le_of_lt, mul_assoc, mul_comm, div-lt_iff_lt-mul, mul-lt-mul_of_pos_right, mul-pos, one-mul, zero-mul, mul-one, arith, lit<, lit≤, lt→ltb, pow_pos, pow_mono, pow-add, shl_lt}
 use native.Mathlib.Nat.{add-div_right, div-div-eq-div-mul, eq_of_mul-eq-mul_right, min-eq_left, zero-div}
 use lib.Ieee.{Float, nan, inf, fin, binary64, up, down, round, mul, lt, fits, to_unsigned, of_bits}
 use lib.Ieee.Fits.{down_pos}

@@ -1,5 +1,5 @@
 -- The nearest whole number to a fraction.
-use Rattle.std.proofs.Common.{◌≡◌, ℕ, suc, ◌+◌, ◌-◌, ◌*◌, ◌/◌, ◌%◌, ◌<◌, ◌≤◌, sym, ap, ◌∙◌, mod-lt, mul_assoc, suc-mul, mul_comm, div-add-mod', mul-add, mul_left_comm, arith}
+use Rattle.std.proofs.Common.{◌≡◌, ℕ, suc, ◌+◌, ◌-◌, ◌*◌, ◌/◌, ◌%◌, ◌<◌, ◌≤◌, ap, ◌∙◌, mod-lt, suc-mul, div-add-mod', mul_left_comm, arith}
 use lib.Arith.{digits_div}
 use Rattle.millimetres.specs.Scale.{near}
 

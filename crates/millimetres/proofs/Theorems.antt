@@ -1,5 +1,5 @@
 -- What a caller may count on, said of a finite float's exact value, m · up e / down e, in whole numbers.
-use Rattle.std.proofs.Common.{◌≡◌, ℕ, suc, ◌+◌, ◌*◌, ◌^◌, ◌<◌, ◌≤◌, Bool, true, false, not, ℤ, pos, negsuc, nat_abs, sym, refl, ap, ◌∙◌, mul_comm, zero-mul, arith, w32, le-leb}
+use Rattle.std.proofs.Common.{◌≡◌, ℕ, suc, ◌+◌, ◌*◌, ◌^◌, ◌<◌, ◌≤◌, Bool, true, false, not, ℤ, pos, negsuc, nat_abs, refl, ap, ◌∙◌, mul_comm, zero-mul, arith, w32, le-leb}
 use lib.Signed.{mag, non_neg}
 use lib.Ieee.{Float, nan, inf, fin, up, down}
 use lib.Ieee.Fits.{down_pos}

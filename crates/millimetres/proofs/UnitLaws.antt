@@ -1,5 +1,5 @@
 -- Which floats are finite, on the grid and below 0, as the code tells, and what those on the grid are in units.
-use Rattle.std.proofs.Common.{◌≡◌, ℕ, zero, suc, ◌+◌, ◌*◌, ◌/◌, ◌<◌, ◌≤◌, Bool, true, false, ◌&&◌, ltb, leb, ℤ, pos, negsuc, sym, refl, ap, ◌∙◌, true≢false, le_of_suc-le-suc, zero-lt-suc, div-lt_iff_lt-mul, mul-pos, one-mul, le-div_iff_mul-le, zero-mul, mul-one, arith, ltb-false, ltb-true, le-ltb, lt-ltb, le-leb, leb-true}
+use Rattle.std.proofs.Common.{◌≡◌, ℕ, zero, suc, ◌+◌, ◌*◌, ◌<◌, ◌≤◌, Bool, true, false, ltb, leb, ℤ, pos, negsuc, sym, refl, ap, ◌∙◌, true≢false, le_of_suc-le-suc, zero-lt-suc, div-lt_iff_lt-mul, mul-pos, le-div_iff_mul-le, zero-mul, mul-one, arith, ltb-false, ltb-true, le-ltb, lt-ltb, le-leb, leb-true}
 use mathlib.Core.Bool.{false≢true}
 use borrow.Author.Tests.{lt-leb}
 use lib.Ieee.{Float, nan, inf, fin, up, down, lt, neg}

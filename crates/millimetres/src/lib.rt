@@ -1,5 +1,6 @@
 // Millimetres as floats, and the units of the grid, 1,024 to the millimetre: each from the other.
 #![tactic(auto)]
+
 pub mod inner;
 
 ghost use Rattle.std.specs.Prelude.{◌≡◌};

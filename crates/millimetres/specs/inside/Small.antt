@@ -1,5 +1,5 @@
 -- What the inner functions ask of their callers.
-use Rattle.std.specs.Prelude.{◌≡◌, ◌*◌, ◌<◌, Bool, true, Float}
+use Rattle.std.specs.Prelude.{◌≡◌, ◌*◌, ◌<◌, true, Float}
 use Rattle.std.specs.Float.{nan, inf, fin}
 use Rattle.std.specs.Float.Ieee.{up, down}
 

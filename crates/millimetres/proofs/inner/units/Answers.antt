@@ -1,0 +1,76 @@
+-- `millimetres::inner::units` meets its contract: the size is rounded, and the sign put before it.
+use Rattle.std.proofs.Common.{◌≡◌, ℕ, zero, suc, ◌<◌, ◌≤◌, true, false, ℤ, pos, ◌-ℤ◌, neg_ℤ, sym, ap, ◌∙◌, subst, arith, to_z-of_z, w32, SFits, to_z}
+use borrow.Author.Rules.{sfits_of}
+use lib.IntN.{+ℤ_idl}
+use lib.Signed.{mag}
+use lib.Ieee.{neg, of_bits}
+use mir.Facts.{to_z_pos}
+use Rattle.grid.specs.Limits.{narrow}
+use Rattle.millimetres.specs.Scale.{signed}
+use Rattle.millimetres.proofs.UnitLaws.{Handed, below-zero, from_zero}
+use Rattle.millimetres.proofs.inner.units.Goals as goal
+
+below : (c : goal.Then-v) → Handed c.args.v (neg c.args.v) true
+unfolding of_bits
+below c = below-zero c.args.v c.requires c.if-v.true
+
+below_2 : (c : goal.After-steps) → Handed c.args.v (neg c.args.v) true
+unfolding of_bits
+below_2 c = below-zero c.args.v c.requires c.if-v.true
+
+rest : (c : goal.Else-v) → Handed c.args.v c.args.v false
+unfolding of_bits
+rest c = from_zero c.args.v c.requires c.if-v.false
+
+rest_2 : (c : goal.After-steps-else-v) → Handed c.args.v c.args.v false
+unfolding of_bits
+rest_2 c = from_zero c.args.v c.requires c.if-v.false
+
+-- a number of steps is an i32, and so is the number below 0
+module _ (n : ℕ) (h : n ≤ narrow) where
+  few : n < 2147483648
+  unfolding narrow
+  few = omega arith
+
+  steps-fit : SFits w32 (pos n)
+  steps-fit = sfits_of few
+
+  steps-are : to_z w32 n ≡ pos n
+  steps-are = to_z_pos w32 few
+
+  minus_is : pos 0 -ℤ to_z w32 n ≡ neg_ℤ (pos n)
+  minus_is = ap (λ (z : ℤ). pos 0 -ℤ z) steps-are ∙ +ℤ_idl (neg_ℤ (pos n))
+
+  minus-fits : SFits w32 (pos 0 -ℤ to_z w32 n)
+  minus-fits = subst (SFits w32) (sym minus_is) (sfits_of (go n few))
+    where
+      go : (m : ℕ) → m < 2147483648 → mag (neg_ℤ (pos m)) < 2147483648
+      go zero l = omega arith
+      go (suc m) l = omega arith
+
+few_below : (c : goal.After-steps) → c.steps.result ≤ narrow
+few_below c = omega (arith, c.steps.ensures, (below_2 c).few)
+
+few_rest : (c : goal.After-steps-else-v) → c.steps-else-v.result ≤ narrow
+few_rest c = omega (arith, c.steps-else-v.ensures, (rest_2 c).few)
+
+pub steps-requires : goal.steps-requires
+steps-requires c = (below c).small
+
+pub overflow_cast-result : goal.overflow_cast-result
+overflow_cast-result c = steps-fit _ (few_below c)
+
+pub overflow_sub-result : goal.overflow_sub-result
+overflow_sub-result c = minus-fits _ (few_below c)
+
+pub steps-requires-else-v : goal.steps-requires-else-v
+steps-requires-else-v c = (rest c).small
+
+pub overflow_cast-result-else-v : goal.overflow_cast-result-else-v
+overflow_cast-result-else-v c = steps-fit _ (few_rest c)
+
+pub returns-then-v : goal.returns-then-v
+returns-then-v c = to_z-of_z (minus-fits _ (few_below c)) ∙ minus_is _ (few_below c) ∙ ap (signed true) c.steps.ensures ∙ (below_2 c).is
+
+pub returns-else-v : goal.returns-else-v
+returns-else-v c = steps-are _ (few_rest c) ∙ ap pos c.steps-else-v.ensures ∙ (rest_2 c).is
