@@ -1,5 +1,6 @@
 // The cleaners of one contour, their verdicts, and the call that hands back what they kept.
 #![tactic(auto)]
+
 pub mod cleaning;
 pub mod despike;
 pub mod inner;
