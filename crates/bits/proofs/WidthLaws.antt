@@ -1,5 +1,5 @@
 -- The smallest width that numbers fit.
-use mathlib.Core.Path.{◌≡◌, refl, sym, ◌∙◌, ap, subst}
+use mathlib.Core.Path.{◌≡◌, refl, sym, ◌∙◌, subst}
 use mathlib.Core.Bool.{Bool, true, false}
 use mathlib.Core.List.{List}
 use Prim.Native.Nat.{ℕ, zero, suc, ◌+◌, ◌-◌, ◌*◌, ◌^◌, ◌≤◌, ◌<◌}
@@ -7,12 +7,12 @@ use native.Mathlib.Nat.{pow-suc, lt_of_lt_of_le}
 use native.Mathlib.Decide.{dec_le}
 use native.Mathlib.Omega.{arith}
 use lib.Dec.{T, ltb}
-use lib.Pow.{pow_pos, pow_mono}
+use lib.Pow.{pow_mono}
 use lib.Count.{count_leading_zeros, leading_length}
 use lib.IntN.{ℤ}
 use borrow.Author.Tests.{ltb-true, lt-ltb}
 use Rattle.bits.specs.Signs.{all_fit}
-use Rattle.bits.specs.Widths.{smallest, width_of, width_for}
+use Rattle.bits.specs.Widths.{smallest, width_of}
 use Rattle.bits.proofs.SignLaws.{all_fit_wider}
 
 -- the smallest width that passes a test

@@ -1,5 +1,5 @@
 -- The smallest width that signed numbers fit.
-use Rattle.std.specs.Prelude.{Bool, true, false, List, [], ◌∷◌, ℕ, zero, suc, ◌-◌, ◌^◌, ltb, ℤ}
+use Rattle.std.specs.Prelude.{Bool, true, false, List, ℕ, zero, suc, ◌-◌, ◌^◌, ltb, ℤ}
 use Rattle.bits.specs.Signs.{all_fit}
 
 -- the smallest width from 1 to k + 1 that passes a test which every larger one passes too

@@ -5,7 +5,7 @@ use Rattle.grid.specs.declared.Edge.{Edge}
 use Rattle.grid.specs.Limits.{limit}
 use Rattle.grid.specs.Points.{at, on, same, points}
 use Rattle.grid.specs.Edges.{between, still}
-use Rattle.grid.specs.Corners.{last, differing, distinct_neighbours, Corner, corners_from, corners, some}
+use Rattle.grid.specs.Corners.{differing, distinct_neighbours, Corner, corners_from, corners, some}
 use Rattle.grid.specs.Domain.{Contour}
 use Rattle.grid.specs.inside.Edges.{Short}
 use Rattle.grid.specs.inside.Rows.{FirstOther}

@@ -2,7 +2,6 @@
 use Rattle.std.proofs.Common.{◌≡◌, Bool, true, false, ◌||◌, List, [], ◌∷◌, sym, ap, ◌∙◌}
 use mathlib.Core.Bool.{or-false, or_assoc}
 use Rattle.grid.specs.declared.Point.{Point}
-use Rattle.grid.specs.Points.{at}
 use Rattle.grid.specs.Corners.{Corner, corners_from, corners, some}
 
 abbrev pub corner : Point → Point → Point → Corner

@@ -2,12 +2,12 @@
 use mathlib.Core.Path.{◌≡◌, refl, sym, ◌∙◌, ap, ap₂}
 use mathlib.Core.Bool.{true, false}
 use mathlib.Core.List.{List, [], ◌∷◌}
-use Prim.Native.Nat.{ℕ, suc, ◌+◌, ◌-◌, ◌*◌, ◌%◌, ◌^◌, ◌<◌, ◌≤◌}
+use Prim.Native.Nat.{ℕ, suc, ◌+◌, ◌-◌, ◌*◌, ◌%◌, ◌^◌, ◌<◌}
 use native.Mathlib.Nat.{lt_of_lt_of_le}
 use native.Mathlib.Omega.{arith}
 use lib.Bits.{bit_xor, xor_block, xor_self, xor_zero_l, xor_zero_r}
-use lib.ListN.{length, get_or}
-use lib.Pow.{pow-add, pow_pos, pow_mono, shl_exact}
+use lib.ListN.{get_or}
+use lib.Pow.{pow_pos, pow_mono, shl_exact}
 use lib.IntN.{ℤ, pos, negsuc, nat_abs, ◌+ℤ◌, ◌-ℤ◌, ◌*ℤ◌}
 use lib.Signed.{lt_z, non_neg}
 use lib.Dec.{T}
@@ -16,7 +16,7 @@ use mir.Val.{Fits, SFits, to_z, of_z}
 use mir.Facts.{to_z_pos}
 use borrow.Author.Tests.{ltb-true, le-ltb}
 use Rattle.integers.specs.Bound.{In}
-use Rattle.integers.specs.Polynomial.{#, num, ◌:+◌, ◌:-◌, ◌:*◌}
+use Rattle.integers.specs.Polynomial.{#, ◌:+◌, ◌:-◌, ◌:*◌}
 use Rattle.integers.proofs.Bound.{in_add, in_sub, in_mul, in_pos, in_more, in_eq, in_fits, back, back_in, cast_u64, cast_u64_is}
 use Rattle.integers.proofs.Polynomial.{ring}
 use Rattle.integers.proofs.Ring.{⊖-add, ⊖-pos, ⊖-negsuc, ⊖-eq}
@@ -26,7 +26,7 @@ use Rattle.bits.proofs.CodeLaws.{one_shifted}
 use Rattle.grid.specs.Limits.{limit, all_on_grid}
 use Rattle.grid.proofs.LimitLaws.{on-grid-in, all-on-grid-at}
 use Rattle.steps.specs.inside.Asked.{step, Narrow, Rising, joined, point_bits}
-use Rattle.steps.proofs.WriteLaws.{side_by_side, first_fits, second_fits}
+use Rattle.steps.proofs.WriteLaws.{side_by_side}
 
 -- a number raised by half of the values of a width
 abbrev lifted : ℕ → ℤ → ℕ

@@ -21,7 +21,7 @@ use Rattle.bits.specs.declared.inner.pens.Pen.{Pen}
 use Rattle.bits.specs.Bits.{field}
 use Rattle.bits.specs.Signs.{unsigned, fits, all_fit, fields}
 use Rattle.bits.specs.Widths.{width_for}
-use Rattle.bits.specs.inside.Pens.{reached, Ready, Space, Wrote}
+use Rattle.bits.specs.inside.Pens.{reached, Space, Wrote}
 use Rattle.bits.proofs.BitLaws.{field-length, field_joined}
 use Rattle.bits.proofs.PenLaws.{wrote_none, wrote_both}
 use Rattle.bits.proofs.SignLaws.{halves, unsigned-below, unsigned_word, fields-length}

@@ -1,5 +1,5 @@
 -- The bits of a contour by its steps: its first point, and its differences in the smallest width that they fit.
-use Rattle.std.specs.Prelude.{Bool, List, [], ◌∷◌, ◌++◌, ℕ, zero, suc, ◌+◌, ◌*◌, take, drop, ℤ}
+use Rattle.std.specs.Prelude.{Bool, List, [], ◌++◌, ℕ, zero, suc, ◌+◌, ◌*◌, take, drop, ℤ}
 use Rattle.bits.specs.Signs.{fields, numbers}
 use Rattle.bits.specs.Widths.{width_of}
 use Rattle.steps.specs.Steps.{differences, from_point}

@@ -1,5 +1,5 @@
 -- `grid::inner::first_other` meets its contract: all points passed equal the last one.
-use Rattle.std.proofs.Common.{◌≡◌, ◌-◌, true, sym, ◌∙◌, ap₂, arith, below_more}
+use Rattle.std.proofs.Common.{◌≡◌, ◌-◌, sym, ◌∙◌, ap₂, arith, below_more}
 use Rattle.grid.specs.Points.{at, same}
 use Rattle.grid.proofs.inner.first_other.Goals as goal
 

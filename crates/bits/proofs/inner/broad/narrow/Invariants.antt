@@ -1,5 +1,5 @@
 use mathlib.Core.List.{[]}
-use Prim.Native.Nat.{◌*◌, ◌-◌, ◌≤◌}
+use Prim.Native.Nat.{◌*◌, ◌≤◌}
 use lib.ListN.{length}
 use Rattle.bits.specs.inside.Pens.{reached, Wrote, broad, narrowed, Fronted}
 use Rattle.bits.proofs.inner.broad.narrow.Given as goal

@@ -1,5 +1,5 @@
 use mathlib.Core.List.{[]}
-use Prim.Native.Nat.{◌*◌, ◌-◌, ◌<◌, ◌≤◌}
+use Prim.Native.Nat.{◌*◌, ◌<◌, ◌≤◌}
 use lib.ListN.{length}
 use Rattle.bits.specs.inside.Pens.{pen, reached, Wrote}
 use Rattle.bits.proofs.inner.pens.spill.Given as goal

@@ -1,5 +1,5 @@
 -- `grid::inner::bounds::some_beyond` meets its contract: what was read is told, and the rest decides.
-use Rattle.std.proofs.Common.{w32, ◌≡◌, ◌+◌, ◌-◌, Bool, not, ◌||◌, length, get_or, drop, pos, sym, refl, ap, ◌∙◌, arith, to_z-of_z, rules}
+use Rattle.std.proofs.Common.{w32, ◌≡◌, ◌+◌, Bool, not, ◌||◌, length, get_or, drop, pos, sym, refl, ap, ◌∙◌, arith, to_z-of_z, rules}
 use borrow.Author.Rules.{sfits_of}
 use mathlib.Core.Bool.{or_assoc, or-false}
 use Rattle.integers.proofs.Logic.{not_both}

@@ -1,5 +1,5 @@
 -- `grid::inner::boxes::four_by_turns` meets its contract: its edges begin along one axis, or along the other.
-use Rattle.std.proofs.Common.{◌≡◌, true, false, sym, ◌∙◌, arith}
+use Rattle.std.proofs.Common.{◌≡◌, sym, ◌∙◌, arith}
 use Rattle.grid.specs.Points.{at}
 use Rattle.grid.specs.Boxes.{by_turns}
 use Rattle.grid.proofs.BoxLaws.{closed, ab, bc, cd, da, begins_x, begins_y}

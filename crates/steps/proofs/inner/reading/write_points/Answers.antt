@@ -1,17 +1,17 @@
 -- `steps::inner::reading::write_points` meets its contract: those that are still to be written are the rest of all.
 use borrow.Author.Rules.{sfits_of}
-use mathlib.Core.Path.{◌≡◌, sym, ◌∙◌, ap, ap₂, subst}
+use mathlib.Core.Path.{◌≡◌, sym, ◌∙◌, ap, ap₂}
 use mathlib.Core.Bool.{true}
 use mathlib.Core.List.{List}
-use Prim.Native.Nat.{ℕ, ◌+◌, ◌-◌, ◌*◌, ◌%◌, ◌^◌, ◌<◌, ◌≤◌}
+use Prim.Native.Nat.{ℕ, ◌+◌, ◌*◌, ◌%◌, ◌^◌, ◌<◌, ◌≤◌}
 use native.Mathlib.Omega.{arith}
-use lib.ListN.{length, drop, get_or, length-set}
+use lib.ListN.{length, drop, get_or}
 use lib.IntN.{ℤ, pos, ◌+ℤ◌}
 use mir.Syntax.{w32}
 use mir.Val.{SFits, to_z, of_z}
 use mir.Facts.{to_z-of_z}
 use Rattle.rows.specs.Rows.{placed}
-use Rattle.rows.proofs.RowLaws.{copied_none, copied_more, copied_all}
+use Rattle.rows.proofs.RowLaws.{copied_more, copied_all}
 use Rattle.bits.specs.Bits.{bits}
 use Rattle.bits.specs.Signs.{signed, numbers}
 use Rattle.bits.specs.inside.Words.{leading}
@@ -20,7 +20,7 @@ use Rattle.grid.specs.Limits.{limit, on_grid, all_on_grid}
 use Rattle.grid.proofs.LimitLaws.{all-on-grid-at}
 use Rattle.steps.specs.Steps.{sums}
 use Rattle.steps.proofs.StepLaws.{sums-length}
-use Rattle.steps.proofs.ReadLaws.{difference, step_near, both_there, first_leading, second_leading, rest, rest_all, next_is, next-behind}
+use Rattle.steps.proofs.ReadLaws.{difference, step_near, both_there, first_leading, second_leading, rest, next_is, next-behind}
 use Rattle.steps.proofs.inner.reading.write_points.Goals as goal
 
 -- the numbers that are asked for, by the bits of x and y

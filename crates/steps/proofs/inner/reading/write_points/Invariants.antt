@@ -1,8 +1,6 @@
 use mathlib.Core.Path.{◌≡◌}
 use Prim.Native.Nat.{◌-◌, ◌*◌, ◌≤◌}
 use lib.ListN.{drop}
-use mir.Syntax.{w32}
-use mir.Val.{to_z}
 use Rattle.bits.specs.Bits.{bits}
 use Rattle.bits.specs.Signs.{numbers}
 use Rattle.rows.proofs.RowLaws.{Copied}

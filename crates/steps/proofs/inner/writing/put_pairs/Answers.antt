@@ -16,7 +16,7 @@ use Rattle.steps.specs.Steps.{differences}
 use lib.ListN.{length, take, drop, length-drop}
 use lib.Seq.{take_all}
 use lib.IntN.{ℤ, pos}
-use Rattle.bits.specs.inside.Pens.{narrowed, Wrote}
+use Rattle.bits.specs.inside.Pens.{Wrote}
 use Rattle.steps.specs.inside.Asked.{Fitting, Narrow, joined}
 use Rattle.steps.proofs.WriteLaws.{room-left, writing_none, pair-below, pair-room, writing-pair, writing-same, rest-fitting, writing-rest}
 use Rattle.steps.proofs.PairLaws.{scale_in, joined_in}

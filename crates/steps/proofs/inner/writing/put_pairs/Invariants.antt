@@ -1,7 +1,5 @@
 use mathlib.Core.Path.{◌≡◌}
 use Prim.Native.Nat.{◌+◌, ◌-◌, ◌%◌, ◌^◌, ◌≤◌}
-use mir.Syntax.{w64}
-use mir.Val.{to_z}
 use lib.ListN.{length}
 use lib.IntN.{pos}
 use Rattle.bits.specs.inside.Pens.{narrowed, Fronted}

@@ -1,5 +1,4 @@
 -- `steps::inner::writing::put_steps` meets its contract: the differences that are left fit behind those that are written.
-use Prim.Native.Nat.{◌-◌}
 use native.Mathlib.Omega.{arith}
 use Rattle.bits.proofs.SignLaws.{unsigned-below}
 use Rattle.steps.specs.inside.Asked.{step}

@@ -1,6 +1,6 @@
 -- `steps::inner::writing::reaches` meets its contract: which widths all differences fit is told by what is or-ed, and by those that are left.
 use mathlib.Core.Path.{sym, subst}
-use Prim.Native.Nat.{ℕ, ◌+◌, ◌-◌}
+use Prim.Native.Nat.{ℕ, ◌+◌}
 use native.Mathlib.Omega.{arith}
 use lib.Bits.{bit_or}
 use Rattle.steps.proofs.WriteLaws.{Reached, reached_none, reached-more, reached-all, reached-below}
