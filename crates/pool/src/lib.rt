@@ -1,5 +1,6 @@
 // A pool of contours that two presses share. It lies in rows of the caller's: the points of its contours, a record for each contour, which has its start, its end, its tool and its press, and the count of the records in use.
 #![tactic(auto)]
+
 pub mod inner;
 
 ghost use Rattle.std.specs.Prelude.{◌≡◌};

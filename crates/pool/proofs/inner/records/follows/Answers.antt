@@ -3,13 +3,9 @@ use mathlib.Core.Path.{ap}
 use mathlib.Core.Bool.{Bool, ◌&&◌}
 use lib.Dec.{leb}
 use Rattle.pool.proofs.RecordLaws.{along}
-use Rattle.pool.proofs.inner.records.follows.Statement.{statement}
-use Rattle.pool.proofs.inner.records.follows.Tie as tie
+use Rattle.pool.proofs.inner.records.follows.Goals as goal
 
-returns : tie.Need-returns
+pub returns : goal.returns
 returns c =
     let s = c.args in
     ap (λ (t : Bool). (t && (leb s.tool 255 && leb s.press 1)) && leb s.end s.places) (along s.at s.start s.end)
-
-pub follows_spec : {M : Type 1} → statement M
-follows_spec = tie.close (tie.spec returns)
