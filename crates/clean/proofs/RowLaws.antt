@@ -6,8 +6,7 @@ use native.Mathlib.Omega.{arith}
 use native.Mathlib.Numerals.{add-one}
 use lib.IntN.{ℤ, pos}
 use lib.ListN.{length, get_or, set, drop, replicate, length-set, length-append, length-replicate, drop_of_length-le}
-use lib.Seq.{drop-cons, drop-length, take_at, drop_at}
-use borrow.Author.Fill.{fill_none, fill_more}
+use lib.Seq.{drop-cons, take_at, drop_at}
 use Rattle.rows.specs.Rows.{front, zeroed}
 use Rattle.ring.specs.Walk.{unmarked, survivors_from, survivors, occurrences}
 use Rattle.ring.proofs.Survivors.{survivors_yes, survivors_no, survivor_count}

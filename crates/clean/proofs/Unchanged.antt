@@ -12,7 +12,7 @@ use lib.Seq.{drop-cons, take-append_seam}
 use borrow.Author.Tests.{le-leb, eq-eqb, ne_eqb, not-true}
 use Rattle.integers.proofs.Logic.{and_right, or_left, or_right}
 use Rattle.grid.specs.declared.Point.{Point}
-use Rattle.grid.specs.Points.{at, origin, points, same}
+use Rattle.grid.specs.Points.{origin, points, same}
 use Rattle.grid.specs.Corners.{Corner, corner_in, corners, some, aligned_at, reverses_at, distinct_neighbours}
 use Rattle.grid.specs.Neighbours.{preceding, following}
 use Rattle.grid.specs.Domain.{count, Contour}

@@ -1,5 +1,5 @@
 -- What a cleaning answers, and what it leaves in the rows that are lent to it. Any rule may say of a corner whether its vertex is to go; the two cleaners have one each.
-use Rattle.std.specs.Prelude.{Bool, List, [], ◌∷◌, ◌++◌, ℕ, zero, suc, ◌+◌, ◌*◌, length, get_or, replicate, ℤ, pos, ltb}
+use Rattle.std.specs.Prelude.{Bool, List, [], ◌∷◌, ◌++◌, ℕ, zero, suc, ◌+◌, ◌*◌, length, get_or, ℤ, pos, ltb}
 use Rattle.replies.specs.Ladder.{Rung, first_of}
 use Rattle.rows.specs.Rows.{front, zeroed}
 use Rattle.grid.specs.Limits.{limit}

@@ -1,5 +1,6 @@
 // Questions about contour sets and shape sets, and the cleaning of shapes.
 #![tactic(auto)]
+
 pub mod areas;
 mod cleaning;
 mod containing;

@@ -1,5 +1,5 @@
 -- What the walk of a contour asks and leaves.
-use Rattle.std.specs.Prelude.{◌≡◌, List, [], ℕ, ◌-◌, ◌≤◌, length, replicate, ℤ}
+use Rattle.std.specs.Prelude.{◌≡◌, List, [], ℕ, ◌≤◌, length, replicate, ℤ}
 use Rattle.grid.specs.Domain.{Contour}
 use Rattle.rows.specs.Rows.{front}
 use Rattle.ring.specs.declared.Rule.{Rule}

@@ -1,7 +1,6 @@
 -- `clean::inner::look::onward` meets its contract: no corner passed is a spike.
 use borrow.Author.Tests.{lt-leb}
 use mathlib.Core.Path.{sym, ◌∙◌}
-use Prim.Native.Nat.{◌-◌}
 use native.Mathlib.Omega.{arith}
 use Rattle.grid.proofs.AlongLaws.{next_short, closing_next}
 use Rattle.clean.proofs.LookLaws.{along, onward-skip, onward-turn, onward-on, spike-met, few-kept, onward-all}

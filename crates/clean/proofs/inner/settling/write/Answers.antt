@@ -1,5 +1,4 @@
 -- `clean::inner::settling::write` meets its contract: the survivors passed are in front of the output, and those of them that are marked are counted.
-use Prim.Native.Nat.{◌-◌}
 use native.Mathlib.Omega.{arith}
 use Rattle.ring.proofs.Counting.{found_none, found_other, found_all, found_mark}
 use Rattle.clean.proofs.RowLaws.{writing_none, writing_more, writing-past, writing_all}

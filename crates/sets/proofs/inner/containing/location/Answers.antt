@@ -1,0 +1,23 @@
+-- `sets::inner::containing::location` meets its contract.
+use Rattle.std.proofs.Common.{List, ℤ, ap, ◌∙◌}
+use Rattle.replies.specs.Ladder.{first_of}
+use Rattle.grid.specs.Limits.{limit}
+use Rattle.grid.specs.Points.{points}
+use Rattle.grid.specs.Domain.{domain}
+use Rattle.path.specs.Locate.{location}
+use Rattle.buffer.proofs.PartLaws.{same_numbers}
+use Rattle.sets.proofs.PartLaws.{part-named, part-in-domain}
+use Rattle.sets.proofs.inner.containing.location.Goals as goal
+
+pub named-requires : goal.named-requires
+named-requires c = part-named c.args.points.now c.args.ranges.now c.args.k c.requires.0.true c.requires.1
+
+pub location-requires : goal.location-requires
+location-requires c = (
+  ap (λ (row : List ℤ). first_of (domain limit row)) (same_numbers c.named.ensures)
+      ∙ part-in-domain c.args.points.now c.args.ranges.now c.args.k c.requires.0.true c.requires.1,
+  c.requires.0.on_grid,
+)
+
+pub returns : goal.returns
+returns c = c.location.ensures ∙ ap (λ (row : List ℤ). location c.args.p (points row)) (same_numbers c.named.ensures)

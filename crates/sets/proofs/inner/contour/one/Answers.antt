@@ -1,0 +1,51 @@
+-- `sets::inner::contour::one` meets its contract: too few points, copied, or walked.
+use Rattle.std.proofs.Common.{sym, length-take-le}
+use Rattle.grid.specs.Domain.{count}
+use Rattle.clean.proofs.LookLaws.{failing-goes}
+use Rattle.sets.proofs.FateLaws.{fated-few, fated-copied, fated-walked}
+use Rattle.sets.proofs.BehindLaws.{back_long, ready}
+use Rattle.sets.proofs.inner.contour.one.Goals as goal
+
+pub returns-then-n-lt3 : goal.returns-then-n-lt3
+returns-then-n-lt3 c = fated-few c.args.rule _ _ c.requires.contour c.if-n-lt3.true
+
+pub returns-then-look : goal.returns-then-look
+returns-then-look c =
+    fated-copied _ _ _ _ c.look_over-look.ensures.verdict c.if-look.true _ c.copy.ensures
+
+pub slice_bounds-settle_from-end-2 : goal.slice_bounds-settle_from-end-2
+slice_bounds-settle_from-end-2 c = sym (length-take-le _ _ c.requires.scratch.in_next)
+
+pub slice_bounds-settle_from-end-4 : goal.slice_bounds-settle_from-end-4
+slice_bounds-settle_from-end-4 c = sym (length-take-le _ _ c.requires.scratch.in_prev)
+
+pub slice_bounds-settle_from-end-6 : goal.slice_bounds-settle_from-end-6
+slice_bounds-settle_from-end-6 c = sym (length-take-le _ _ c.requires.scratch.in_mark)
+
+pub settle_from-requires : goal.settle_from-requires
+settle_from-requires c =
+    let long = length-take-le _ c.args.mark.now c.requires.scratch.in_mark in
+    let many = c.if-n-lt3.false in
+    let over = c.look_over-look.ensures in (
+      (ready _ _ _ _ _ c.requires, rw long many),
+      (rw long (failing-goes c.args.contour.now c.requires.contour c.args.rule many _ over c.if-look.false), rw long over.standing.stand),
+    )
+
+pub shape_of-next : goal.shape_of-next
+shape_of-next c =
+    back_long (count c.args.contour.now) c.args.next.now c.settle_from.last.1.1.1.0 c.settle_from.kept.1.1.1.0
+
+pub shape_of-prev : goal.shape_of-prev
+shape_of-prev c =
+    back_long (count c.args.contour.now) c.args.prev.now c.settle_from.last.1.1.1.1.0 c.settle_from.kept.1.1.1.1.0
+
+pub shape_of-mark : goal.shape_of-mark
+shape_of-mark c =
+    back_long (count c.args.contour.now) c.args.mark.now c.settle_from.last.1.1.1.1.1.0 c.settle_from.kept.1.1.1.1.1.0
+
+pub shape_of-out : goal.shape_of-out
+shape_of-out c = c.settle_from.auto.1.1.1.1.1.1.0
+
+pub returns : goal.returns
+returns c =
+    fated-walked _ _ _ _ c.look_over-look.ensures.verdict c.if-look.false _ _ c.settle_from.ensures
