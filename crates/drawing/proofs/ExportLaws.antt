@@ -1,15 +1,15 @@
 -- What an export refuses and leaves.
 use mathlib.Core.Path.{◌≡◌, refl, sym, ap, ap₂, ◌∙◌}
-use mathlib.Core.Bool.{Bool, true, false, not, ◌&&◌}
+use mathlib.Core.Bool.{true, false, not, ◌&&◌}
 use mathlib.Core.List.{List, [], ◌∷◌, ◌++◌, map, map-append, map-map}
-use Prim.Native.Nat.{ℕ, zero, suc, ◌+◌, ◌*◌, ◌-◌, ◌%◌, ◌≤◌}
+use Prim.Native.Nat.{ℕ, zero, suc, ◌+◌, ◌*◌, ◌%◌, ◌≤◌}
 use native.Mathlib.Omega.{arith}
 use lib.Dec.{leb}
 use lib.ListN.{length, length-map}
-use lib.IntN.{ℤ, pos, negsuc, nat_abs}
+use lib.IntN.{ℤ}
 use lib.Ieee.{Float}
 use Rattle.integers.proofs.Logic.{and_left, and_right}
-use borrow.Author.Tests.{le-leb, lt-leb, leb-true, leb-false}
+use borrow.Author.Tests.{leb-true}
 use Rattle.grid.specs.declared.Point.{Point}
 use Rattle.grid.specs.Points.{points}
 use Rattle.grid.specs.Limits.{narrow, most}
@@ -21,7 +21,7 @@ use Rattle.replies.proofs.LadderLaws.First.{here, past, foot}
 use Rattle.grid.proofs.RowLaws.{points_count}
 use Rattle.buffer.specs.declared.ranges.Span.{Span}
 use Rattle.buffer.specs.Spans.{spans, sound_from, sound, size, total}
-use Rattle.buffer.specs.Sets.{joined, contour, contours, Even}
+use Rattle.buffer.specs.Sets.{joined, contours, Even}
 use Rattle.buffer.proofs.RefusalLaws.{Accepted, accepted}
 use Rattle.buffer.proofs.SetLaws.{contours_even, joined-append, sizes_are}
 use Rattle.buffer.proofs.SpanLaws.{ends_at, first_starts, first_forward, others_sound, range_within}

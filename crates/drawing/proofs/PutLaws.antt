@@ -1,17 +1,16 @@
 -- Rows that kinds and floats are written to.
 use mathlib.Core.Path.{◌≡◌, refl, sym, ap, ap₂, ◌∙◌}
-use mathlib.Core.List.{List, [], ◌∷◌, ◌++◌, map, map-append, append_assoc, append-nil}
+use mathlib.Core.List.{List, [], ◌∷◌, ◌++◌, map, map-append, append-nil}
 use Prim.Native.Nat.{ℕ, zero, suc, ◌+◌, ◌-◌, ◌*◌, ◌≤◌, ◌<◌}
 use native.Mathlib.Omega.{arith}
 use native.Mathlib.Numerals.{add-one}
 use lib.Dec.{ltb}
 use lib.ListN.{length, get_or, take, drop, set, replicate, length-append, length-drop, length-map, length-replicate, take-append-drop}
-use lib.Seq.{drop-cons, drop-length, take-suc, take-add, take-length, length-take-le, get_or-take, get_or-drop}
+use lib.Seq.{drop-cons, drop-length, take-suc, take-add, length-take-le, get_or-take, get_or-drop}
 use lib.IntN.{ℤ, pos}
 use lib.Ieee.{Float}
 use mir.Val.{bool_byte}
 use borrow.Author.Tests.{lt-ltb, le-ltb}
-use Rattle.grid.specs.Points.{at}
 use Rattle.rows.specs.Rows.{front, placed}
 use Rattle.buffer.specs.declared.ranges.Span.{Span}
 use Rattle.buffer.specs.Spans.{span, spans, size, total}
@@ -19,7 +18,7 @@ use Rattle.buffer.specs.Sets.{joined}
 use Rattle.rows.proofs.RowLaws.{placed_next}
 use Rattle.buffer.proofs.RowLaws.{spans-length}
 use Rattle.buffer.proofs.ListLaws.{map_at}
-use Rattle.rows.proofs.PlacedLaws.{placed-none, placed-long, placed-behind, set_placed}
+use Rattle.rows.proofs.PlacedLaws.{placed-long, placed-behind, set_placed}
 use Rattle.buffer.proofs.SetLaws.{joined-append}
 use Rattle.millimetres.specs.Scale.{millimetres}
 use Rattle.drawing.specs.inside.Rows.{one, contour_kinds, set_kinds, filled}

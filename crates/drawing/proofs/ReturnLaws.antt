@@ -2,7 +2,7 @@
 use mathlib.Core.Path.{◌≡◌, refl, ap, ap₂, ◌∙◌}
 use mathlib.Core.Bool.{true, false}
 use mathlib.Core.List.{List, [], ◌∷◌, ◌++◌, map}
-use Prim.Native.Nat.{ℕ, ◌-◌, ◌*◌, ◌≤◌}
+use Prim.Native.Nat.{ℕ, ◌*◌, ◌≤◌}
 use native.Mathlib.Omega.{arith}
 use lib.ListN.{length}
 use lib.IntN.{ℤ}
@@ -15,7 +15,7 @@ use Rattle.replies.specs.Ladder.{first_of}
 use Rattle.grid.specs.Domain.{count}
 use Rattle.grid.proofs.LimitLaws.{on-grid-in}
 use Rattle.buffer.specs.Spans.{spans, sound}
-use Rattle.buffer.specs.Sets.{joined, contour, contours, Even}
+use Rattle.buffer.specs.Sets.{joined, contours, Even}
 use Rattle.buffer.proofs.RefusalLaws.{Accepted}
 use Rattle.buffer.proofs.SetLaws.{contours_even}
 use Rattle.buffer.proofs.Theorems.{a-sound-set's-contours-laid-end-to-end-are-its-points}

@@ -1,5 +1,6 @@
 // Drawings in millimetres: outlines as commands, brought onto the grid, and given back.
 #![tactic(auto)]
+
 pub mod answer;
 mod command;
 mod exporting;
