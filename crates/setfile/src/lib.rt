@@ -1,5 +1,6 @@
 // The set file: both editions, read and written.
 #![tactic(auto)]
+
 pub mod answer;
 pub mod inner;
 mod reading;

@@ -1,0 +1,44 @@
+-- `setfile::inner::putting::put_shapes` meets its contract: the shapes that are left are written behind what is written.
+use Rattle.std.proofs.Common.{◌-◌, arith}
+use Rattle.setfile.proofs.WriteLaws.{none_inked, bits-room, bits-inked, all-inked}
+use Rattle.setfile.proofs.CodedLaws.{next-shape, no_shape}
+use Rattle.setfile.proofs.inner.putting.put_shapes.Goals as goal
+
+pub loop-i-init : goal.loop-i-init
+loop-i-init c = let pre = c.requires.3 in (none_inked _ _ _ pre.small pre.room, pre.few)
+
+pub put_shape-behind-requires : goal.put_shape-behind-requires
+put_shape-behind-requires c =
+    let v = c.loop-i.invariant in
+    let h = c.loop-i-test.true in (
+      λ k l. c.requires.0 k (omega (arith, l, c.requires.1 c.loop-i.i h)),
+      λ e. record {
+        all = omega (arith, (c.requires.2 e).all, c.requires.1 c.loop-i.i h);
+        is = λ k l. (c.requires.2 e).is k (omega (arith, l, c.requires.1 c.loop-i.i h));
+      },
+      record {
+        small = v.0.wrote.small;
+        few = v.1;
+        room = bits-room v.0 (next-shape c.args.second c.args.points.now c.args.contours.now c.args.shapes.now c.loop-i.i h);
+      },
+    )
+
+pub loop-i-preserved : goal.loop-i-preserved
+loop-i-preserved c =
+    let s = c.args in (
+      bits-inked c.loop-i.invariant.0 (next-shape s.second s.points.now s.contours.now s.shapes.now c.loop-i.i c.loop-i-test.true)
+          c.put_shape-behind.ensures.wrote,
+      c.put_shape-behind.ensures.few,
+    )
+
+pub shape_of-bytes : goal.shape_of-bytes
+shape_of-bytes c = c.loop-i.invariant.0.wrote.long
+
+pub returns : goal.returns
+returns c =
+    let s = c.args in
+    let v = c.loop-i.invariant in
+    record {
+      wrote = all-inked v.0 (no_shape s.second s.points.now s.contours.now s.shapes.now c.loop-i.i (omega arith));
+      few = v.1;
+    }
