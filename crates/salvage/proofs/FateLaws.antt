@@ -6,16 +6,17 @@ use Prim.Native.Nat.{ℕ, zero, suc, ◌+◌, ◌≤◌}
 use native.Mathlib.Omega.{arith}
 use lib.ListN.{length, length-append}
 use Rattle.buffer.specs.Sets.{Even}
+use Rattle.grid.specs.Limits.{narrow, all_on_grid}
 use Rattle.setfile.specs.Entries.{Entry, contours_of}
 use Rattle.setfile.specs.inside.Bytes.{coded_contour, coded_contours}
 use Rattle.setfile.specs.Promises.{Each}
 use Rattle.setfile.proofs.CodedLaws.{none_coded, coded_next}
-use Rattle.salvage.specs.Fates.{fates, kept, dropped}
+use Rattle.salvage.specs.Fates.{open_behind, fates, kept, dropped}
 
 pub fates-length : (b : Bool) (l : List Entry) → length (fates b l) ≡ length l
 unfolding fates
 fates-length b [] = refl
-fates-length b (e ∷ l) = ap suc (fates-length _ l)
+fates-length b (e ∷ l) = ap suc (fates-length (open_behind e.begins (all_on_grid narrow e.points) b) l)
 
 pub kept_or_dropped : {A : Type 0} (k : ℕ) (fs : List ℕ) (l : List A) → length fs ≡ length l → length (kept fs l) + length (dropped k fs) ≡ length l
 unfolding kept dropped

@@ -1,5 +1,6 @@
 // What is sound of a damaged file, written as a file of its own, with a list of what was dropped.
 #![tactic(auto)]
+
 pub mod answer;
 mod inner;
 
