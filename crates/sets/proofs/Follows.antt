@@ -36,6 +36,7 @@ module _ (rule : Rule) where
   -- every contour with an area of a shape that stands is kept
   pub a-contour-with-an-area-is-kept : (s t : List (List ℤ)) → Follow rule s t → Contours s → (k : ℕ) → k < length s → HasArea (get_or s k []) → KeptIn s k t
   a-contour-with-an-area-is-kept [] t x h k i a = absurd (omega arith)
+  a-contour-with-an-area-is-kept (c ∷ l) [] x h k i a = elim x [ ]
   a-contour-with-an-area-is-kept (c ∷ l) (d ∷ m) (outline y x) h zero i a = (0, omega arith, y)
   a-contour-with-an-area-is-kept (c ∷ l) (d ∷ m) (outline y x) h (suc k) i a =
       let z = later-with-an-area l m x h.1 k (omega arith) a in

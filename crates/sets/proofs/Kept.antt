@@ -225,6 +225,7 @@ module _ (rule : Rule) (p : List ℤ) (cs : List (List ℕ)) (l : Lent) (o : Out
       where
         outline-stands : (s t : List (List ℤ)) → Follow rule s t → OutlineCollapses rule s → ⊥
         outline-stands [] t x h = h
+        outline-stands (c ∷ s) [] x h = elim x [ ]
         outline-stands (c ∷ s) (d ∷ t) (outline y x) h = y.stands h
 
     -- and the ranges that were written are sound

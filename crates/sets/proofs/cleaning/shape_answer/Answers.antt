@@ -6,8 +6,8 @@ use Rattle.sets.proofs.cleaning.shape_answer.Goals as goal
 
 pub returns-then-not-tried : goal.returns-then-not-tried
 returns-then-not-tried c =
-    answered_fallen c.args.tried.stays c.args.tried.progress _ c.nothing.ensures (ap not c.if-not-tried.true)
+    answered_fallen c.args.tried.stays c.args.tried.progress _ c.nothing.ensures c.if-not-tried.true
 
 pub returns : goal.returns
 returns c =
-    answered_kept c.args.tried.stays c.args.tried.progress (ap not c.if-not-tried.false)
+    answered_kept c.args.tried.stays c.args.tried.progress c.if-not-tried.false

@@ -26,25 +26,11 @@ pub settle_from-requires : goal.settle_from-requires
 settle_from-requires c =
     let long = length-take-le _ c.args.mark.now c.requires.scratch.in_mark in
     let many = c.if-n-lt3.false in
-    let over = c.look_over-look.ensures in (
-      (ready _ _ _ _ _ c.requires, rw long many),
-      (rw long (failing-goes c.args.contour.now c.requires.contour c.args.rule many _ over c.if-look.false), rw long over.standing.stand),
-    )
-
-pub shape_of-next : goal.shape_of-next
-shape_of-next c =
-    back_long (count c.args.contour.now) c.args.next.now c.settle_from.last.1.1.1.0 c.settle_from.kept.1.1.1.0
-
-pub shape_of-prev : goal.shape_of-prev
-shape_of-prev c =
-    back_long (count c.args.contour.now) c.args.prev.now c.settle_from.last.1.1.1.1.0 c.settle_from.kept.1.1.1.1.0
-
-pub shape_of-mark : goal.shape_of-mark
-shape_of-mark c =
-    back_long (count c.args.contour.now) c.args.mark.now c.settle_from.last.1.1.1.1.1.0 c.settle_from.kept.1.1.1.1.1.0
-
-pub shape_of-out : goal.shape_of-out
-shape_of-out c = c.settle_from.auto.1.1.1.1.1.1.0
+    let over = c.look_over-look.ensures in
+    record {
+      ready = (ready _ _ _ _ _ c.requires, rw long many);
+      standing_in_bounds = (rw long (failing-goes c.args.contour.now c.requires.contour c.args.rule many _ over c.if-look.false), rw long over.standing.stand);
+    }
 
 pub returns : goal.returns
 returns c =

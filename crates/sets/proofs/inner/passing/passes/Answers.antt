@@ -17,9 +17,9 @@ returns-then-is_box c =
 pub returns-in-Collinear : goal.returns-in-Collinear
 returns-in-Collinear c =
     c.all_turn.ensures
-    ∙ ap (λ (r : Rule). passes r (points c.args.contour.now)) (sym c.enum_told-1.given.1)
+    ∙ ap (λ (r : Rule). passes r (points c.args.contour.now)) (sym c.in-Collinear.is)
 
 pub returns-in-Spike : goal.returns-in-Spike
 returns-in-Spike c =
     c.no_spikes.ensures
-    ∙ ap (λ (r : Rule). passes r (points c.args.contour.now)) (sym c.enum_told-in-Spike-1.given.1)
+    ∙ ap (λ (r : Rule). passes r (points c.args.contour.now)) (sym c.in-Spike.is)

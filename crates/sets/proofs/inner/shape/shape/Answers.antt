@@ -24,40 +24,24 @@ behind-tried-requires c =
     (record { in_next = omega (arith, v.1, going.scratch.in_next); in_prev = omega (arith, v.2, going.scratch.in_prev); in_mark = omega (arith, v.3, going.scratch.in_mark) }))
 
 there_of : (c : goal.After-progress-1) → c.loop-stands.i < length c.args.ranges.now
-there_of c = there c.loop-stands.inv.0 c.requires.named c.loop-stands-test.true
+there_of c = there c.loop-stands.invariant.0 c.requires.named c.loop-stands-test.true
 
 pub overflow_add-i : goal.overflow_add-i
 overflow_add-i c =
-    let s = head (c) in
-    omega (arith, there_of c, s.pre.room.narrow, length-map (spans s.args.ranges.now) (contour s.args.points.now), length-map s.args.ranges.now span)
+    omega (arith, there_of c, c.requires.room.narrow, length-map (spans c.args.ranges.now) (contour c.args.points.now), length-map c.args.ranges.now span)
 
 pub loop-stands-smaller : goal.loop-stands-smaller
 loop-stands-smaller c = omega (arith, there_of c)
 
 pub loop-stands-preserved : goal.loop-stands-preserved
 loop-stands-preserved c =
-    let long = c.behind-tried.kept.1.1.1 in
-    let v = c.loop-stands.inv in (
-      laying-more v.0 c.requires.named c.loop-stands-test.true _ (same_numbers c.named-own.ensures) _ _ _ c.behind-tried.ensures long.1.1.1.0 long.1.1.1.1.0,
-      long.0 ∙ v.1,
-      long.1.0 ∙ v.2,
-      long.1.1.0 ∙ v.3,
+    let long = c.behind-tried.auto in
+    let v = c.loop-stands.invariant in (
+      laying-more v.0 c.requires.named c.loop-stands-test.true _ (same_numbers c.named-own.ensures) _ _ _ c.behind-tried.ensures long.out long.records,
+      long.next ∙ v.1,
+      long.prev ∙ v.2,
+      long.mark ∙ v.3,
     )
-
-pub shape_of-next : goal.shape_of-next
-shape_of-next c = c.loop-stands.invariant.1
-
-pub shape_of-prev : goal.shape_of-prev
-shape_of-prev c = c.loop-stands.invariant.2
-
-pub shape_of-mark : goal.shape_of-mark
-shape_of-mark c = c.loop-stands.invariant.3
-
-pub shape_of-out : goal.shape_of-out
-shape_of-out c = c.loop-stands.invariant.0.out_long
-
-pub shape_of-records : goal.shape_of-records
-shape_of-records c = c.loop-stands.invariant.0.records_long
 
 pub returns : goal.returns
 returns c = laying-all c.loop-stands.invariant.0 c.loop-stands-test.false

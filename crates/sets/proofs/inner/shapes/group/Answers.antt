@@ -15,8 +15,8 @@ before_of_2 s = grouped s.args.at.shapes (reached s.args.at.progress [] []) s.ar
 
 pub returns-then-not-tried : goal.returns-then-not-tried
 returns-then-not-tried c =
-    adding-fallen c.args.tried.stays (reached c.args.tried.progress [] []) (before_of c) (ap not c.if-not-tried.true)
+    adding-fallen c.args.tried.stays (reached c.args.tried.progress [] []) (before_of c) c.if-not-tried.true
 
 pub returns : goal.returns
 returns c =
-    adding-standing c.args.tried.stays (reached c.args.tried.progress [] []) (before_of_2 c) (ap not c.if-not-tried.false)
+    adding-standing c.args.tried.stays (reached c.args.tried.progress [] []) (before_of_2 c) c.if-not-tried.false

@@ -10,4 +10,4 @@ sweep_shapes-at-requires c =
 pub returns : goal.returns
 returns c =
     let said = c.sweep_shapes-at.ensures in
-    (alone-tested c.args.points.now c.args.ranges.now c.args.out.now c.args.records.now _ c.args.rule c.sweep_shapes-at.result _ _ _ said.0 _ c.only.ensures, said.1)
+    record { records_after = alone-tested c.args.points.now c.args.ranges.now c.args.out.now c.args.records.now _ c.args.rule c.sweep_shapes-at.result _ _ _ said.groups_after _ c.only.ensures; zeroed = said.zeroed }
