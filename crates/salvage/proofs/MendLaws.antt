@@ -15,7 +15,7 @@ use Rattle.replies.proofs.LadderLaws.{First, first_is, cleared, clear, stopped, 
 use Rattle.replies.proofs.LadderLaws.First.{here, past, foot}
 use Rattle.rows.proofs.RowLaws.{placed_front}
 use Rattle.rows.proofs.PlacedLaws.{placed-long}
-use Rattle.setfile.specs.Format.{Come, file, come}
+use Rattle.setfile.specs.Format.{Come, come}
 use Rattle.bits.specs.Bits.{Bytes}
 use Rattle.bits.specs.inside.Words.{spelled}
 use Rattle.bits.proofs.WordLaws.{spelled-length}

@@ -1,5 +1,5 @@
 -- A contour at a position of a file, in either edition.
-use Rattle.std.proofs.Common.{◌≡◌, ℕ, zero, suc, ◌+◌, ◌*◌, ◌/◌, ◌<◌, ◌≤◌, Bool, true, false, not, List, length, take, drop, sym, refl, ap, ◌∙◌, ap₂, arith, length-drop, drop-drop, ltb-false, eqb-true}
+use Rattle.std.proofs.Common.{◌≡◌, ℕ, zero, suc, ◌+◌, ◌*◌, ◌/◌, ◌<◌, ◌≤◌, Bool, true, false, List, length, drop, sym, refl, ap, ◌∙◌, ap₂, arith, length-drop, drop-drop, ltb-false, eqb-true}
 use borrow.Author.Tests.{not-false}
 use Rattle.replies.proofs.LadderLaws.{clear}
 use Rattle.grid.specs.Domain.{count}
@@ -12,7 +12,7 @@ use Rattle.steps.specs.Bodies.{body_size, steps_in, points_of_width}
 use Rattle.steps.specs.inside.Asked.{Width}
 use Rattle.steps.proofs.BodyLaws.{points-length, width_some, width-within-32}
 use Rattle.setfile.specs.declared.inner.headers.Header.{Header}
-use Rattle.setfile.specs.Entries.{Entry, entry}
+use Rattle.setfile.specs.Entries.{entry}
 use Rattle.setfile.specs.Format.{begins, points_in}
 use Rattle.setfile.specs.Edition2.{width_in}
 use Rattle.setfile.specs.Editions.{layout}

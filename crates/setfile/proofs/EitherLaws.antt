@@ -1,9 +1,9 @@
 -- A file of either edition, by what is wrong with its head.
-use Rattle.std.proofs.Common.{◌≡◌, ℕ, zero, suc, ◌+◌, ◌*◌, ◌/◌, ◌<◌, ◌≤◌, Bool, true, false, not, ◌&&◌, eqb, ltb, List, [], ◌∷◌, ◌++◌, length, drop, sym, refl, ap, ◌∙◌, ap₂, arith, length-append}
+use Rattle.std.proofs.Common.{◌≡◌, ℕ, zero, suc, ◌*◌, ◌/◌, Bool, true, false, not, ◌&&◌, eqb, ltb, List, [], ◌∷◌, length, sym, refl, ap, ◌∙◌, arith, length-append}
 use mathlib.Core.Bool.{and-true}
 use Rattle.replies.specs.Ladder.{first_of}
 use Rattle.buffer.specs.Sets.{joined}
-use Rattle.setfile.specs.Entries.{Entry, contours_of, Parsed}
+use Rattle.setfile.specs.Entries.{Entry, contours_of}
 use Rattle.setfile.specs.Entries.Parsed.{carries, damaged}
 use Rattle.setfile.specs.Layouts.{contours_in, edition_of, promised, read_in}
 use Rattle.setfile.specs.Format as Format

@@ -1,5 +1,5 @@
 -- Rows that are filled contour by contour.
-use Rattle.std.proofs.Common.{◌≡◌, ℕ, ◌+◌, ◌*◌, ◌<◌, ◌≤◌, Bool, List, [], ◌∷◌, ◌++◌, map, length, drop, set, ℤ, sym, refl, ap, ◌∙◌, subst, ap₂, arith, length-append}
+use Rattle.std.proofs.Common.{◌≡◌, ℕ, ◌+◌, ◌*◌, ◌<◌, ◌≤◌, Bool, List, [], ◌∷◌, ◌++◌, map, length, set, ℤ, sym, refl, ap, ◌∙◌, subst, arith, length-append}
 use lib.ListN.{length-map}
 use Rattle.grid.specs.Domain.{count}
 use Rattle.rows.specs.Rows.{front, placed}

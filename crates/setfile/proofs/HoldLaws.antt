@@ -1,5 +1,5 @@
 -- Contours that an edition can hold one behind the other.
-use Rattle.std.proofs.Common.{◌≡◌, ℕ, ◌+◌, ◌*◌, ◌^◌, ◌<◌, ◌≤◌, Bool, true, false, List, [], ◌∷◌, map, length, take, ℤ, sym, refl, ap, ◌∙◌, true≢false, arith, w32, SFits, lt-ltb}
+use Rattle.std.proofs.Common.{◌≡◌, ℕ, ◌+◌, ◌*◌, ◌^◌, ◌≤◌, Bool, true, false, List, [], ◌∷◌, map, length, take, ℤ, sym, refl, ◌∙◌, true≢false, arith, w32, SFits, lt-ltb}
 use lib.Signed.{mag}
 use Rattle.integers.proofs.Logic.{and_left, and_right, and_both}
 use Rattle.integers.proofs.Bound.{in_fits}

@@ -1,5 +1,5 @@
 -- What is judged of a file, contour by contour.
-use Rattle.std.proofs.Common.{◌≡◌, ℕ, zero, suc, ◌+◌, ◌-◌, ◌*◌, ◌/◌, ◌<◌, ◌≤◌, Bool, true, false, not, ◌&&◌, eqb, ltb, List, [], ◌∷◌, ◌++◌, length, drop, ℤ, sym, refl, ap, ◌∙◌, subst, ap₂, arith, length-append, drop-drop, ltb-false, ltb-true, le-ltb, lt-ltb, ne_eqb}
+use Rattle.std.proofs.Common.{◌≡◌, ℕ, zero, suc, ◌+◌, ◌-◌, ◌<◌, ◌≤◌, Bool, true, false, not, ◌&&◌, eqb, ltb, List, ◌∷◌, length, drop, ℤ, sym, refl, ap, ◌∙◌, subst, ap₂, arith, length-append, drop-drop, ltb-false, ltb-true, le-ltb, lt-ltb, ne_eqb}
 use mathlib.Core.Bool.{and_assoc, and-true}
 use lib.Dec.{eqb-suc-zero}
 use mir.Val.{bool_byte}
@@ -9,7 +9,7 @@ use Rattle.replies.specs.Ladder.{first_of}
 use Rattle.grid.specs.Domain.{count, off}
 use Rattle.replies.proofs.LadderLaws.{Clear, clear, first_is, found}
 use Rattle.replies.proofs.LadderLaws.First.{here, past, foot}
-use Rattle.buffer.specs.Sets.{joined, Even}
+use Rattle.buffer.specs.Sets.{joined}
 use Rattle.setfile.specs.declared.inner.headers.Header.{Header}
 use Rattle.setfile.specs.declared.inner.judging.Met.{Met}
 use Rattle.setfile.specs.declared.inner.judging.Judged.{Judged}
@@ -22,7 +22,7 @@ use Rattle.setfile.specs.Format.{begins, points_in}
 use Rattle.setfile.specs.Editions.{layout, bound, is_second, bad_head, head_damage, parsed}
 use Rattle.setfile.specs.inside.Reading.{contained, from_bit, At, header_in, size_of, front_points, Whole, none_met, met_more, Within, judged, on_or_refused, points_of, summed, either_refusals, refusals_of, Readable, Judgement}
 use Rattle.setfile.proofs.LayoutLaws.{contours-on, contours-stop, contours-end, contours-past, Numbered, contours_long}
-use Rattle.setfile.proofs.ContourLaws.{size_is, front_begins, front_length, front_count, right, behind}
+use Rattle.setfile.proofs.ContourLaws.{size_is, front_begins, front_length, front_count, behind}
 use Rattle.setfile.proofs.EitherLaws.{parsed-faulty, parsed_on, parsed-numbered, read_even}
 
 same_judged : {a b c d k l m n : ℕ} → a ≡ k → b ≡ l → c ≡ m → d ≡ n → judged a b c d ≡ judged k l m n

@@ -9,7 +9,7 @@ use Rattle.steps.specs.Bodies.{contour_width, body_size}
 use Rattle.steps.proofs.BodyLaws.{width-within-32}
 use Rattle.buffer.specs.declared.ranges.Span.{Span}
 use Rattle.buffer.specs.Spans.{span, spans, size, total}
-use Rattle.buffer.specs.Sets.{joined, contour, contours, Even}
+use Rattle.buffer.specs.Sets.{joined, contour, Even}
 use Rattle.buffer.proofs.RowLaws.{spans-length}
 use Rattle.setfile.specs.Entries.{Entry, contours_of}
 use Rattle.setfile.specs.Layouts.{all_coded, file_bits, file_in}

@@ -1,5 +1,5 @@
 -- What reading answers and leaves, once the file is judged.
-use Rattle.std.proofs.Common.{◌≡◌, ℕ, zero, suc, ◌+◌, ◌*◌, ◌/◌, ◌≤◌, Bool, true, false, not, ◌&&◌, eqb, leb, List, [], ◌∷◌, ◌++◌, length, ℤ, sym, refl, ap, ◌∙◌, ap₂, arith, le-leb, leb-false, leb-true}
+use Rattle.std.proofs.Common.{◌≡◌, ℕ, zero, suc, ◌*◌, ◌/◌, ◌≤◌, Bool, true, false, not, ◌&&◌, eqb, leb, List, [], ◌∷◌, ◌++◌, length, ℤ, sym, refl, ap, ◌∙◌, ap₂, arith, le-leb, leb-false, leb-true}
 use lib.Dec.{eqb-suc-zero}
 use borrow.Author.Tests.{lt-leb}
 use Rattle.integers.proofs.Logic.{and_left, and_right}
@@ -7,7 +7,6 @@ use Rattle.replies.specs.Ladder.{first_of, so_far, room}
 use Rattle.rows.specs.Rows.{front}
 use Rattle.replies.proofs.LadderLaws.{first_is, clear_of}
 use Rattle.replies.proofs.LadderLaws.First.{here, past}
-use Rattle.buffer.specs.declared.answer.Packed.{Packed}
 use Rattle.buffer.specs.declared.ranges.Span.{Span}
 use Rattle.buffer.specs.Spans.{rows}
 use Rattle.buffer.specs.Sets.{joined, contour_spans, shape_spans}

@@ -1,5 +1,5 @@
 -- The rest of a file that can be read, contour by contour.
-use Rattle.std.proofs.Common.{◌≡◌, ℕ, suc, ◌+◌, ◌-◌, ◌*◌, ◌<◌, ◌≤◌, Bool, true, false, eqb, List, [], ◌∷◌, length, drop, sym, refl, ap, ◌∙◌, ap₂, arith, drop-drop, eq-eqb, ne_eqb}
+use Rattle.std.proofs.Common.{◌≡◌, ℕ, suc, ◌+◌, ◌-◌, ◌<◌, ◌≤◌, Bool, true, eqb, List, [], ◌∷◌, sym, refl, ap, ◌∙◌, ap₂, arith, drop-drop, eq-eqb, ne_eqb}
 use Rattle.integers.proofs.Logic.{and_left, and_right}
 use Rattle.grid.specs.Limits.{all_on_grid}
 use Rattle.grid.proofs.LimitLaws.{on-joined}

@@ -1,13 +1,11 @@
 -- The row of shape ranges, filled contour by contour.
-use Rattle.std.proofs.Common.{◌≡◌, ℕ, suc, ◌+◌, ◌-◌, ◌*◌, ◌<◌, ◌≤◌, Bool, true, false, List, [], ◌∷◌, map, length, drop, set, ℤ, sym, refl, ap, ◌∙◌, subst, ap₂, arith}
+use Rattle.std.proofs.Common.{◌≡◌, ℕ, suc, ◌+◌, ◌-◌, ◌<◌, ◌≤◌, Bool, true, false, List, [], ◌∷◌, map, length, set, ℤ, sym, refl, ap, ◌∙◌, subst, ap₂, arith}
 use lib.ListN.{length-map}
 use Rattle.rows.specs.Rows.{front}
 use Rattle.buffer.specs.Spans.{row, rows, laid}
 use Rattle.buffer.specs.Sets.{shape_spans}
 use Rattle.setfile.specs.declared.inner.filling.Open.{Open}
 use Rattle.setfile.specs.Entries.{Entry, entry, shapes_of, gathered}
-use Rattle.setfile.specs.Editions.{layout}
-use Rattle.setfile.specs.Format.{begins}
 use Rattle.setfile.specs.declared.inner.headers.Header.{Header}
 use Rattle.setfile.specs.inside.Reading.{contained, from_bit, header_in, size_of, front_points, Readable, next_open, closed}
 use Rattle.setfile.proofs.ContourLaws.{size_is, front_is}

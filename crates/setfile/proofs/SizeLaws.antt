@@ -1,5 +1,5 @@
 -- How much a file can carry.
-use Rattle.std.proofs.Common.{◌≡◌, ℕ, zero, suc, ◌+◌, ◌-◌, ◌*◌, ◌^◌, ◌<◌, ◌≤◌, Bool, true, false, leb, List, [], ◌∷◌, map, length, take, drop, ℤ, sym, refl, subst, arith, lit<, length-append, length-drop, length-take, leb-true}
+use Rattle.std.proofs.Common.{◌≡◌, ℕ, zero, suc, ◌+◌, ◌*◌, ◌^◌, ◌<◌, ◌≤◌, Bool, true, false, leb, List, [], ◌∷◌, map, length, take, drop, ℤ, sym, refl, subst, arith, lit<, length-append, length-drop, length-take, leb-true}
 use native.Mathlib.Nat.{pow-le-pow_right}
 use Rattle.integers.proofs.Logic.{and_right}
 use Rattle.grid.specs.Domain.{count}

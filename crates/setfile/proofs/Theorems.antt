@@ -26,11 +26,11 @@ use Rattle.setfile.specs.Editions.{bound, is_second, parsed}
 use Rattle.setfile.specs.Reading as R
 use Rattle.setfile.specs.Writing as W
 use Rattle.setfile.specs.Writing2 as W2
-use Rattle.setfile.specs.Promises.{Each, Carriable, Regular, Fit, edition_file, write_refusals, write_outcome, written_file, points_of, contour_ranges, shape_ranges}
+use Rattle.setfile.specs.Promises.{Carriable, Fit, edition_file, write_refusals, write_outcome, written_file, points_of, contour_ranges, shape_ranges}
 use Rattle.setfile.proofs.LayoutLaws.{Numbered}
 use Rattle.setfile.proofs.GatherLaws.{entries_gathered, shapes_filled, contours_entries}
 use Rattle.setfile.proofs.EitherLaws.{parsed-numbered}
-use Rattle.setfile.proofs.EditionsLaws.{Holds, file, Carried, no_file_of_one_edition_is_taken_for_the_other, what_is_written_is_read, what-is-read-can-be-carried, what-is-read-was-written}
+use Rattle.setfile.proofs.EditionsLaws.{file, Carried, no_file_of_one_edition_is_taken_for_the_other, what_is_written_is_read, what-is-read-can-be-carried, what-is-read-was-written}
 use Rattle.setfile.proofs.HoldLaws.{bound_within, hold_all, all_even, all_short, first_started, all_few}
 use Rattle.setfile.proofs.CodedLaws.{coded-length, file_is_coded}
 use Rattle.setfile.proofs.CarryLaws.{each_like, over_in, laid_sizes, carriable, not_refused, regular, regular-contours, regular-even, regular-short, regular-started, regular-count, regular-total, regular-points, regular-ranges, regular-groups}

@@ -17,7 +17,7 @@ use Rattle.setfile.specs.Layouts.{contours_in}
 use Rattle.setfile.specs.Format as Format
 use Rattle.setfile.specs.Format.{begins, points_in}
 use Rattle.setfile.specs.Edition2.{width_in}
-use Rattle.setfile.specs.Editions.{layout, bound, is_second, bad_head, parsed}
+use Rattle.setfile.specs.Editions.{layout, bound, bad_head, parsed}
 use Rattle.setfile.specs.Reading.{most_bytes, long, refusals}
 
 -- the refusals of a file's length and head, where only edition 1 is taken

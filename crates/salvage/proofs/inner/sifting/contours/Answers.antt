@@ -1,7 +1,6 @@
 -- `salvage::inner::sifting::contours` meets its contract: from where the pass has come to it leaves what it is to leave.
 use mathlib.Core.Path.{◌≡◌, sym, ◌∙◌}
 use mathlib.Core.Bool.{true}
-use Prim.Native.Nat.{◌-◌}
 use native.Mathlib.Omega.{arith}
 use lib.ListN.{drop}
 use Rattle.salvage.proofs.SiftLaws.{sifting_none, ready, sifting-more, stopped, finished}

@@ -1,5 +1,5 @@
 -- `setfile::inner::contours::put` meets its contract.
-use Rattle.std.proofs.Common.{Bool, true, List, ℤ, sym, ap, ◌∙◌, ap₂, arith}
+use Rattle.std.proofs.Common.{Bool, List, ℤ, sym, ap, ◌∙◌, ap₂, arith}
 use Rattle.grid.specs.Limits.{all_on_grid}
 use Rattle.rows.specs.Rows.{placed}
 use Rattle.setfile.specs.Editions.{bound}

@@ -1,5 +1,5 @@
 -- `setfile::inner::filling::begun_shapes` meets its contract: the shape that is met is written where the next begins, and the last at the end.
-use Rattle.std.proofs.Common.{◌≡◌, ◌-◌, ◌<◌, length, arith, length-set}
+use Rattle.std.proofs.Common.{◌≡◌, ◌<◌, length, arith, length-set}
 use Rattle.setfile.specs.inside.Reading.{Whole}
 use Rattle.setfile.proofs.ContourLaws.{whole-small, whole-ends}
 use Rattle.setfile.proofs.RestLaws.{first_whole}

@@ -1,5 +1,5 @@
 -- `setfile::inner::filling::points` meets its contract: the rest of the file makes what is still to be written.
-use Rattle.std.proofs.Common.{◌≡◌, ◌+◌, ◌-◌, ◌*◌, ◌≤◌, length, refl, ap, arith}
+use Rattle.std.proofs.Common.{◌≡◌, ◌+◌, ◌*◌, ◌≤◌, length, refl, ap, arith}
 use Rattle.buffer.specs.Sets.{joined}
 use Rattle.setfile.specs.declared.inner.headers.Header.{Header}
 use Rattle.setfile.specs.inside.Reading.{Whole}

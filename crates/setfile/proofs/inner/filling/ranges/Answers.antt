@@ -1,5 +1,5 @@
 -- `setfile::inner::filling::ranges` meets its contract: the rest of the file makes what is still to be written.
-use Rattle.std.proofs.Common.{◌≡◌, ◌-◌, ◌<◌, ◌≤◌, length, refl, arith}
+use Rattle.std.proofs.Common.{◌≡◌, ◌<◌, ◌≤◌, length, refl, arith}
 use Rattle.buffer.specs.Spans.{laid}
 use Rattle.setfile.specs.inside.Reading.{contained, Whole}
 use Rattle.setfile.proofs.ContourLaws.{whole-small, whole-ends}

@@ -1,6 +1,6 @@
 -- `setfile::inner::judging::end_fault` meets its contract.
 use Rattle.std.proofs.Common.{◌≡◌, ◌+◌, ◌-◌, ◌*◌, Bool, List, length, sym, ap, ◌∙◌, arith, take_all}
-use Rattle.bits.specs.Bits.{value, bits}
+use Rattle.bits.specs.Bits.{value}
 use Rattle.setfile.specs.inside.Reading.{from_bit}
 use Rattle.setfile.proofs.ContourLaws.{from-length}
 use Rattle.setfile.proofs.FaultLaws.{bytes_left, fill-set, fill_unset, none_left}

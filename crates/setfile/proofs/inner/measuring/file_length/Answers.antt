@@ -1,5 +1,5 @@
 -- `setfile::inner::measuring::file_length` meets its contract: what was counted and what is left make all, and the widths so far are kept.
-use Rattle.std.proofs.Common.{◌≡◌, ℕ, ◌+◌, ◌-◌, ◌/◌, ◌≤◌, List, [], length, get_or, ℤ, refl, ap, ◌∙◌, ap₂, arith, length-set}
+use Rattle.std.proofs.Common.{◌≡◌, ℕ, ◌+◌, ◌/◌, ◌≤◌, List, [], length, get_or, ℤ, refl, ap, ◌∙◌, ap₂, arith, length-set}
 use mir.Facts.{Fits-of_lt}
 use Rattle.steps.specs.Steps.{differences}
 use Rattle.steps.specs.Bodies.{contour_width, body_size}

@@ -1,5 +1,5 @@
 -- `setfile::inner::measuring::longer` meets its contract: what was counted and what is left make all.
-use Rattle.std.proofs.Common.{◌-◌, ltb, arith}
+use Rattle.std.proofs.Common.{ltb, arith}
 use Rattle.bits.proofs.BitLaws.{byte_digit, digit_below}
 use Rattle.setfile.proofs.MeasureLaws.{longer-more, longer-done}
 use Rattle.setfile.proofs.inner.measuring.longer.Goals as goal

@@ -1,5 +1,5 @@
 -- `setfile::inner::putting::put_coordinates` meets its contract: what is left is written behind what is written.
-use Rattle.std.proofs.Common.{rules, ◌-◌, arith}
+use Rattle.std.proofs.Common.{rules, arith}
 use Rattle.setfile.proofs.WriteLaws.{none_written, part_room, part-written, all-written}
 use Rattle.setfile.proofs.CodedLaws.{next-coordinate, no-coordinate}
 use Rattle.setfile.proofs.inner.putting.put_coordinates.Goals as goal

@@ -1,5 +1,5 @@
 -- `setfile::inner::putting::put_shape` meets its contract: the contours that are left, of which only the very first begins the shape.
-use Rattle.std.proofs.Common.{◌-◌, sym, ap, ◌∙◌, arith}
+use Rattle.std.proofs.Common.{sym, ap, ◌∙◌, arith}
 use Rattle.steps.specs.Bodies.{contour_width}
 use Rattle.buffer.proofs.PartLaws.{same_numbers}
 use Rattle.setfile.specs.Editions.{layout}

@@ -1,5 +1,5 @@
 -- `setfile::inner::putting::put_shapes` meets its contract: the shapes that are left are written behind what is written.
-use Rattle.std.proofs.Common.{◌-◌, arith}
+use Rattle.std.proofs.Common.{arith}
 use Rattle.setfile.proofs.WriteLaws.{none_inked, bits-room, bits-inked, all-inked}
 use Rattle.setfile.proofs.CodedLaws.{next-shape, no_shape}
 use Rattle.setfile.proofs.inner.putting.put_shapes.Goals as goal
