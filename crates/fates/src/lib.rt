@@ -1,5 +1,6 @@
 // What becomes of each contour of shapes that are cleaned: it is kept, it collapses, or it stands behind a collapsed outline.
 #![tactic(auto)]
+
 pub mod inner;
 
 ghost use Rattle.std.specs.Prelude.{◌≡◌};
