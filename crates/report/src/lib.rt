@@ -1,5 +1,6 @@
 // The listing of a file, from its bytes: what the program `listing` writes.
 #![tactic(auto)]
+
 pub mod inner;
 
 // Room for the longest listing: the heading, and 4,095 lines of 45 characters.

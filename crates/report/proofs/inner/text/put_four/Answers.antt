@@ -1,0 +1,15 @@
+-- `report::inner::text::put_four` meets its contract: half of the digits, and the other half.
+use native.Mathlib.Omega.{arith}
+use Rattle.report.proofs.DigitLaws.{digits-room, digits-put}
+use Rattle.report.proofs.inner.text.put_four.Goals as goal
+
+pub put_two-behind-requires : goal.put_two-behind-requires
+put_two-behind-requires c = let p = c.requires in (omega (arith, p.0), omega (arith, p.1))
+
+pub put_two-requires : goal.put_two-requires
+put_two-requires c =
+    (omega arith, digits-room 2 2 c.args.n c.requires.1 c.put_two-behind.ensures)
+
+pub returns : goal.returns
+returns c =
+    digits-put 2 2 c.args.n c.requires.1 c.put_two-behind.ensures c.put_two.ensures
