@@ -1,7 +1,6 @@
 -- Worked cases.
 use mathlib.Core.Path.{◌≡◌, refl}
 use mathlib.Core.List.{List, [], ◌∷◌}
-use Prim.Native.Nat.{ℕ}
 use lib.ListN.{replicate}
 use lib.IntN.{ℤ}
 use Rattle.grid.specs.Limits.{limit, most, on_grid, all_on_grid}
@@ -10,7 +9,6 @@ use Rattle.grid.specs.Edges.{cross, dot}
 use Rattle.grid.specs.Corners.{last, differing, distinct_neighbours, corners_from, corners, some}
 use Rattle.replies.specs.Ladder.{first_of}
 use Rattle.grid.specs.Cases.{row, W1, W2, W3, W4, W6, W7, W8, W9, W10, W11, W12}
-use Rattle.ring.specs.declared.Rule.{Rule}
 use Rattle.ring.specs.declared.Rule.TheVariants.{Collinear, Spike}
 use Rattle.ring.specs.Walk.{survivors_from, others, successor, predecessor, occurrences, unmark, unmark_about, remove, decide, look, looks, walk}
 use Rattle.ring.specs.Rule.{goes_at}

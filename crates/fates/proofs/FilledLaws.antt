@@ -1,7 +1,7 @@
 -- A row that is filled with a number for each contour of a shape.
 use mathlib.Core.Path.{◌≡◌, refl, sym, ◌∙◌, ap}
 use mathlib.Core.List.{List, [], ◌∷◌, ◌++◌, map, append_assoc, append-nil}
-use Prim.Native.Nat.{ℕ, suc, ◌+◌, ◌<◌, ◌≤◌}
+use Prim.Native.Nat.{ℕ, ◌+◌, ◌<◌, ◌≤◌}
 use native.Mathlib.Omega.{arith}
 use native.Mathlib.Numerals.{add-one}
 use lib.IntN.{ℤ}
@@ -18,7 +18,7 @@ use Rattle.buffer.proofs.PartLaws.{part-long}
 use Rattle.sets.proofs.BehindLaws.{named-contour}
 use Rattle.sets.proofs.PartLaws.{next-part, no_part}
 use Rattle.fates.specs.Fates.{told, later, shape_fates}
-use Rattle.fates.specs.inside.Telling.{Walkable, Tellable}
+use Rattle.fates.specs.inside.Telling.{Walkable}
 
 -- the contours of the ranges from number i on are left, of those that f says a number of
 pub record Filled (f : List ℤ → ℕ) (p : List ℤ) (ranges : List (List ℕ)) (row₀ row : List ℕ) (i : ℕ) : Type 0 where

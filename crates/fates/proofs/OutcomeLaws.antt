@@ -1,6 +1,6 @@
 -- What the telling of fates comes to.
 use mathlib.Core.Path.{◌≡◌, refl, sym, ◌∙◌, ap}
-use mathlib.Core.Bool.{Bool, true, ◌&&◌}
+use mathlib.Core.Bool.{◌&&◌}
 use mathlib.Core.List.{List, ◌++◌}
 use Prim.Native.Nat.{ℕ, zero, suc, ◌≤◌}
 use native.Mathlib.Omega.{arith}
@@ -29,7 +29,7 @@ use Rattle.sets.specs.inside.Shape.{Zeroed}
 use Rattle.sets.proofs.BehindLaws.{accepted_named}
 use Rattle.sets.proofs.CleanLaws.{zeroed_back}
 use Rattle.fates.specs.Fates.{kept, fates}
-use Rattle.fates.specs.Outcome.{Lent, Outcome, lent, leaving, lacking, outcome, telling, fates_outcome}
+use Rattle.fates.specs.Outcome.{Lent, lent, leaving, lacking, outcome, telling, fates_outcome}
 use Rattle.fates.specs.inside.Telling.{Each}
 
 same_leaving : {a b : Counted} {n m p q k l f g : List ℕ} → a ≡ b → n ≡ m → p ≡ q → k ≡ l → f ≡ g → leaving a (lent n p k f) ≡ leaving b (lent m q l g)

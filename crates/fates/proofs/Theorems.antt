@@ -1,7 +1,7 @@
 -- What a user may count on.
 use mathlib.Core.Path.{◌≡◌, refl, sym, ◌∙◌, ap, ap₂}
 use mathlib.Core.Logic.{◌⊎◌, inl, inr, ⊎_elim}
-use mathlib.Core.Bool.{true, ◌&&◌}
+use mathlib.Core.Bool.{◌&&◌}
 use mathlib.Core.List.{List, [], ◌∷◌, ◌++◌, map, map-append}
 use Prim.Native.Nat.{ℕ, zero, suc}
 use native.Mathlib.Omega.{arith}
@@ -22,7 +22,7 @@ use Rattle.buffer.specs.Sets.{joined, contour, contours, shapes}
 use Rattle.buffer.specs.Shapes.{refusals}
 use Rattle.buffer.proofs.RefusalLaws.{Accepted, accepted}
 use Rattle.buffer.proofs.Theorems.{a-sound-set's-shapes-laid-end-to-end-are-its-contours}
-use Rattle.sets.specs.Fates.{Fate, fate, and_later, later as later-stay, ShapeFate, behind as shape_behind, shape_fate, Shapes, and_others, shapes_fate}
+use Rattle.sets.specs.Fates.{Fate, fate, and_later, later as later-stay, ShapeFate, behind as shape_behind, shape_fate, and_others, shapes_fate}
 use Rattle.sets.specs.Fates.Fate.{stays, gone}
 use Rattle.sets.specs.Fates.ShapeFate.{stands, fallen}
 use Rattle.sets.specs.Outcome as Cleaning

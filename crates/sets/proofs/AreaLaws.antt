@@ -1,14 +1,13 @@
 -- The area of a set, contour by contour.
-use Rattle.std.proofs.Common.{◌≡◌, ℕ, ◌+◌, ◌%◌, ◌^◌, ◌<◌, ◌≤◌, Bool, true, false, not, T, List, [], ◌∷◌, length, get_or, drop, ℤ, pos, ◌+ℤ◌, sym, refl, ap, ◌∙◌, arith, w64, to_z, ne_eqb}
+use Rattle.std.proofs.Common.{◌≡◌, ℕ, ◌+◌, ◌%◌, ◌^◌, ◌<◌, ◌≤◌, true, false, not, T, List, [], length, get_or, drop, ℤ, pos, ◌+ℤ◌, sym, refl, ap, ◌∙◌, arith, w64, to_z, ne_eqb}
 use lib.IntN.{+ℤ_assoc, +ℤ_comm, +ℤ_idl, +ℤ_idr}
 use Rattle.integers.specs.Modulo.{mod64}
 use Rattle.integers.proofs.Modulo.{mod64_add, wrap_add}
 use Rattle.grid.specs.Points.{points}
 use Rattle.grid.specs.Area.{wrapped, reported}
 use Rattle.replies.specs.Ladder.{Rung, first_of, so_far}
-use Rattle.replies.proofs.LadderLaws.{first_is, numbered, onward, so_far_then}
-use Rattle.replies.proofs.LadderLaws.First.{here, past, foot}
-use Rattle.area.specs.declared.answer.Area.{Area}
+use Rattle.replies.proofs.LadderLaws.{first_is, numbered, so_far_then}
+use Rattle.replies.proofs.LadderLaws.First.{here}
 use Rattle.area.specs.Answers as A
 use Rattle.area.proofs.AnswerLaws.{answer_refused, answer_half}
 use Rattle.buffer.specs.Spans.{span, spans}

@@ -1,7 +1,7 @@
 -- A contour that is cleaned behind what is output-of.
 use Rattle.std.proofs.Common.{◌≡◌, ℕ, zero, suc, ◌+◌, ◌-◌, ◌*◌, ◌^◌, ◌<◌, ◌≤◌, Bool, true, false, List, [], ◌∷◌, ◌++◌, map, length, get_or, take, drop, set, ℤ, sym, refl, ap, ◌∙◌, append_assoc, append-nil, arith, length-append, length-drop, take-append-drop, drop_of_length-le, length-take-le, take_all, drop-drop}
 use borrow.Rule.Slice.PartMut.{mid_of, put_mid, put_same}
-use Rattle.grid.specs.Limits.{limit, narrow}
+use Rattle.grid.specs.Limits.{limit}
 use Rattle.grid.specs.Domain.{count, Contour}
 use Rattle.ring.specs.declared.Rule.{Rule}
 use Rattle.clean.specs.declared.cleaning.Cleaned.{Cleaned}

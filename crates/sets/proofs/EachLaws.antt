@@ -3,8 +3,6 @@ use Rattle.std.proofs.Common.{◌≡◌, ℕ, zero, suc, ◌+◌, ◌-◌, ◌<�
 use lib.ListN.{length-map}
 use lib.Seq.{drop-length}
 use borrow.Rule.Slice.PartMut.{mid_of}
-use Rattle.grid.specs.Limits.{narrow}
-use Rattle.grid.specs.Domain.{count}
 use Rattle.ring.specs.declared.Rule.{Rule}
 use Rattle.buffer.specs.Spans.{span, spans, row}
 use Rattle.buffer.specs.Sets.{cut, joined, contour, contours, shapes, every}

@@ -1,12 +1,11 @@
 -- The refusals of a set: of which only the number is left, and those of a shape set beside those of its contours.
-use Rattle.std.proofs.Common.{◌≡◌, ℕ, zero, suc, not, T, List, ◌++◌, ℤ, sym, refl, ap, ◌∙◌, arith}
-use lib.Dec.{eqb-suc-zero}
+use Rattle.std.proofs.Common.{◌≡◌, ℕ, not, List, ℤ, sym, ap}
 use borrow.Author.Tests.{not-false}
 use Rattle.integers.proofs.Logic.{and_left}
-use Rattle.replies.specs.Ladder.{Rung, first_of, so_far}
+use Rattle.replies.specs.Ladder.{first_of}
 use Rattle.grid.specs.Domain.{count}
-use Rattle.replies.proofs.LadderLaws.{first_is, numbered, clear, stopped, onward, found}
-use Rattle.replies.proofs.LadderLaws.First.{here, past, foot}
+use Rattle.replies.proofs.LadderLaws.{first_is, clear}
+use Rattle.replies.proofs.LadderLaws.First.{past, foot}
 use Rattle.buffer.specs.Spans.{spans, sound}
 use Rattle.buffer.specs.Contours.{refusals as contour-refusals}
 use Rattle.buffer.specs.Shapes.{refusals as shape_refusals}

@@ -1,13 +1,11 @@
 -- What is written, once shapes are cleaned one after the other.
-use Rattle.std.proofs.Common.{◌≡◌, ℕ, ◌+◌, ◌≤◌, List, [], ◌∷◌, map, length, ℤ, sym, refl, ap, ◌∙◌, arith}
-use Rattle.grid.specs.Domain.{count}
+use Rattle.std.proofs.Common.{◌≡◌, ◌+◌, ◌≤◌, List, [], ◌∷◌, map, length, ℤ, sym, refl, ap, ◌∙◌, arith}
 use Rattle.ring.specs.declared.Rule.{Rule}
 use Rattle.buffer.specs.Spans.{rows, laid}
 use Rattle.buffer.specs.Sets.{joined}
 use Rattle.rows.specs.Rows.{placed}
 use Rattle.sets.specs.Fates.{ShapeFate, Shapes, shape_fate, and_others, shapes_fate}
 use Rattle.sets.specs.Fates.ShapeFate.{stands, fallen}
-use Rattle.sets.specs.inside.Contour.{Reached}
 use Rattle.sets.specs.inside.Shape.{Tested, run_shape, Room}
 use Rattle.sets.specs.inside.Shapes.{Grouped, grouped, added, run_shapes}
 use Rattle.sets.specs.Promises.{AllContours}

@@ -1,6 +1,5 @@
 -- `fates::told` meets its contract: it refuses, or cuts the rows to their lengths and hands all on.
-use mathlib.Core.Path.{◌≡◌, sym, ◌∙◌, ap}
-use Prim.Native.Nat.{◌≤◌}
+use mathlib.Core.Path.{sym, ◌∙◌, ap}
 use lib.Seq.{length-take-le}
 use Rattle.buffer.specs.Answers.{counted}
 use Rattle.fates.specs.Outcome.{lent}

@@ -1,6 +1,5 @@
 -- What is said of one contour that is cleaned behind what is written.
 use Rattle.std.specs.Prelude.{◌≡◌, ℕ, zero, suc, ◌+◌, ◌*◌, ◌^◌, ◌<◌, ◌≤◌, Bool, true, false, List, [], ◌∷◌, length, ℤ, slice_set}
-use Rattle.grid.specs.Limits.{narrow}
 use Rattle.grid.specs.Domain.{count, Contour}
 use Rattle.rows.specs.Rows.{front, placed}
 use Rattle.ring.specs.declared.Rule.{Rule}

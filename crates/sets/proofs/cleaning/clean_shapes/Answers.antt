@@ -1,5 +1,5 @@
 -- `sets::cleaning::clean_shapes` meets its contract: it refuses, or cuts the scratch to its length and hands all on.
-use Rattle.std.proofs.Common.{◌≡◌, ℕ, List, ℤ, [], length, sym, refl, ◌∙◌, arith, length-take-le}
+use Rattle.std.proofs.Common.{◌≡◌, ℕ, List, ℤ, sym, refl, ◌∙◌, arith, length-take-le}
 use Rattle.replies.specs.Ladder.{first_of}
 use Rattle.grid.specs.Domain.{count}
 use Rattle.sets.specs.Outcome.{Lent, lent}

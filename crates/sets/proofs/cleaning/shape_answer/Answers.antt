@@ -1,7 +1,5 @@
 -- `sets::cleaning::shape_answer` meets its contract, by whether the shape stands.
 use Rattle.sets.proofs.CleanLaws.{answered_fallen, answered_kept}
-use Rattle.std.proofs.Common.{ap}
-use Rattle.std.proofs.Common.{not}
 use Rattle.sets.proofs.cleaning.shape_answer.Goals as goal
 
 pub returns-then-not-tried : goal.returns-then-not-tried

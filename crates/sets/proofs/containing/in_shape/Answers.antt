@@ -1,5 +1,5 @@
 -- `sets::containing::in_shape` meets its contract.
-use Rattle.std.proofs.Common.{rules, ◌≡◌, ℤ, Fits, sym, ap, ◌∙◌, to_z-of_z, w32, to_z, of_z}
+use Rattle.std.proofs.Common.{rules, ◌≡◌, ℤ, sym, ap, ◌∙◌, w32, to_z, of_z}
 use Rattle.grid.specs.Limits.{limit}
 use Rattle.grid.specs.declared.Point.{Point}
 use Rattle.grid.specs.Points.{on}

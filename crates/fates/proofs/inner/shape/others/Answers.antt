@@ -1,6 +1,5 @@
 -- `fates::inner::shape::others` meets its contract: the entries before the position are told.
 use mathlib.Core.Path.{refl, ◌∙◌, ap}
-use Prim.Native.Nat.{◌-◌}
 use native.Mathlib.Omega.{arith}
 use Rattle.buffer.proofs.PartLaws.{same_numbers}
 use Rattle.fates.specs.Fates.{later}

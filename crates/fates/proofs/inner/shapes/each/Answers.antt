@@ -2,7 +2,7 @@
 use borrow.Author.Rules.{rules}
 use mathlib.Core.Path.{refl, ◌∙◌}
 use mathlib.Core.List.{[]}
-use Prim.Native.Nat.{◌-◌, ◌≤◌}
+use Prim.Native.Nat.{◌≤◌}
 use lib.ListN.{length, get_or}
 use Rattle.fates.proofs.EachLaws.{telling_none, forward, ends, ends-in-row, own-tellable, telling-more, telling-all}
 use Rattle.fates.proofs.inner.shapes.each.Goals as goal

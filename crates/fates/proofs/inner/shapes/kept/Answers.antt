@@ -1,5 +1,4 @@
 -- `fates::inner::shapes::kept` meets its contract: those passed are counted.
-use Prim.Native.Nat.{◌-◌}
 use native.Mathlib.Omega.{arith}
 use Rattle.ring.proofs.Counting.{found_none, found_one, found_other, found_all}
 use Rattle.fates.proofs.inner.shapes.kept.Goals as goal

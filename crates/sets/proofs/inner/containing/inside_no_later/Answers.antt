@@ -1,5 +1,5 @@
 -- `sets::inner::containing::inside_no_later` meets its contract: where no contour so far has the point inside, those that are left decide.
-use Rattle.std.proofs.Common.{◌≡◌, ◌-◌, Bool, not, List, [], get_or, ℤ, sym, refl, ap, ◌∙◌, eq-eqb, ne_eqb}
+use Rattle.std.proofs.Common.{◌≡◌, Bool, not, List, [], get_or, ℤ, sym, refl, ap, ◌∙◌, eq-eqb, ne_eqb}
 use Rattle.grid.specs.declared.Point.{Point}
 use Rattle.grid.specs.Points.{points}
 use Rattle.path.specs.Locate.{location}

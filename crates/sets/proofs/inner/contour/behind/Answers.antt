@@ -1,6 +1,5 @@
 -- `sets::inner::contour::behind` meets its contract: the contour stays behind what is written, or all is as it was.
-use Rattle.std.proofs.Common.{◌-◌, ◌*◌, length, arith}
-use borrow.Rule.Slice.PartMut.{same_len_mid}
+use Rattle.std.proofs.Common.{arith}
 use Rattle.sets.proofs.BehindLaws.{cleanable_behind, notable, behind-is}
 use Rattle.sets.proofs.inner.contour.behind.Goals as goal
 

@@ -1,9 +1,8 @@
 -- `sets::inner::contour::one` meets its contract: too few points, copied, or walked.
 use Rattle.std.proofs.Common.{sym, length-take-le}
-use Rattle.grid.specs.Domain.{count}
 use Rattle.clean.proofs.LookLaws.{failing-goes}
 use Rattle.sets.proofs.FateLaws.{fated-few, fated-copied, fated-walked}
-use Rattle.sets.proofs.BehindLaws.{back_long, ready}
+use Rattle.sets.proofs.BehindLaws.{ready}
 use Rattle.sets.proofs.inner.contour.one.Goals as goal
 
 pub returns-then-n-lt3 : goal.returns-then-n-lt3

@@ -1,5 +1,5 @@
 -- `sets::inner::passing::all_pass` meets its contract: while every contour passes, those that are left decide.
-use Rattle.std.proofs.Common.{◌≡◌, ◌-◌, Bool, List, [], get_or, ℤ, sym, refl, ap, ◌∙◌}
+use Rattle.std.proofs.Common.{◌≡◌, Bool, List, [], get_or, ℤ, sym, refl, ap, ◌∙◌}
 use Rattle.grid.specs.Limits.{limit}
 use Rattle.grid.specs.Points.{points}
 use Rattle.replies.specs.Ladder.{first_of}

@@ -1,5 +1,5 @@
 -- `sets::inner::shape::shape` meets its contract: what is left of the shape is cleaned from where the loop has come to.
-use Rattle.std.proofs.Common.{◌-◌, ◌<◌, length, refl, ◌∙◌, arith}
+use Rattle.std.proofs.Common.{◌<◌, length, refl, ◌∙◌, arith}
 use lib.ListN.{length-map}
 use Rattle.buffer.specs.Spans.{span, spans}
 use Rattle.buffer.specs.Sets.{contour}

@@ -1,5 +1,5 @@
 -- `sets::inner::shapes::each` meets its contract: what is left is cleaned from where the loop has come to.
-use Rattle.std.proofs.Common.{◌-◌, refl, ◌∙◌}
+use Rattle.std.proofs.Common.{refl, ◌∙◌}
 use Rattle.sets.proofs.EachLaws.{grouping_none, grouping-addable, grouping-more, grouping-all}
 use Rattle.sets.proofs.inner.shapes.each.Goals as goal
 

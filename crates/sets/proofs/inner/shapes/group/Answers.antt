@@ -3,8 +3,6 @@ use Rattle.std.proofs.Common.{[]}
 use Rattle.sets.specs.inside.Contour.{reached}
 use Rattle.sets.specs.inside.Shapes.{Grouped, grouped}
 use Rattle.sets.proofs.ShapeLaws.{adding-fallen, adding-standing}
-use Rattle.std.proofs.Common.{ap}
-use Rattle.std.proofs.Common.{not}
 use Rattle.sets.proofs.inner.shapes.group.Goals as goal
 
 abbrev before_of : goal.Then-not-tried → Grouped

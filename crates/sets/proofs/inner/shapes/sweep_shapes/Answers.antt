@@ -1,5 +1,4 @@
 -- `sets::inner::shapes::sweep_shapes` meets its contract: what is cleaned stands, and the scratch is zeroed.
-use Rattle.std.proofs.Common.{◌∙◌}
 use Rattle.sets.proofs.CleanLaws.{zeroed_whole}
 use Rattle.sets.proofs.inner.shapes.sweep_shapes.Goals as goal
 

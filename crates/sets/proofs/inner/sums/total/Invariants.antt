@@ -1,5 +1,4 @@
 use Rattle.std.proofs.Common.{◌-◌, length}
-use Rattle.grid.specs.Points.{points}
 use Rattle.sets.proofs.AreaLaws.{Gathered}
 use Rattle.sets.proofs.inner.sums.total.Given as goal
 
