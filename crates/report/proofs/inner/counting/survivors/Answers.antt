@@ -1,5 +1,4 @@
 -- `report::inner::counting::survivors` meets its contract: those before the position are counted.
-use Prim.Native.Nat.{◌-◌}
 use native.Mathlib.Omega.{arith}
 use Rattle.report.proofs.CountLaws.{counted_none, counted_more, counted-past, counted_all}
 use Rattle.report.proofs.inner.counting.survivors.Goals as goal
