@@ -9,22 +9,22 @@ use Rattle.salvage.proofs.MendLaws.{Accepted, mend-refused, roomy, missing_few, 
 use Rattle.salvage.proofs.mend.Goals as goal
 
 bytes_of : (c : goal.Else-refusal-ne0) → Bytes c.args.bytes.now
-bytes_of c = λ i h. (c.shared_slice_known-1.given i).fits
+bytes_of c = λ i h. (c.type_inv.bytes i).fits
 
 bytes_of_2 : (c : goal.After-contours-arg-2-1) → Bytes c.args.bytes.now
-bytes_of_2 c = λ i h. (c.shared_slice_known-1.given i).fits
+bytes_of_2 c = λ i h. (c.type_inv.bytes i).fits
 
 bytes_of_3 : (c : goal.After-struct_known-1) → Bytes c.args.bytes.now
-bytes_of_3 c = λ i h. (c.shared_slice_known-1.given i).fits
+bytes_of_3 c = λ i h. (c.type_inv.bytes i).fits
 
 bytes_of_4 : (c : goal.After-struct_known-2-1) → Bytes c.args.bytes.now
-bytes_of_4 c = λ i h. (c.shared_slice_known-1.given i).fits
+bytes_of_4 c = λ i h. (c.type_inv.bytes i).fits
 
 bytes_of_5 : (c : goal.After-put_pair-arg-1) → Bytes c.args.bytes.now
-bytes_of_5 c = λ i h. (c.shared_slice_known-1.given i).fits
+bytes_of_5 c = λ i h. (c.type_inv.bytes i).fits
 
 bytes_of_6 : (c : goal.After-slice_known-3-1) → Bytes c.args.bytes.now
-bytes_of_6 c = λ i h. (c.shared_slice_known-1.given i).fits
+bytes_of_6 c = λ i h. (c.type_inv.bytes i).fits
 
 -- nothing is refused, whatever number of contours n the head promises
 free : (c : goal.Else-refusal-ne0) →

@@ -52,7 +52,7 @@ loop-i-smaller c =
 pub loop-i-preserved : goal.loop-i-preserved
 loop-i-preserved c =
     sifting-more c.loop-i.invariant c.requires c.loop-i-test.true (there_2 c)
-    (λ i h. (c.shared_slice_known-1.given i).fits) c.sift-s.ensures
+    (λ i h. (c.type_inv.bytes i).fits) c.sift-s.ensures
 
 pub overflow_sub-result-2 : goal.overflow_sub-result-2
 overflow_sub-result-2 c = c.loop-i.invariant.within

@@ -9,7 +9,7 @@ use Rattle.setfile.proofs.inner.fields.coordinate.Goals as goal
 pub returns : goal.returns
 returns c =
     let s = c.args in
-    let small = byte_drop s.at s.bytes.now (λ (i : ℕ). (c.shared_slice_known-1.given i).fits) in
+    let small = byte_drop s.at s.bytes.now (λ (i : ℕ). (c.type_inv.bytes i).fits) in
     to_z-of_z {w = w32} (sfits_of c.signed_32.type_inv) ∙ c.signed_32.ensures
     ∙ ap (to_z w32) (c.swapped.ensures ∙ ap swapped c.word.ensures)
     ∙ coordinate-swapped (drop s.at s.bytes.now) small (omega (arith, length-drop s.at s.bytes.now, c.requires))

@@ -4,19 +4,19 @@ use Rattle.setfile.proofs.FieldLaws.{pair-at}
 use Rattle.setfile.proofs.inner.fields.pair.Goals as goal
 
 pub overflow_cast-result : goal.overflow_cast-result
-overflow_cast-result c = omega (arith, c.shared_slice_known-1.given c.args.at)
+overflow_cast-result c = omega (arith, c.type_inv.bytes c.args.at)
 
 pub overflow_mul-result : goal.overflow_mul-result
-overflow_mul-result c = omega (arith, c.shared_slice_known-1.given c.args.at)
+overflow_mul-result c = omega (arith, c.type_inv.bytes c.args.at)
 
 pub overflow_cast-result-2 : goal.overflow_cast-result-2
-overflow_cast-result-2 c = omega (arith, c.shared_slice_known-2-1.given (c.args.at + 1))
+overflow_cast-result-2 c = omega (arith, c.type_inv.bytes (c.args.at + 1))
 
 pub overflow_add-result-2 : goal.overflow_add-result-2
 overflow_add-result-2 c =
     let at = c.args.at in
-    omega (arith, c.shared_slice_known-2-1.given at, c.shared_slice_known-2-1.given (at + 1))
+    omega (arith, c.type_inv.bytes at, c.type_inv.bytes (at + 1))
 
 pub returns : goal.returns
 returns c =
-    pair-at c.args.bytes.now c.args.at (λ (i : ℕ). (c.shared_slice_known-2-1.given i).fits) c.requires
+    pair-at c.args.bytes.now c.args.at (λ (i : ℕ). (c.type_inv.bytes i).fits) c.requires

@@ -9,4 +9,4 @@ returns-then-bytes-eq0 c = sym (ap (λ (v : ℕ). eqb v 2) (edition_none c.args.
 pub returns : goal.returns
 returns c =
     let f = c.args.bytes.now in
-    ap (λ (v : ℕ). eqb v 2) (edition_by_byte f (λ i. (c.shared_slice_known-1.given i).fits) (omega (arith, c.if-bytes-eq0.false)))
+    ap (λ (v : ℕ). eqb v 2) (edition_by_byte f (λ i. (c.type_inv.bytes i).fits) (omega (arith, c.if-bytes-eq0.false)))

@@ -29,4 +29,4 @@ lift-requires c =
 pub returns : goal.returns
 returns c =
     let head = rw (head_is c.args.second (length c.args.contours.now)) at c.put_pair-behind.ensures in
-    (file-front c.requires.0 head c.put_shapes-done.ensures c.lift.ensures (λ i. (c.slice_known-4-1.given i).fits), file-ends c.requires.0 head c.put_shapes-done.ensures c.lift.ensures (λ i. (c.slice_known-4-1.given i).fits))
+    (file-front c.requires.0 head c.put_shapes-done.ensures c.lift.ensures (λ i. (c.type_inv.bytes i).fits), file-ends c.requires.0 head c.put_shapes-done.ensures c.lift.ensures (λ i. (c.type_inv.bytes i).fits))

@@ -7,7 +7,7 @@ pub bounds-widths-k : goal.bounds-widths-k
 bounds-widths-k c = c.requires c.if-second.true
 
 pub overflow_cast-result : goal.overflow_cast-result
-overflow_cast-result c = omega (arith, c.shared_slice_known-1.given c.args.k)
+overflow_cast-result c = omega (arith, c.type_inv.widths c.args.k)
 
 pub returns : goal.returns
 returns c = λ e. absurd (false≢true (sym c.if-second.false ∙ e))
