@@ -1,5 +1,5 @@
 -- How large a share is, by the bound of the grid.
-use Rattle.std.proofs.Common.{◌≡◌, ℕ, ◌*◌, ◌^◌, ◌<◌, ◌≤◌, true, List, ℤ, ap, ◌∙◌, subst, mul_assoc, mul_comm, mul-le-mul, arith}
+use Rattle.std.proofs.Common.{◌≡◌, ℕ, ◌*◌, ◌^◌, ◌<◌, ◌≤◌, true, List, ℤ, ◌∙◌, subst, mul_assoc, mul_comm, mul-le-mul, arith}
 use Rattle.integers.specs.Bound.{In}
 use Rattle.integers.proofs.Bound.{in_mul}
 use Rattle.grid.specs.Limits.{limit, all_on_grid}

@@ -1,19 +1,16 @@
 -- Answers, refused or given, and what packing leaves.
 use mathlib.Core.Path.{◌≡◌, refl, sym, ◌∙◌, ap}
-use mathlib.Core.Bool.{Bool, true, false, not, ◌&&◌, and-true}
+use mathlib.Core.Bool.{Bool, true, ◌&&◌, and-true}
 use mathlib.Core.List.{List, [], ◌++◌}
 use Prim.Native.Nat.{ℕ, zero, suc, ◌≤◌}
-use native.Mathlib.Omega.{arith}
-use lib.Dec.{T, leb, eqb, eqb-suc-zero}
+use lib.Dec.{T, leb}
 use lib.ListN.{length}
 use lib.IntN.{ℤ}
 use borrow.Author.Tests.{leb-true}
 use Rattle.replies.specs.Ladder.{Rung, first_of, room, so_far}
 use Rattle.grid.specs.Domain.{count}
-use Rattle.replies.specs.Verdicts.{verdict}
 use Rattle.integers.proofs.Logic.{and_left, and_right}
-use Rattle.replies.proofs.LadderLaws.{numbered, first_is, so_far_then, clear_of}
-use Rattle.replies.proofs.LadderLaws.First.{here}
+use Rattle.replies.proofs.LadderLaws.{numbered, so_far_then, clear_of}
 use Rattle.buffer.specs.declared.answer.Packed.{Packed}
 use Rattle.buffer.specs.declared.ranges.Span.{Span}
 use Rattle.buffer.specs.Spans.{rows}

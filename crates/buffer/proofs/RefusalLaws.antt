@@ -1,18 +1,17 @@
 -- Where a row's own refusals stop, and where the refusals of a set go on from there.
-use mathlib.Core.Path.{◌≡◌, refl, sym, ◌∙◌, ap}
+use mathlib.Core.Path.{◌≡◌, refl, sym, ◌∙◌}
 use mathlib.Core.Bool.{Bool, true, false, not, true≢false}
 use mathlib.Core.List.{List, [], ◌∷◌, ◌++◌}
-use Prim.Native.Nat.{ℕ, zero, suc, ◌+◌, ◌*◌, ◌%◌, ◌<◌, ◌≤◌}
+use Prim.Native.Nat.{ℕ, ◌+◌, ◌*◌, ◌%◌, ◌<◌, ◌≤◌}
 use native.Mathlib.Omega.{arith}
 use lib.ListN.{length}
 use lib.IntN.{ℤ}
-use lib.Dec.{T, eqb-suc-zero}
 use borrow.Author.Tests.{lt-ltb, le-ltb, ltb-false, eqb-false, not-false}
 use Rattle.grid.specs.Limits.{limit, most, all_on_grid}
-use Rattle.replies.specs.Ladder.{Rung, first_of, room, so_far}
+use Rattle.replies.specs.Ladder.{first_of}
 use Rattle.grid.specs.Domain.{count, off, domain}
-use Rattle.replies.proofs.LadderLaws.{First, first_is, numbered, clear, stopped, onward, found}
-use Rattle.replies.proofs.LadderLaws.First.{here, past, foot}
+use Rattle.replies.proofs.LadderLaws.{First, first_is, clear, stopped, onward, found}
+use Rattle.replies.proofs.LadderLaws.First.{here, past}
 use Rattle.buffer.specs.Refusals.{set, both}
 
 -- the three rungs of a row's domain

@@ -1,11 +1,9 @@
 -- Rows that are written to.
 use mathlib.Core.Path.{◌≡◌, refl, sym, ◌∙◌, ap, ap₂}
 use mathlib.Core.List.{List, [], ◌∷◌, ◌++◌, map}
-use Prim.Native.Nat.{ℕ, zero, suc, ◌+◌, ◌<◌, ◌≤◌}
+use Prim.Native.Nat.{ℕ, zero, suc, ◌+◌, ◌<◌}
 use native.Mathlib.Omega.{arith}
-use native.Mathlib.Numerals.{add-one}
-use lib.ListN.{length, get_or, set, drop, length-set, length-append, length-drop, length-map}
-use lib.Seq.{paste, paste-zero, paste-suc, take-length, take_at, drop_at, drop-drop}
+use lib.ListN.{length, get_or, length-map}
 use Rattle.buffer.specs.declared.ranges.Span.{Span}
 use Rattle.buffer.specs.Spans.{span, spans, row, rows, moved}
 use Rattle.rows.specs.Rows.{front, placed}

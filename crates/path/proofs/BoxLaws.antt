@@ -1,17 +1,16 @@
 -- A box is convex.
-use mathlib.Core.Path.{◌≡◌, refl, sym, ◌∙◌, ap, ap₂}
-use mathlib.Core.Bool.{Bool, true, false, not, ◌&&◌, ◌||◌}
+use mathlib.Core.Path.{◌≡◌, refl, sym, ◌∙◌, ap}
+use mathlib.Core.Bool.{Bool, true, false, ◌&&◌, ◌||◌}
 use mathlib.Core.List.{List, [], ◌∷◌}
 use Prim.Native.Nat.{ℕ, zero, suc}
 use native.Mathlib.Omega.{arith}
 use lib.IntN.{ℤ, pos, negsuc}
 use Rattle.integers.specs.Equal.{eq_z}
 use Rattle.grid.specs.declared.Point.{Point}
-use Rattle.grid.specs.declared.Edge.{Edge}
-use Rattle.grid.specs.Points.{at, points, same}
-use Rattle.grid.specs.Edges.{between, still, cross, sign, aligned}
+use Rattle.grid.specs.Points.{at, points}
+use Rattle.grid.specs.Edges.{sign}
 use Rattle.grid.specs.Boxes.{box}
-use Rattle.grid.specs.Corners.{last, differing, distinct_neighbours, corners_from, corners, some, left_at, right_at, reverses_at}
+use Rattle.grid.specs.Corners.{last, differing, distinct_neighbours, corners_from, corners, some}
 use Rattle.grid.specs.Domain.{Contour}
 use Rattle.grid.proofs.RowLaws.{points-more, points-done}
 use Rattle.grid.proofs.EdgeLaws.{moving, same-before}

@@ -1,4 +1,3 @@
-use Rattle.std.proofs.Common.{◌-◌}
 use Rattle.area.proofs.Sums.{Gathered}
 use Rattle.area.proofs.inner.total.Given as goal
 

@@ -2,7 +2,6 @@
 use borrow.Author.Rules.{sfits_of}
 use mathlib.Core.Path.{◌≡◌, sym, ◌∙◌, ap, ap₂}
 use mathlib.Core.Bool.{Bool, true, false, xor}
-use Prim.Native.Nat.{◌-◌}
 use native.Mathlib.Omega.{arith}
 use lib.IntN.{ℤ, pos}
 use lib.Signed.{lt_z}
@@ -12,7 +11,7 @@ use mir.Facts.{to_z-of_z, sfits_lit}
 use Rattle.integers.proofs.Equal.{bits-eq}
 use Rattle.grid.specs.Limits.{limit}
 use Rattle.grid.specs.declared.Point.{Point}
-use Rattle.grid.specs.Points.{at, points}
+use Rattle.grid.specs.Points.{at}
 use Rattle.grid.specs.Edges.{between, turn}
 use Rattle.grid.proofs.PointLaws.{at_on}
 use Rattle.path.specs.Contains.{above, crosses}

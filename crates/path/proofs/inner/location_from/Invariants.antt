@@ -1,5 +1,4 @@
 use Prim.Native.Nat.{◌-◌}
-use Rattle.grid.specs.Points.{points}
 use Rattle.path.specs.inside.Locate.{Untouched}
 use Rattle.path.proofs.inner.location_from.Given as goal
 

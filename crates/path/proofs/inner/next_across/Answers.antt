@@ -1,6 +1,5 @@
 -- `path::inner::next_across` meets its contract: all points passed lie on one side.
 use mathlib.Core.Path.{◌≡◌, sym, ◌∙◌, ap}
-use Prim.Native.Nat.{◌-◌}
 use native.Mathlib.Omega.{arith}
 use Rattle.grid.specs.Points.{at}
 use Rattle.path.specs.Contains.{above}

@@ -1,7 +1,6 @@
 -- `path::inner::parity_from` meets its contract: from edge to edge that changes side, the parity so far and that of the edges left make up the whole.
 use mathlib.Core.Path.{◌≡◌, sym, ◌∙◌, ap, ap₂}
 use mathlib.Core.Bool.{not, xor}
-use Prim.Native.Nat.{◌-◌}
 use native.Mathlib.Omega.{arith}
 use borrow.Author.Tests.{not-true, not-false}
 use Rattle.grid.specs.Limits.{limit}

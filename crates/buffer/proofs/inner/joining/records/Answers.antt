@@ -1,7 +1,6 @@
 -- `buffer::inner::joining::records` meets its contract: what is copied so far grows by one.
 use mathlib.Core.Path.{◌≡◌}
 use mathlib.Core.List.{[], map}
-use Prim.Native.Nat.{◌-◌}
 use native.Mathlib.Omega.{arith}
 use lib.ListN.{length}
 use Rattle.buffer.specs.Spans.{spans, rows, moved}

@@ -1,11 +1,9 @@
 -- `pool::inner::moving::numbers` meets its contract: what has moved so far grows by one.
-use mir.Syntax.{w32}
 use mathlib.Core.Path.{◌≡◌, sym, ◌∙◌}
-use Prim.Native.Nat.{◌+◌, ◌-◌}
+use Prim.Native.Nat.{◌+◌}
 use native.Mathlib.Omega.{arith}
 use lib.ListN.{length, take, drop}
 use lib.IntN.{pos}
-use mir.Facts.{to_z-of_z}
 use Rattle.rows.proofs.RowLaws.{copied_none, copied_more, copied_all}
 use Rattle.pool.proofs.RowLaws.{ahead, part_length, part_at}
 use borrow.Author.Rules.{rules}

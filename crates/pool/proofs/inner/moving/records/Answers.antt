@@ -1,7 +1,7 @@
 -- `pool::inner::moving::records` meets its contract: what has moved so far grows by one.
 use mathlib.Core.Path.{◌≡◌, sym, ◌∙◌, ap}
 use mathlib.Core.List.{List, [], map}
-use Prim.Native.Nat.{ℕ, ◌+◌, ◌-◌}
+use Prim.Native.Nat.{ℕ, ◌+◌}
 use native.Mathlib.Omega.{arith}
 use lib.ListN.{length, get_or, take, drop}
 use Rattle.rows.proofs.RowLaws.{copied_none, copied_more, copied_all}

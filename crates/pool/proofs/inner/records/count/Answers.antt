@@ -1,6 +1,5 @@
 -- `pool::inner::records::count` meets its contract: those counted so far and those of the rest make up all.
 use mathlib.Core.Path.{ap}
-use Prim.Native.Nat.{◌-◌}
 use native.Mathlib.Omega.{arith}
 use lib.ListN.{length}
 use Rattle.pool.proofs.RecordLaws.{own-mine, own-others, own-done}

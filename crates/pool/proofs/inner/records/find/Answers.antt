@@ -1,5 +1,4 @@
 -- `pool::inner::records::find` meets its contract: number k of all is number `rest` of those that follow.
-use Prim.Native.Nat.{◌-◌}
 use native.Mathlib.Omega.{arith}
 use Rattle.pool.proofs.RecordLaws.{seeking_all, seeking-here, seeking-past, seeking-other, seeking-none}
 use Rattle.pool.proofs.inner.records.find.Goals as goal
