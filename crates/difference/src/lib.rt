@@ -1,5 +1,6 @@
 // Two sets compared, contour by contour: what is the same, what starts elsewhere, what differs, and what only one of them has. Nothing is copied.
 #![tactic(auto)]
+
 pub mod inner;
 pub mod kind;
 pub mod walker;
