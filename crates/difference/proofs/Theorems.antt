@@ -28,7 +28,7 @@ use Rattle.turned.proofs.StartedLaws.{same_self, points_tell, started-length, st
 use Rattle.turned.proofs.Theorems.{a-way-there-is-a-way-back, there-and-back-is-what-repeats}
 use Rattle.difference.specs.declared.inner.lines.Line.{Line}
 use Rattle.difference.specs.Lines.{same, elsewhere, different, only_first, only_second, first_other, compared, listed, lines_of, row, written}
-use Rattle.difference.specs.Outcome.{all_refusals, whose, Outcome, answer, answered, outcome}
+use Rattle.difference.specs.Outcome.{all_refusals, whose, Outcome, answered, outcome}
 use Rattle.difference.specs.Promises.{told, ToldAgain, Mirrored}
 use Rattle.difference.specs.Promises.ToldAgain.{as_the_same, from_a_start}
 use Rattle.difference.specs.Promises.Mirrored.{same_both_ways, there_and_back, different_both_ways}

@@ -1,7 +1,7 @@
 -- `difference::inner::listing::fill` meets its contract: the lines written so far grow by one.
 use mathlib.Core.Path.{◌≡◌, sym, ◌∙◌, ap, subst}
 use mathlib.Core.List.{List, []}
-use Prim.Native.Nat.{ℕ, ◌+◌, ◌-◌, ◌<◌}
+use Prim.Native.Nat.{ℕ, ◌+◌, ◌<◌}
 use native.Mathlib.Omega.{arith}
 use lib.ListN.{length, get_or, set}
 use Rattle.rows.proofs.RowLaws.{Copied, copied_none, copied_more, copied_all, placed_front}
