@@ -14,7 +14,7 @@ use Rattle.setfile.specs.Entries.{entry}
 use Rattle.setfile.specs.Layouts.{some-set, contours_in}
 use Rattle.setfile.specs.Editions.{parsed}
 use Rattle.report.specs.Text.{places, decimal}
-use Rattle.jobtext.specs.Text.{shape, hole, head, numbers, line, lines, text, dumped}
+use Rattle.jobtext.specs.Text.{shape, hole, head, numbers, line, lines, dumped}
 
 -- shape 0 0 -12 5, and hole
 a_shape : line (entry true (pos 0 ∷ pos 0 ∷ negsuc 11 ∷ pos 5 ∷ [])) ≡ shape ++ 32 ∷ 48 ∷ 32 ∷ 48 ∷ 32 ∷ 45 ∷ 49 ∷ 50 ∷ 32 ∷ 53 ∷ 10 ∷ []

@@ -15,7 +15,7 @@ use Rattle.replies.specs.Ladder.{first_of}
 use Rattle.bits.specs.Bits.{Bytes}
 use Rattle.buffer.specs.Sets.{joined}
 use Rattle.setfile.specs.Entries.{Entry, contours_of, read_contours}
-use Rattle.setfile.specs.Editions.{number, bound, is_second, parsed}
+use Rattle.setfile.specs.Editions.{bound, is_second, parsed}
 use Rattle.setfile.specs.Reading.{refusals}
 use Rattle.setfile.specs.Promises.{points_of}
 use Rattle.setfile.proofs.SizeLaws.{promised_few}
@@ -24,7 +24,7 @@ use Rattle.setfile.proofs.Theorems.{the-set-that-is-read-can-be-carried}
 use Rattle.report.specs.Text.{places, decimal, signed, line_end}
 use Rattle.report.proofs.TextLaws.{decimal-length, decimal_short}
 use Rattle.report.proofs.JobLaws.{job_sized}
-use Rattle.jobtext.specs.Text.{word, spaced, numbers, line, lines, head, text, dumped}
+use Rattle.jobtext.specs.Text.{word, spaced, numbers, line, lines, head, dumped}
 use Rattle.jobtext.proofs.DumpLaws.{dumped_refused, dumped_done}
 
 -- a coordinate has at most ten digits and its sign

@@ -1,5 +1,4 @@
 -- `jobtext::inner::lines::put_numbers` meets its contract: the numbers that are left are put behind those that are.
-use Prim.Native.Nat.{◌-◌}
 use borrow.Author.Rules.{rules}
 use Rattle.jobtext.proofs.LineLaws.{spelling_none, spelling-room, spelling-more, spelling-all}
 use Rattle.jobtext.proofs.inner.lines.put_numbers.Goals as goal
