@@ -1,15 +1,14 @@
 -- The dots of vertices, by the marks of their points.
 use mathlib.Core.Path.{◌≡◌, refl, sym, ◌∙◌, ap, ap₂}
-use mathlib.Core.Bool.{Bool, true, false, not}
-use mathlib.Core.List.{List, [], ◌∷◌, ◌++◌, append_assoc, append-nil, map}
-use Prim.Native.Nat.{ℕ, zero, suc, ◌+◌, ◌*◌, ◌≤◌, ◌<◌}
+use mathlib.Core.Bool.{Bool, true, false}
+use mathlib.Core.List.{List, [], ◌∷◌, append_assoc, append-nil}
+use Prim.Native.Nat.{ℕ, zero, suc, ◌*◌, ◌<◌}
 use native.Mathlib.Omega.{arith}
 use lib.Dec.{ltb}
-use lib.ListN.{length, get_or, length-map, get_or-map}
+use lib.ListN.{length, get_or, length-map}
 use lib.IntN.{ℤ}
 use Rattle.grid.specs.declared.Point.{Point}
 use Rattle.grid.specs.Points.{at, origin, points}
-use Rattle.grid.specs.Domain.{count}
 use Rattle.grid.proofs.RowLaws.{points_count, points_at}
 use Rattle.rows.proofs.PlacedLaws.{placed-none}
 use Rattle.buffer.specs.Sets.{joined}

@@ -11,7 +11,7 @@ use borrow.Author.Tests.{eq-eqb, ne_eqb}
 use Rattle.grid.specs.Domain.{count, Contour}
 use Rattle.ring.specs.declared.Rule as R
 use Rattle.ring.specs.declared.Ending.{Ending}
-use Rattle.ring.specs.Walk.{removed, survivors_from, survivors, End, Walked, walk, ending, tally}
+use Rattle.ring.specs.Walk.{removed, survivors_from, survivors, End, Walked, walk}
 use Rattle.ring.specs.Walk.End.{kept, collapsed}
 use Rattle.ring.specs.Rule.{goes}
 use Rattle.ring.specs.inside.Rows.{Ended, ended_as}

@@ -1,7 +1,7 @@
 -- Marks that say of a file's points, contour by contour, which are kept.
-use mathlib.Core.Path.{◌≡◌, refl, sym, ◌∙◌, ap, ap₂, subst}
+use mathlib.Core.Path.{◌≡◌, refl, sym, ◌∙◌, ap, subst}
 use mathlib.Core.Bool.{Bool}
-use mathlib.Core.List.{List, [], ◌∷◌, ◌++◌, append_assoc, append-nil, map-append}
+use mathlib.Core.List.{List, [], ◌++◌, append_assoc, append-nil, map-append}
 use Prim.Native.Nat.{ℕ, ◌+◌, ◌*◌, ◌≤◌, ◌<◌}
 use native.Mathlib.Omega.{arith}
 use lib.Dec.{ltb}
@@ -14,7 +14,7 @@ use Rattle.ring.specs.Walk.{removed}
 use Rattle.buffer.specs.Sets.{joined}
 use Rattle.setfile.specs.declared.inner.headers.Header.{Header}
 use Rattle.setfile.specs.Entries.{Entry, contours_of}
-use Rattle.setfile.specs.inside.Reading.{from_bit, header_in, size_of, Readable}
+use Rattle.setfile.specs.inside.Reading.{from_bit, header_in, size_of}
 use Rattle.report.specs.Listing.{rule_of, job}
 use Rattle.report.specs.inside.Lines.{Contours, Listable}
 use Rattle.vertices.specs.Vertices.{kept_of, all_kept}
