@@ -1,5 +1,6 @@
 // What the library answers to a case of the kind `q` or `W`: sets judged and cleaned.
 #![tactic(auto)]
+
 use answers::{column, contours};
 use buffer::Counted;
 use cases::answer::Answer;
