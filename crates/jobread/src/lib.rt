@@ -1,9 +1,10 @@
 // A job's text, read back into the rows of a set.
 #![tactic(auto)]
+
 pub mod inner;
 
 // Where in a text its reader is.
-#[derive(Drop)]
+#[derive(Clone, Copy)]
 pub enum Place {
     // Behind so many characters of the line of the edition.
     Head(usize),
@@ -27,7 +28,7 @@ pub enum Place {
 
 // A reader: its place; whether the contour of its line begins a shape; how many points stand before that line; how many numbers, contours
 // and shapes came; and which contour began the last shape.
-#[derive(Drop)]
+#[derive(Clone, Copy)]
 pub struct Reader {
     pub place: Place,
     pub begins: bool,
