@@ -1,5 +1,6 @@
 // What salvaging a file gives: the mended file, and the account of what was lost, in words.
 #![tactic(auto)]
+
 pub mod inner;
 
 // Room for the longest account: 4,095 lines of 35 characters, and the two counts.
