@@ -29,22 +29,14 @@ pub fn ukm_shapes_has_no_spikes(
 }
 
 // The doubled area: the sum of the contours' own.
-pub fn ukm_shapes_area_two(
-    points: &[i32],
-    contours: &[[usize; 2]],
-    shapes: &[[usize; 2]],
-) -> Area
+pub fn ukm_shapes_area_two(points: &[i32], contours: &[[usize; 2]], shapes: &[[usize; 2]]) -> Area
     ensures { result ≡ shapes_doubled points.now contours.now shapes.now }
 {
     sets::shapes::area_two(points, contours, shapes)
 }
 
 // The area, cut toward zero.
-pub fn ukm_shapes_area(
-    points: &[i32],
-    contours: &[[usize; 2]],
-    shapes: &[[usize; 2]],
-) -> Area
+pub fn ukm_shapes_area(points: &[i32], contours: &[[usize; 2]], shapes: &[[usize; 2]]) -> Area
     ensures { result ≡ shapes_half points.now contours.now shapes.now }
 {
     sets::shapes::area(points, contours, shapes)

@@ -1,5 +1,6 @@
 // The static library: the functions that programs in C and Rust call, each with the contract of the one of `ukmerelt` that it hands its arguments to.
 #![tactic(auto)]
+
 pub mod comparing;
 pub mod contour_sets;
 pub mod contours;

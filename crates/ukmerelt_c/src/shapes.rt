@@ -67,7 +67,9 @@ pub extern "C" fn ukm_simplified_shapes(
         (lent next.old prev.old mark.old
         out.old records.old groups.old) }
 {
-    ukmerelt::shapes::ukm_simplified_shapes(points, contours, shapes, next, prev, mark, out, records, groups)
+    ukmerelt::shapes::ukm_simplified_shapes(
+        points, contours, shapes, next, prev, mark, out, records, groups,
+    )
 }
 
 // The shapes without their spikes.
@@ -90,5 +92,7 @@ pub extern "C" fn ukm_despiked_shapes(
         (lent next.old prev.old mark.old
         out.old records.old groups.old) }
 {
-    ukmerelt::shapes::ukm_despiked_shapes(points, contours, shapes, next, prev, mark, out, records, groups)
+    ukmerelt::shapes::ukm_despiked_shapes(
+        points, contours, shapes, next, prev, mark, out, records, groups,
+    )
 }
