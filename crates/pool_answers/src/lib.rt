@@ -1,5 +1,6 @@
 // What the library answers to a case of the kind `h`: a history of two presses that share a pool.
 #![tactic(auto)]
+
 mod calls;
 mod reads;
 mod records;
