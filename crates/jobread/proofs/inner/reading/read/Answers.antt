@@ -1,6 +1,6 @@
 -- `jobread::inner::reading::read` meets its contract: what is left of the text is read from where the loop has come to.
 use mathlib.Core.Path.{refl, sym, ◌∙◌, ap}
-use Prim.Native.Nat.{◌+◌, ◌-◌}
+use Prim.Native.Nat.{◌+◌}
 use native.Mathlib.Omega.{arith}
 use lib.ListN.{drop}
 use Rattle.jobread.specs.Reading.{State, run}
