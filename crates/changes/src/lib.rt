@@ -1,5 +1,6 @@
 // What changed from one job to another, in words, from the bytes of their files.
 #![tactic(auto)]
+
 pub mod inner;
 
 // Room for all that is said of any two files: 4,095 lines of 76 characters, and the counts.
