@@ -1,4 +1,5 @@
 // What the library answers to a case of files or of drawings.
 #![tactic(auto)]
+
 pub mod drawings;
 pub mod files;
