@@ -1,11 +1,12 @@
 // Reads a set file on standard input, cleans each contour by itself, and lists what changed.
 #![tactic(auto)]
+
 ghost use Rattle.std.specs.Prelude.{◌≤◌, length};
 ghost use Rattle.report.specs.Listing.{listing as listing-of};
 
-use std::io;
 use report::inner::listing;
 use report::{SHORT, TEXT};
+use std::io;
 
 // One byte past the most that a file has, so that a longer one is told from it.
 const BYTES: usize = 65537;
