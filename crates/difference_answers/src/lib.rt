@@ -1,5 +1,6 @@
 // The answers to cases of two sets that are compared: what the comparison says, and the row that it was lent.
 #![tactic(auto)]
+
 use cases::answer::Answer;
 use cases::case::HEAD;
 use cases::room::SET;
