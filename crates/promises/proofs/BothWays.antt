@@ -13,7 +13,7 @@ use Rattle.replies.specs.Ladder.{first_of, room}
 use Rattle.replies.proofs.LadderLaws.{first_is}
 use Rattle.replies.proofs.LadderLaws.First.{past, foot}
 use Rattle.buffer.specs.Spans.{spans}
-use Rattle.buffer.specs.Answers.{Outcome, written_points, written_contours, written_shapes, stored}
+use Rattle.buffer.specs.Answers.{written_points, written_contours, written_shapes, stored}
 use Rattle.buffer.proofs.RowLaws.{spans-length}
 use Rattle.buffer.proofs.WrittenLaws.{Written, written}
 use Rattle.setfile.specs.Editions.{number, is_second}

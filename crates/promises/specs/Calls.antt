@@ -1,6 +1,6 @@
 -- The words in which the other pages speak of the functions. What they say of one they say of its contract, as the checker reads it from `src/`: that of `a::b::c` is `a.b.c.Reads`. There `Asked` is what a caller has to show, at the lifetimes κs of what is lent, of the arguments a; and `Learnt` what is then known of them, of the answer x, and of the parameters e as the call leaves them.
 use Rattle.std.specs.Prelude.{◌≡◌, ◌⊎◌, false, List, [], ℕ, ℤ, pos}
-use Rattle.std.specs.Borrow.{Bor}
+use Rattle.std.specs.Borrow.{Bor, MutBor}
 use Rattle.replies.specs.Ladder.{Rung, first_of}
 use Rattle.replies.specs.declared.Verdict.{Verdict}
 use Rattle.replies.proofs.OneOutcome.{five, seven, nine}
@@ -164,24 +164,24 @@ module _ {X B : Type 0} where
 
 -- three rows of scratch, and others
 abbrev pub Scratch : Type 0 → Type 0
-Scratch B = Bor (List ℕ) × (Bor (List ℕ) × (Bor (List ℕ) × B))
+Scratch B = MutBor (List ℕ) × (MutBor (List ℕ) × (MutBor (List ℕ) × B))
 
 -- the rows that are lent to a cleaner behind a contour
-abbrev pub contour_lent : {A B : Type 0} → A × Scratch (Bor (List ℤ) × B) → Cleaning.Lent
+abbrev pub contour_lent : {A B : Type 0} → A × Scratch (MutBor (List ℤ) × B) → Cleaning.Lent
 contour_lent a = five a λ points next prev mark out. Cleaning.lent next.now prev.now mark.now out.now
 
 -- behind a shape
-abbrev pub shape_lent : {A B C : Type 0} → A × (B × Scratch (Bor (List ℤ) × (Bor (List (List ℕ)) × C))) → SetCleaning.Lent
+abbrev pub shape_lent : {A B C : Type 0} → A × (B × Scratch (MutBor (List ℤ) × (MutBor (List (List ℕ)) × C))) → SetCleaning.Lent
 shape_lent a = seven a λ points ranges next prev mark out records.
     SetCleaning.lent next.now prev.now mark.now out.now records.now []
 
 -- behind shapes
-abbrev pub shapes_lent : {A B C D : Type 0} → A × (B × (C × Scratch (Bor (List ℤ) × (Bor (List (List ℕ)) × (Bor (List (List ℕ)) × D))))) → SetCleaning.Lent
+abbrev pub shapes_lent : {A B C D : Type 0} → A × (B × (C × Scratch (MutBor (List ℤ) × (MutBor (List (List ℕ)) × (MutBor (List (List ℕ)) × D))))) → SetCleaning.Lent
 shapes_lent a = nine a λ points contours shapes next prev mark out records groups.
     SetCleaning.lent next.now prev.now mark.now out.now records.now groups.now
 
 -- behind shapes of which the contours' fates are told
-abbrev pub fates_lent : {A B C D : Type 0} → A × (B × (C × Scratch (Bor (List ℕ) × D))) → Fates.Lent
+abbrev pub fates_lent : {A B C D : Type 0} → A × (B × (C × Scratch (MutBor (List ℕ) × D))) → Fates.Lent
 fates_lent a = seven a λ points contours shapes next prev mark fates. Fates.lent next.now prev.now mark.now fates.now
 
 -- one row and others

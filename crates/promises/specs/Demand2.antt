@@ -10,7 +10,6 @@ use contract.Monad.{Fun}
 use denote.Triple.Entry.{Args}
 use denote.Triple.Clauses.{AtExit}
 use Rattle.replies.specs.Ladder.{first_of}
-use Rattle.grid.specs.Domain.{count}
 use Rattle.replies.proofs.OneOutcome.{ensuring, two, three, four, five, six, eight}
 use Rattle.area.specs.Answers as Areas
 use Rattle.path.specs.Convex.{convex}
@@ -56,6 +55,8 @@ use Rattle.drawing.proofs as drawing
 use Rattle.difference.proofs as difference
 use Rattle.pool.proofs as pool
 use Rattle.ukmerelt.proofs as ukmerelt
+use Rattle.buffer.specs.contracts.ranges.sound_spans
+use Rattle.ukmerelt.specs.contracts.contour_sets.ukm_ranges_sound
 use Rattle.promises.specs.Calls.{of_contour, of_set, of_shapes, contour_lent, shape_lent, shapes_lent, fates_lent, Follows, Answers, HandsOut}
 
 -- each function, and its rule: what it answers, or what it answers and leaves in the rows that it was lent
@@ -206,16 +207,16 @@ pub record ReaderAndWriterUndoEachOther : Type 0 where
       → (w.answer.reply ≡ 0) × (written_file w ≡ f)
 
 -- whether ranges that are structs are sound, as both functions ensure it that take a slice of them
-abbrev pub SoundSpans : (κs : Lfts 1) → Args buffer.ranges.sound_spans.signature κs → Bool → AtExit buffer.ranges.sound_spans.ended κs → Type 0
+abbrev pub SoundSpans : (κs : Lfts 1) → Args sound_spans.signature κs → Bool → AtExit sound_spans.ended κs → Type 0
 SoundSpans κs a x e = x ≡ sound a.0.now a.1.0
 
 -- the checker has no plain reading of their contracts, so here these are whole: in every model of the logic each is the contract that asks nothing and ensures that fact
 pub record RangesThatAreStructs : Type 2 where
   pub buffer·ranges·sound_spans : {M : Type 1} {𝓤 : Ura M} (𝓛 : Logic 𝓤) (mem : Memory → SProp 𝓤) (run : Routine → Fun 𝓤)
-      → buffer.ranges.sound_spans.spec 𝓛 mem run ≡ ensuring 𝓛 buffer.ranges.sound_spans.ended SoundSpans
+      → sound_spans.spec 𝓛 mem run ≡ ensuring 𝓛 sound_spans.ended SoundSpans
   pub buffer·ranges·sound_spans_is_proved : {M : Type 1} → buffer.ranges.sound_spans.Statement.statement M
   pub ukm_ranges_sound : {M : Type 1} {𝓤 : Ura M} (𝓛 : Logic 𝓤) (mem : Memory → SProp 𝓤) (run : Routine → Fun 𝓤)
-      → ukmerelt.contour_sets.ukm_ranges_sound.spec 𝓛 mem run ≡ ensuring 𝓛 ukmerelt.contour_sets.ukm_ranges_sound.ended SoundSpans
+      → ukm_ranges_sound.spec 𝓛 mem run ≡ ensuring 𝓛 ukm_ranges_sound.ended SoundSpans
   pub ukm_ranges_sound_is_proved : {M : Type 1} → ukmerelt.contour_sets.ukm_ranges_sound.Statement.statement M
   pub equals_the_rule : Answers SoundSpans λ a. two a λ ranges count. sound ranges.now count
 
