@@ -1,5 +1,4 @@
 -- `changes::inner::lines::put` meets its contract: the lines that are left are put from where the loop has come to.
-use Prim.Native.Nat.{◌-◌}
 use native.Mathlib.Omega.{arith}
 use Rattle.changes.proofs.LineLaws.{telling_none, telling-room, telling-more, telling-all}
 use Rattle.changes.proofs.inner.lines.put.Goals as goal
