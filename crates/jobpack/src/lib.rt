@@ -1,5 +1,6 @@
 // The file of a text's job: what the program `pack` writes.
 #![tactic(auto)]
+
 pub mod inner;
 
 // How long the file is, and what is said.

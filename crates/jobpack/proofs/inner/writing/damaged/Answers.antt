@@ -1,0 +1,12 @@
+-- `jobpack::inner::writing::damaged` meets its contract.
+use native.Mathlib.Omega.{arith}
+use lib.ListN.{length-append}
+use Rattle.report.proofs.TextLaws.{decimal_short}
+use Rattle.jobpack.proofs.PackLaws.{no_file}
+use Rattle.jobpack.proofs.inner.writing.damaged.Goals as goal
+
+pub put_line-said-requires : goal.put_line-said-requires
+put_line-said-requires c = simp length-append (omega (arith, c.requires, decimal_short c.args.line))
+
+pub returns : goal.returns
+returns c = no_file c.args.out.now c.put_line-said.ensures
