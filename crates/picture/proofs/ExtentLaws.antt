@@ -1,11 +1,11 @@
 -- The extent of points on the grid is on the grid, and its sizes are small.
-use mathlib.Core.Path.{◌≡◌, refl, sym, ◌∙◌, ap, subst}
+use mathlib.Core.Path.{◌≡◌, refl, sym, ◌∙◌, ap}
 use mathlib.Core.Bool.{Bool, true, false}
-use mathlib.Core.List.{List, [], ◌∷◌}
-use Prim.Native.Nat.{ℕ, ◌+◌, ◌*◌, ◌/◌, ◌≤◌, ◌<◌}
+use mathlib.Core.List.{List}
+use Prim.Native.Nat.{ℕ, ◌+◌, ◌/◌, ◌≤◌, ◌<◌}
 use native.Mathlib.Omega.{arith}
 use lib.Dec.{ltb}
-use lib.ListN.{length, drop}
+use lib.ListN.{drop}
 use lib.IntN.{ℤ, nat_abs, ◌-ℤ◌}
 use lib.Signed.{lt_z}
 use mir.Syntax.{w64}
@@ -16,7 +16,7 @@ use Rattle.integers.proofs.Logic.{and_both}
 use Rattle.grid.specs.declared.Point.{Point}
 use Rattle.grid.specs.Limits.{limit, on_grid}
 use Rattle.grid.specs.Points.{at, on, origin, points}
-use Rattle.grid.specs.Domain.{count, Contour}
+use Rattle.grid.specs.Domain.{Contour}
 use Rattle.grid.proofs.PointLaws.{x-on, y-on, at_on, gap-in}
 use Rattle.grid.proofs.RowLaws.{points-more, points-done}
 use Rattle.picture.specs.declared.inner.frame.Extent.{Extent}

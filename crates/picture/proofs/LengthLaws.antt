@@ -1,5 +1,5 @@
 -- How long a picture can be.
-use mathlib.Core.Path.{◌≡◌, refl, sym, ◌∙◌, ap}
+use mathlib.Core.Path.{◌≡◌, refl, ◌∙◌, ap}
 use mathlib.Core.Bool.{Bool, true, false}
 use mathlib.Core.List.{List, [], ◌∷◌, ◌++◌}
 use Prim.Native.Nat.{ℕ, suc, ◌+◌, ◌*◌, ◌/◌, ◌≤◌}
@@ -11,7 +11,7 @@ use lib.IntN.ℤ.{pos, negsuc}
 use Rattle.buffer.specs.Sets.{joined}
 use Rattle.buffer.proofs.SetLaws.{joined-append}
 use Rattle.setfile.specs.Promises.{Filled}
-use Rattle.report.specs.Text.{decimal, space, line_end, signed}
+use Rattle.report.specs.Text.{decimal, space, signed}
 use Rattle.report.proofs.TextLaws.{decimal_short}
 use Rattle.grid.specs.declared.Point.{Point}
 use Rattle.vertices.specs.Vertices.{Vertex, vertices, dot, dot_if, dots}
@@ -21,7 +21,6 @@ use Rattle.picture.specs.declared.inner.frame.Sizes.{Sizes}
 use Rattle.picture.specs.Names.{svg, style, g, path, text, xmlns, view_box, transform, font_size, class, d, y, namespace, from_zero, translate, flipped, closed, in_micrometres, removed, kept, scale, from_here, below, tenth, hundredth, thousandth, mm, look}
 use Rattle.picture.specs.Frame.{to_origin, bar, label}
 use Rattle.picture.specs.inside.Parts.{before_view, before_placing, ended, offset, opening, before_scaling, before_letters, before_bar, before_label, behind_label, closing, before_removed, before_kept, left}
-use Rattle.picture.specs.Markup.{attribute, lone}
 use Rattle.picture.specs.Picture.{coordinate, coordinates, outline, outlines, shape, shapes, all_spots}
 use Rattle.picture.proofs.PartLaws.{spot_words}
 

@@ -6,7 +6,7 @@ use Prim.Native.Nat.{ℕ, zero, suc}
 use native.Mathlib.Omega.{arith}
 use lib.IntN.{ℤ}
 use Rattle.buffer.specs.Sets.{joined}
-use Rattle.setfile.specs.Entries.{Entry, contours_of, shapes_of, Parsed, read_contours}
+use Rattle.setfile.specs.Entries.{Entry, contours_of, Parsed, read_contours}
 use Rattle.setfile.specs.Entries.Parsed.{carries, damaged}
 use Rattle.setfile.specs.Layouts.{contours_in, promised}
 use Rattle.setfile.specs.Editions.{layout, is_second, head_damage, parsed}

@@ -17,8 +17,8 @@ use Rattle.report.specs.inside.Lines.{Put}
 use Rattle.report.proofs.PutLaws.{Going, going_none, going_room, going_more, going_all, going_same}
 use Rattle.vertices.proofs.AlongLaws.{Along, along_none, along-all, coming, here, along-met, along-more}
 use Rattle.picture.specs.Names.{path, d}
-use Rattle.picture.specs.Picture.{outline, outlines, shape, shapes, job_shapes}
-use Rattle.picture.specs.inside.Parts.{left, path_begun, before}
+use Rattle.picture.specs.Picture.{outline, outlines, shapes, job_shapes}
+use Rattle.picture.specs.inside.Parts.{left, before}
 
 -- what is due in a path that is begun: the contours that are its, its end, and the other shapes
 abbrev rest_text : List Entry → List ℕ

@@ -1,5 +1,6 @@
 // A job as a picture in SVG, from the bytes of its file: what the program `draw` writes.
 #![tactic(auto)]
+
 pub mod inner;
 
 // Room for the picture of any file.

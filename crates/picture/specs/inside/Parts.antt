@@ -1,5 +1,5 @@
 -- What the inner functions say to each other.
-use Rattle.std.specs.Prelude.{◌≡◌, Bool, true, false, List, [], ◌∷◌, ◌++◌, ℕ, zero, suc, ◌+◌, ◌*◌, ◌≤◌, length, ℤ}
+use Rattle.std.specs.Prelude.{◌≡◌, Bool, true, false, List, [], ◌∷◌, ◌++◌, ℕ, zero, suc, ◌+◌, ◌*◌, ◌≤◌, ℤ}
 use Rattle.grid.specs.Limits.{limit}
 use Rattle.grid.specs.Points.{on}
 use Rattle.grid.specs.Domain.{count, Contour}

@@ -1,0 +1,25 @@
+-- `picture::inner::frame::sizes_of` meets its contract.
+use mathlib.Core.Path.{sym, ◌∙◌, ap, ap₂, subst}
+use Prim.Native.Nat.{ℕ}
+use lib.IntN.{nat_abs}
+use Rattle.grid.specs.declared.Edge.{Edge}
+use Rattle.grid.specs.Limits.{limit}
+use Rattle.grid.proofs.PointLaws.{x-on, y-on}
+use Rattle.picture.specs.Frame.{sizes_by}
+use Rattle.picture.specs.inside.Parts.{Small}
+use Rattle.picture.proofs.ExtentLaws.{apart_back, sizes_small}
+use Rattle.picture.proofs.inner.frame.sizes_of.Goals as goal
+
+-- src/inner/frame.rt:100:1
+pub returns : goal.returns
+returns c =
+    let k = c.requires in
+    let w =
+    c.magnitude-width.ensures
+    ∙ ap nat_abs (apart_back _ _ _ (x-on limit _ k.0) (x-on limit _ k.1) (ap (λ (u : Edge). u.dx) c.between-across.ensures)) in
+    let h =
+    c.magnitude-height.ensures
+    ∙ ap nat_abs (apart_back _ _ _ (y-on limit _ k.0) (y-on limit _ k.1) (ap (λ (u : Edge). u.dy) c.between-across.ensures)) in
+    let is =
+    ap (λ (l : ℕ). record { width = c.magnitude-width.result; height = c.magnitude-height.result; letter = l }) c.letter.ensures ∙ ap₂ sizes_by w h in
+    (is, subst Small (sym is) (sizes_small c.args.e k))
