@@ -1,7 +1,8 @@
 // Reads a damaged set file on standard input, writes what is sound of it on standard output, and what was lost, in words, on standard error.
 #![tactic(auto)]
-use std::io;
+
 use account::{BYTES, TEXT};
+use std::io;
 
 // One byte past the most that a file has, so that a longer one is told from it.
 const READ: usize = 65537;
