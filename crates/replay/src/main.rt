@@ -4,6 +4,7 @@
 // may be sound or not. A list that is damaged is replayed up to the first byte that cannot stand where it does, and
 // that place is written.
 #![tactic(auto)]
+
 mod answering;
 mod list;
 
