@@ -12,7 +12,7 @@ use borrow.Author.Tests.{le-ltb, lt-leb, ne_eqb}
 use Rattle.setfile.specs.Entries.{Entry}
 use Rattle.setfile.specs.Writing.{most_contours}
 use Rattle.setfile.specs.Promises.{Each}
-use Rattle.report.specs.Text.{space, signed, line_end}
+use Rattle.report.specs.Text.{signed, line_end}
 use Rattle.jobtext.specs.Text.{word, numbers, line}
 use Rattle.jobread.specs.declared.Place.TheVariants.{Start, Word, Space, Number}
 use Rattle.jobread.specs.declared.Reader.{Reader}
