@@ -1,5 +1,6 @@
 // A job cleaned: the file of its cleaned shapes, and a line for each contour that went.
 #![tactic(auto)]
+
 pub mod inner;
 
 // The most bytes of a file.
