@@ -2,7 +2,6 @@
 use mathlib.Core.Path.{◌≡◌, refl}
 use mathlib.Core.Bool.{xor}
 use mathlib.Core.List.{List, [], ◌∷◌, ◌++◌}
-use Prim.Native.Nat.{ℕ}
 use lib.IntN.{ℤ, pos, negsuc}
 use Rattle.replies.specs.Ladder.{first_of}
 use Rattle.grid.specs.Limits.{limit, most, on_grid, all_on_grid}
@@ -23,9 +22,9 @@ use Rattle.sets.specs.Verdicts.{every}
 use Rattle.sets.specs.Fates.{fate}
 use Rattle.sets.specs.Contains.{has}
 use Rattle.sifting.specs.Cleaned.{cleaned}
-use Rattle.shift.specs.Steps.{read, Read, items, shift}
-use Rattle.shift.specs.Steps.Read.{a_step, no_step}
-use Rattle.shift.specs.Replay.{replay, Replay, State}
+use Rattle.shift.specs.Steps.{read, items, shift}
+use Rattle.shift.specs.Steps.Read.{no_step}
+use Rattle.shift.specs.Replay.{replay, Replay}
 use Rattle.shift.specs.Outcome.{answer, plain}
 use Rattle.shift.specs.declared.Replayed.{Replayed}
 

@@ -1,17 +1,16 @@
 -- Requests that are done on rows.
 use mathlib.Core.Path.{◌≡◌, refl, sym, ◌∙◌, ap, ap₂, subst}
-use mathlib.Core.Bool.{Bool, true, false, not, ◌&&◌}
+use mathlib.Core.Bool.{Bool, true, false, ◌&&◌}
 use mathlib.Core.List.{List, [], ◌∷◌, ◌++◌, map}
-use Prim.Native.Nat.{ℕ, zero, suc, ◌+◌, ◌-◌, ◌*◌, ◌%◌, ◌≤◌, ◌<◌}
+use Prim.Native.Nat.{ℕ, zero, suc, ◌+◌, ◌-◌, ◌*◌, ◌≤◌, ◌<◌}
 use native.Mathlib.Omega.{arith}
 use lib.Dec.{leb, eqb}
-use lib.ListN.{length, get_or, take, drop, length-append, length-drop}
+use lib.ListN.{length, get_or, take, drop, length-drop}
 use lib.Seq.{split_at, get_or-drop}
 use lib.IntN.{ℤ}
-use borrow.Author.Tests.{not-false, leb-true, le-leb, ltb-false, eqb-false, eq-eqb, ne_eqb}
+use borrow.Author.Tests.{leb-true, eq-eqb, ne_eqb}
 use Rattle.integers.proofs.Logic.{and_left, and_right}
 use Rattle.replies.specs.Ladder.{Rung, first_of}
-use Rattle.replies.proofs.LadderLaws.{clear}
 use Rattle.rows.specs.Rows.{front}
 use Rattle.rows.proofs.RowLaws.{front_length}
 use Rattle.grid.specs.Limits.{limit}
@@ -24,33 +23,32 @@ use Rattle.sets.specs.Contains.{has as has-point}
 use Rattle.sifting.specs.inside.Sifting.{InPlace}
 use Rattle.shift.specs.inside.Asking.{has_from, shape_from, Askable}
 use Rattle.ring.specs.declared.Rule.{Rule}
-use Rattle.pool.specs.Lists.{Entry, entry, capacity, holding, held, if_so, own, other, has, added, removed, Every, Even, Fair}
+use Rattle.pool.specs.Lists.{Entry, entry, capacity, holding, held, if_so, own, other, has, removed, Every, Even, Fair}
 use Rattle.pool.specs.Calls.{Call, refusals, done, unless}
 use Rattle.pool.specs.Calls as Calls
 use Rattle.pool.specs.Calls.Call.{add, remove}
 use Rattle.pool.specs.Promises.{Fit}
 use Rattle.pool.specs.Rows.{Slot, slot, span_of, Lent, lent, used, named, numbers, slots_from, slot_at, contents, laid_out, sound}
 use Rattle.pool.specs.Outcome.{Outcome, outcome, leaving, number, enough, refused, called, own_slots}
-use Rattle.pool.specs.inside.Records.{total, press_at, Lies, Newest}
+use Rattle.pool.specs.inside.Records.{total, Lies, Newest}
 use Rattle.pool.specs.inside.Surveys.{Surveyed, share_of, with_more}
 use Rattle.pool.specs.declared.inner.survey.Survey.{Survey}
-use Rattle.pool.proofs.ListLaws.{every_append, every_removed, own-append, held-append, total-append, total_held, length_held, held_both, removed_is}
-use Rattle.pool.proofs.FairLaws.{held_all, unless_either}
+use Rattle.pool.proofs.ListLaws.{every_removed, own-append, held-append, total-append, total_held, length_held, held_both, removed_is}
+use Rattle.pool.proofs.FairLaws.{held_all}
 use Rattle.pool.proofs.LayoutLaws.{slots_length, numbers-length, contours_are, slot_is, slot_at_is, press-is}
-use Rattle.pool.proofs.SoundLaws.{sound-lies, sound-fair, sound-tools, read_own}
-use Rattle.pool.proofs.CallLaws.{outcome_reply, all_held, shares-small, records_there, remove-none}
+use Rattle.pool.proofs.SoundLaws.{sound-lies, sound-fair, sound-tooled, read_own}
+use Rattle.pool.proofs.CallLaws.{all_held, shares-small, records_there, remove-none}
 use Rattle.pool.proofs.RowTheorems.{read_laid, sound_laid, called-told, called-list, called-sound, called-enough, surveyed-more}
 use Rattle.shift.specs.Steps.{Request}
 use Rattle.shift.specs.Steps.Request.{adds, removes, cleans, asks}
 use Rattle.shift.specs.States.{telling, shape, yes_or_no, asked, told, after}
 use Rattle.sifting.specs.Cleaned.{cleaned}
-use Rattle.sifting.specs.inside.Cleaning.{field, InDomain, Run}
+use Rattle.sifting.specs.inside.Cleaning.{field, InDomain}
 use Rattle.shift.specs.inside.Doing.{Held, Did, with_less}
 use Rattle.shift.specs.declared.inner.doing.Done.{Done}
-use Rattle.sifting.specs.declared.inner.cleaning.Progress.{Progress}
 use Rattle.shift.proofs.Theorems.{the_pool_stays_in_the_domain}
 use Rattle.sifting.proofs.GoingLaws.{own_held, all_long, domain_parts, total_parts, this_is, slot_there}
-use Rattle.sifting.proofs.CleanedLaws.{lessened, cleaned-in-domain, cleaned-tools, cleaned-fair, domain_even}
+use Rattle.sifting.proofs.CleanedLaws.{cleaned-in-domain, cleaned-tools, cleaned-fair, domain_even}
 
 -- every number of a ladder is small
 abbrev Small : List Rung → Type 0
@@ -207,7 +205,7 @@ module _ (s : Lent) (f : Survey) (h : Held s f) where
           pool_is = again;
           held = record {
             surveyed = record {
-              sound_is = sym (ap sound e ∙ sound_laid left s left-fair left-even (cleaned-tools rule pool (sound-tools s is_sound)));
+              sound_is = sym (ap sound e ∙ sound_laid left s left-fair left-even (cleaned-tools rule pool (sound-tooled s is_sound)));
               points_are = λ z. a ∙ ap total (sym again);
               first_holds = λ z. omega (arith, b, c, held_both left left-fair.pressed, ap (λ (l : List Entry). held (own 0 l)) again);
               second_holds = λ z. c ∙ ap (λ (l : List Entry). held (own 1 l)) (sym again);

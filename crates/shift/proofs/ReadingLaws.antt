@@ -14,7 +14,7 @@ use mir.Val.{SFits, of_z, to_z}
 use mir.Facts.{to_z-of_z, to_z_pos}
 use borrow.Author.Tests.{leb-true, lt-leb, ne_eqb}
 use Rattle.integers.specs.Equal.{eq_z}
-use Rattle.shift.specs.Steps.{Step, Read, at, adding, removing, cleaning, asking, pressed, second, if_so, whole, of_kind}
+use Rattle.shift.specs.Steps.{Step, at, adding, removing, cleaning, asking, pressed, second, if_so, whole, of_kind}
 use Rattle.shift.specs.Steps.Read.{a_step, no_step}
 use Rattle.shift.specs.declared.inner.reading.Head.{Head}
 use Rattle.shift.specs.inside.Heads.{Bits, head, headless, head_if, step_of, size_of, HeadsAs, Heads, WithPress}

@@ -2,8 +2,7 @@
 use mathlib.Core.Bool.{Bool, true, false, ◌&&◌}
 use mathlib.Core.List.{List, [], ◌∷◌}
 use Prim.Native.Nat.{ℕ, ◌+◌}
-use lib.ListN.{length}
-use lib.IntN.{ℤ, pos}
+use lib.IntN.{pos}
 use Rattle.integers.specs.Equal.{eq_z}
 use Rattle.pool.specs.Lists.{Entry}
 use Rattle.pool.specs.Rows.{Lent, laid_out}

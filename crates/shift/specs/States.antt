@@ -4,9 +4,7 @@ use mathlib.Core.List.{List, map}
 use Prim.Native.Nat.{ℕ}
 use lib.IntN.{ℤ}
 use Rattle.grid.specs.Limits.{limit}
-use Rattle.grid.specs.declared.Point.{Point}
 use Rattle.grid.specs.Points.{on}
-use Rattle.ring.specs.declared.Rule.{Rule}
 use Rattle.pool.specs.Lists.{Entry, own}
 use Rattle.pool.specs.Calls as Calls
 use Rattle.pool.specs.Calls.Call.{add, remove}

@@ -1,5 +1,6 @@
 // A recorded shift of the cutter, replayed over a fresh pool up to the first step that differs.
 #![tactic(auto)]
+
 pub mod inner;
 
 // The answer of a replay: its reply number, whether a step differs, how many agree before it, the place of its first number, or of what is no step; what was recorded of it and what is told now, and how many contours the pool then holds.

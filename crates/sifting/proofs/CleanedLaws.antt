@@ -2,22 +2,22 @@
 use mathlib.Core.Path.{◌≡◌, refl, sym, ◌∙◌, ap, subst}
 use mathlib.Core.Bool.{Bool, true, false}
 use mathlib.Core.List.{List, [], ◌∷◌, ◌++◌}
-use Prim.Native.Nat.{ℕ, zero, suc, ◌+◌, ◌-◌, ◌*◌, ◌≤◌, ◌<◌, max}
+use Prim.Native.Nat.{ℕ, ◌+◌, ◌*◌, ◌≤◌}
 use native.Mathlib.Omega.{arith}
 use lib.Dec.{eqb}
 use lib.ListN.{length}
-use lib.IntN.{ℤ, pos}
+use lib.IntN.{ℤ}
 use Rattle.integers.proofs.Logic.{and_both}
 use Rattle.grid.specs.Limits.{limit, all_on_grid}
 use Rattle.grid.specs.Points.{points}
-use Rattle.grid.specs.Domain.{count, Contour}
+use Rattle.grid.specs.Domain.{count}
 use Rattle.grid.proofs.LimitLaws.{all-on-grid-at}
 use Rattle.ring.specs.declared.Rule.{Rule}
 use Rattle.ring.specs.Walk.{Tally, End}
 use Rattle.ring.specs.Walk.End.{kept, collapsed}
 use Rattle.clean.specs.Outcome.{chosen, walked}
 use Rattle.clean.specs.Verdicts.{passes}
-use Rattle.pool.specs.Lists.{Entry, entry, capacity, reserve, holding, held, if_so, own, Every, Pressed, HasTool, Even, Fair}
+use Rattle.pool.specs.Lists.{Entry, entry, held, if_so, own, Every, Pressed, Tooled, Even, Fair}
 use Rattle.pool.specs.inside.Records.{total}
 use Rattle.sets.specs.Fates.{Fate, walk_fate, fate, none_counted}
 use Rattle.sets.specs.Fates.Fate.{stays, gone}
@@ -139,8 +139,8 @@ module _ (rule : Rule) (l : List Entry) where
   pub cleaned-in-domain : Every InDomain l → Every InDomain (cleaned rule l).pool
   cleaned-in-domain = every-cleaned rule InDomain (kept_in_domain rule) l
 
-  pub cleaned-tools : Every HasTool l → Every HasTool (cleaned rule l).pool
-  cleaned-tools = every-cleaned rule HasTool (λ e c t h q. h) l
+  pub cleaned-tools : Every Tooled l → Every Tooled (cleaned rule l).pool
+  cleaned-tools = every-cleaned rule Tooled (λ e c t h q. h) l
 
   pub cleaned-fair : Every InDomain l → Fair l → Fair (cleaned rule l).pool
   cleaned-fair d f =

@@ -1,5 +1,5 @@
 -- The rows while a pool is cleaned where it lies.
-use mathlib.Core.Path.{◌≡◌, refl, sym, ◌∙◌, ap, ap₂, subst}
+use mathlib.Core.Path.{◌≡◌, refl, sym, ◌∙◌, ap, subst}
 use mathlib.Core.Bool.{Bool, true, false}
 use mathlib.Core.List.{List, [], ◌∷◌, ◌++◌, append-nil}
 use Prim.Native.Nat.{ℕ, zero, suc, ◌+◌, ◌-◌, ◌*◌, ◌≤◌, ◌<◌}
@@ -9,13 +9,13 @@ use lib.Dec.{eqb}
 use lib.ListN.{length, get_or, set, take, drop, length-append, length-map, length-set}
 use lib.Seq.{take-suc, take_all, split_at, drop-append-add, drop-drop, get_or-append-add, get_or-drop, get_or-take, length-take-le}
 use lib.IntN.{ℤ}
-use Rattle.rows.specs.Rows.{front, placed}
+use Rattle.rows.specs.Rows.{front}
 use Rattle.rows.proofs.PlacedLaws.{placed-long}
 use Rattle.grid.specs.Domain.{count, Contour}
 use Rattle.ring.specs.declared.Rule.{Rule}
 use Rattle.buffer.specs.Sets.{joined}
 use Rattle.buffer.proofs.ListLaws.{map_at}
-use Rattle.pool.specs.Lists.{Entry, entry, capacity, holding, held, if_so, own, added, Every, Pressed, Even, Fair}
+use Rattle.pool.specs.Lists.{Entry, entry, capacity, holding, held, if_so, own, Every, Pressed, Even, Fair}
 use Rattle.pool.specs.Rows.{Slot, slot, slots, Lent, lent, used, named, numbers, slots_from, slot_at, contents, laid_out}
 use Rattle.pool.specs.inside.Records.{total, Lies}
 use Rattle.pool.proofs.ListLaws.{every_append, every-split, held-append, total-append, total_held}
@@ -30,7 +30,7 @@ use Rattle.sifting.specs.declared.inner.sifting.Kept.{Kept}
 use Rattle.sifting.specs.declared.inner.cleaning.Progress.{Progress}
 use Rattle.sifting.specs.inside.Sifting.{lying, kept_of, row_of}
 use Rattle.sifting.specs.inside.Cleaning.{Noted, noted, with_one, with_none, record_behind, noting, Notable, Going, going, field, contour_at, placing, Next, InDomain, Run}
-use Rattle.sifting.proofs.CleanedLaws.{both, cleaned-append, cleaned_one, cleaned_only, Fewer, Lessened, lessened, cleaned-in-domain, domain_even}
+use Rattle.sifting.proofs.CleanedLaws.{both, cleaned-append, cleaned_one, cleaned_only, Lessened, lessened, cleaned-in-domain, domain_even}
 
 -- what stands behind the front of a row
 module _ {A : Type 0} (a row : List A) where

@@ -1,18 +1,18 @@
 -- A contour that is cleaned where it lies, and moved down.
-use mathlib.Core.Path.{◌≡◌, refl, sym, ◌∙◌, ap, ap₂, subst}
-use mathlib.Core.Bool.{Bool, true, false}
+use mathlib.Core.Path.{◌≡◌, refl, sym, ◌∙◌, ap, ap₂}
+use mathlib.Core.Bool.{true, false}
 use mathlib.Core.List.{List, [], ◌∷◌, ◌++◌, append_assoc}
-use Prim.Native.Nat.{ℕ, zero, suc, ◌+◌, ◌-◌, ◌*◌, ◌≤◌, ◌<◌}
+use Prim.Native.Nat.{ℕ, suc, ◌+◌, ◌-◌, ◌*◌, ◌≤◌, ◌<◌}
 use native.Mathlib.Omega.{arith}
 use lib.ListN.{length, get_or, set, take, drop, length-append, length-drop, take-append-drop}
-use lib.Seq.{length-take-le, get_or-drop, get_or-take, drop_at, drop-drop, set-append_left, get_or-append-add}
+use lib.Seq.{length-take-le, get_or-drop, get_or-take, drop-drop, get_or-append-add}
 use lib.IntN.{ℤ, pos}
-use Rattle.rows.specs.Rows.{front, placed}
+use Rattle.rows.specs.Rows.{placed}
 use Rattle.grid.specs.Points.{points}
-use Rattle.grid.specs.Domain.{count, Contour}
+use Rattle.grid.specs.Domain.{count}
 use Rattle.ring.specs.declared.Rule.{Rule}
 use Rattle.ring.specs.declared.Ending.{Ending}
-use Rattle.ring.specs.Walk.{End, survivors, tally, ending, walk}
+use Rattle.ring.specs.Walk.{survivors, tally, ending, walk}
 use Rattle.ring.specs.Walk.End.{kept, collapsed}
 use Rattle.ring.specs.Rule.{goes}
 use Rattle.ring.specs.inside.Rows.{turns_of, ended_as, Ended}

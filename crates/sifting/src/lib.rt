@@ -1,3 +1,4 @@
 // The contours of a pool, cleaned where they lie. What does it asks that the rows hold a pool.
 #![tactic(auto)]
+
 pub mod inner;

@@ -8,10 +8,10 @@ use lib.IntN.{ℤ}
 use Rattle.rows.specs.Rows.{placed}
 use Rattle.grid.specs.Domain.{count, Contour}
 use Rattle.ring.specs.declared.Rule.{Rule}
-use Rattle.pool.specs.Lists.{Entry, capacity, holding, held, own, Every, HasTool, Fair}
+use Rattle.pool.specs.Lists.{Entry, capacity, holding, held, own, Every, Fair}
 use Rattle.pool.specs.Rows.{lent, laid_out, contents}
 use Rattle.pool.specs.inside.Records.{total, Lies}
-use Rattle.sets.specs.Fates.{Fate, fate}
+use Rattle.sets.specs.Fates.{Fate}
 use Rattle.sets.specs.Fates.Fate.{stays, gone}
 use Rattle.sifting.specs.Cleaned.{cleaned}
 use Rattle.sifting.specs.declared.inner.sifting.Kept.{Kept}
