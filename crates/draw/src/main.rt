@@ -1,11 +1,12 @@
 // Reads a set file on standard input, and writes its picture on standard output.
 #![tactic(auto)]
+
 ghost use Rattle.std.specs.Prelude.{◌≤◌, length};
 ghost use Rattle.picture.specs.Picture.{picture as picture-of};
 
-use std::io;
 use picture::TEXT;
 use picture::inner::drawing;
+use std::io;
 
 // One byte past the most that a file has, so that a longer one is told from it.
 const BYTES: usize = 65537;
