@@ -1,5 +1,4 @@
 -- `tidy::inner::lines::put` meets its contract: the lines that are left are put from where the loop has come to.
-use Prim.Native.Nat.{◌-◌}
 use native.Mathlib.Omega.{arith}
 use Rattle.buffer.proofs.PartLaws.{same_numbers}
 use Rattle.sets.proofs.BehindLaws.{named-contour}
