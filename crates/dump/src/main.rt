@@ -1,8 +1,9 @@
 // Reads a set file on standard input, and writes its job as text.
 #![tactic(auto)]
-use std::io;
+
 use jobtext::TEXT;
 use jobtext::inner::dumping;
+use std::io;
 
 // One byte past the most that a file has, so that a longer one is told from it.
 const BYTES: usize = 65537;

@@ -26,11 +26,11 @@ told_4 c = record { own = c.is_second-second.ensures; judgement = c.judge-file.e
 
 -- and its text has room
 roomy : (c : goal.After-struct_known-then-file-ne0-1) → length (dumped c.args.bytes.now) ≤ length c.args.text.now
-roomy c = omega (arith, dumped_short c.args.bytes.now (λ i h. (c.shared_slice_known-1.given i).fits), c.requires)
+roomy c = omega (arith, dumped_short c.args.bytes.now (λ i h. (c.type_inv.bytes i).fits), c.requires)
 
 -- and its text has room
 roomy_2 : (c : goal.After-put-arg-1) → length (dumped c.args.bytes.now) ≤ length c.args.text.now
-roomy_2 c = omega (arith, dumped_short c.args.bytes.now (λ i h. (c.shared_slice_known-1.given i).fits), c.requires)
+roomy_2 c = omega (arith, dumped_short c.args.bytes.now (λ i h. (c.type_inv.bytes i).fits), c.requires)
 
 pub put_line-requires : goal.put_line-requires
 put_line-requires c =

@@ -52,7 +52,7 @@ done_7 : (c : goal.After-slice_known-4-1) →
 done_7 c = record { has = record { numbers = length-replicate 16384 (pos 0); contours = ranges_room; shapes = ranges_room }; is = c.read-read.ensures }
 
 bytes_of : (c : goal.After-tidy_set-arg-2-1) → Bytes c.args.bytes.now
-bytes_of c = λ i h. (c.shared_slice_known-1.given i).fits
+bytes_of c = λ i h. (c.type_inv.bytes i).fits
 
 pub returns-then-read-ne0 : goal.returns-then-read-ne0
 unfolding tidying
