@@ -1,8 +1,9 @@
 // Reads a job's text on standard input, and writes its file on standard output, or on standard error why there is none.
 #![tactic(auto)]
-use std::io;
+
 use jobpack::inner::packing;
 use jobpack::{BYTES, WORDS};
+use std::io;
 
 // One byte past the longest text, so that a longer one is told from it.
 const READ: usize = 1597445;
