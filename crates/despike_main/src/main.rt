@@ -1,7 +1,8 @@
 // Reads a set file on standard input, writes the file of its shapes without their spikes on standard output, and on standard error what went.
 #![tactic(auto)]
-use std::io;
+
 use ring::Rule;
+use std::io;
 use tidy::{BYTES, TEXT};
 
 // One byte past the most that a file has, so that a longer one is told from it.
