@@ -15,7 +15,7 @@ use Rattle.ring.specs.declared.Rule.TheVariants.{Collinear, Spike}
 use Rattle.ring.specs.Walk.{survivors_from, others, successor, predecessor, occurrences, unmark, unmark_about, remove, decide, look, looks, walk}
 use Rattle.ring.specs.Rule.{goes_at}
 use Rattle.clean.specs.Outcome.{chosen, lent}
-use Rattle.buffer.specs.Records.{sound-records-from}
+use Rattle.buffer.specs.Spans.{sound_from}
 use Rattle.figures.specs.declared.answer.Figures.{Figures}
 use Rattle.figures.specs.Halves.{high, low}
 use Rattle.figures.specs.Entries.{entry, contour_entry, Found, all_entries}
@@ -92,22 +92,22 @@ abbrev seven : ℕ → List ℤ
 seven n = row (replicate n 7)
 
 -- two contours in rows: the kept one's points stand in front of the output, and the scratch of all points is zeroed
-in_rows : add_outcome (told 1 0 0 3 3 3 (negsuc 0) 4294967280) Collinear (W4 ++ W2) ((0 ∷ 5 ∷ 1 ∷ []) ∷ (5 ∷ 8 ∷ 2 ∷ []) ∷ [])
+in_rows : add_outcome (told 1 0 0 3 3 3 (negsuc 0) 4294967280) Collinear (W4 ++ W2) ((0 ∷ 5 ∷ []) ∷ (5 ∷ 8 ∷ []) ∷ [])
     (lent (replicate 9 7) (replicate 8 7) (replicate 8 7) (seven 16))
     ≡ leaving (added 0 (told 2 1 0 11 7 10 (pos 0) 16))
     (lent (0 ∷ 0 ∷ 0 ∷ 0 ∷ 0 ∷ 0 ∷ 0 ∷ 0 ∷ 7 ∷ []) (replicate 8 0) (replicate 8 0) (row (0 ∷ 0 ∷ 4 ∷ 0 ∷ 4 ∷ 4 ∷ 0 ∷ 4 ∷ []) ++ seven 8))
-unfolding survivors_from others successor predecessor occurrences unmark unmark_about remove decide look looks walk goes_at points cross dot around exact wrapped mod64 limit most on_grid all_on_grid first_of sound-records-from chosen high low tally sum_of areas figures_of total added_up sum possible fits outputs add_outcome
+unfolding survivors_from others successor predecessor occurrences unmark unmark_about remove decide look looks walk goes_at points cross dot around exact wrapped mod64 limit most on_grid all_on_grid first_of sound_from chosen high low tally sum_of areas figures_of total added_up sum possible fits outputs add_outcome
 in_rows = refl
 
 -- ranges that are not sound count under 6; short scratch under 4, a short output under 5; a set that would be too many is 21, refused or not, and one of no contours never
 counted-once :
-    (add_outcome (told 1 0 0 3 3 3 (pos 0) 0) Collinear W4 ((0 ∷ 4 ∷ 0 ∷ []) ∷ []) (lent [] [] [] []) ≡ leaving (added 0 (told 1 0 1 3 3 3 (pos 0) 0)) (lent [] [] [] []))
-    × (add_outcome (told 65535 0 0 0 0 0 (pos 0) 0) Collinear W4 ((0 ∷ 4 ∷ 0 ∷ []) ∷ []) (lent [] [] [] []) ≡ leaving (added 21 (told 65535 0 0 0 0 0 (pos 0) 0)) (lent [] [] [] []))
-    × (add_outcome (told 65535 0 0 0 0 0 (pos 0) 0) Collinear [] ((0 ∷ 0 ∷ 0 ∷ []) ∷ []) (lent [] [] [] []) ≡ leaving (added 21 (told 65535 0 0 0 0 0 (pos 0) 0)) (lent [] [] [] []))
+    (add_outcome (told 1 0 0 3 3 3 (pos 0) 0) Collinear W4 ((0 ∷ 4 ∷ []) ∷ []) (lent [] [] [] []) ≡ leaving (added 0 (told 1 0 1 3 3 3 (pos 0) 0)) (lent [] [] [] []))
+    × (add_outcome (told 65535 0 0 0 0 0 (pos 0) 0) Collinear W4 ((0 ∷ 4 ∷ []) ∷ []) (lent [] [] [] []) ≡ leaving (added 21 (told 65535 0 0 0 0 0 (pos 0) 0)) (lent [] [] [] []))
+    × (add_outcome (told 65535 0 0 0 0 0 (pos 0) 0) Collinear [] ((0 ∷ 0 ∷ []) ∷ []) (lent [] [] [] []) ≡ leaving (added 21 (told 65535 0 0 0 0 0 (pos 0) 0)) (lent [] [] [] []))
     × (add_outcome (told 65535 0 0 0 0 0 (pos 0) 0) Collinear [] [] (lent [] [] [] []) ≡ leaving (added 0 (told 65535 0 0 0 0 0 (pos 0) 0)) (lent [] [] [] []))
-    × ((add_outcome (told 0 0 0 0 0 0 (pos 0) 0) Collinear W2 ((0 ∷ 3 ∷ 0 ∷ []) ∷ []) (lent (replicate 3 7) (replicate 2 7) (replicate 3 7) (seven 6))).answer.figures.totals
+    × ((add_outcome (told 0 0 0 0 0 0 (pos 0) 0) Collinear W2 ((0 ∷ 3 ∷ []) ∷ []) (lent (replicate 3 7) (replicate 2 7) (replicate 3 7) (seven 6))).answer.figures.totals
     ≡ 0 ∷ 0 ∷ 0 ∷ 0 ∷ 1 ∷ replicate 17 0)
-    × ((add_outcome (told 0 0 0 0 0 0 (pos 0) 0) Collinear W2 ((0 ∷ 3 ∷ 0 ∷ []) ∷ []) (lent (replicate 3 7) (replicate 3 7) (replicate 3 7) (seven 5))).answer.figures.totals
+    × ((add_outcome (told 0 0 0 0 0 0 (pos 0) 0) Collinear W2 ((0 ∷ 3 ∷ []) ∷ []) (lent (replicate 3 7) (replicate 3 7) (replicate 3 7) (seven 5))).answer.figures.totals
     ≡ 0 ∷ 0 ∷ 0 ∷ 0 ∷ 0 ∷ 1 ∷ replicate 16 0)
-unfolding survivors_from others successor predecessor occurrences unmark unmark_about remove decide look looks walk goes_at points cross dot around exact wrapped mod64 limit most on_grid all_on_grid first_of sound-records-from chosen high low tally sum_of areas figures_of total added_up sum possible fits outputs add_outcome
+unfolding survivors_from others successor predecessor occurrences unmark unmark_about remove decide look looks walk goes_at points cross dot around exact wrapped mod64 limit most on_grid all_on_grid first_of sound_from chosen high low tally sum_of areas figures_of total added_up sum possible fits outputs add_outcome
 counted-once = (refl, refl, refl, refl, refl, refl)

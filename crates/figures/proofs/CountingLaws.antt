@@ -10,7 +10,6 @@ use lib.IntN.{ℤ}
 use Rattle.ring.specs.declared.Rule.{Rule}
 use Rattle.clean.specs.Outcome.{walked}
 use Rattle.buffer.specs.Spans.{span, spans}
-use Rattle.buffer.specs.Records.{records}
 use Rattle.buffer.specs.Sets.{contour, contours, pieces}
 use Rattle.buffer.proofs.PartLaws.{contours_at, part-long}
 use Rattle.sets.specs.inside.Contour.{Cleanable}
@@ -33,13 +32,13 @@ unfolding outputs
 outputs-append rule [] b out = refl
 outputs-append rule (c ∷ a) b out = outputs-append rule a b (written c (walked rule c).end out)
 
--- the contours that sound records name are of the domain, whatever their tools
-without_tools : (p : List ℤ) (l : List (List ℕ)) → S.Contours (pieces p (records l)) → Contours (contours p (spans l))
-without_tools p [] h = tt
-without_tools p (r ∷ l) h = (h.0, without_tools p l h.1)
+-- the contours that sound ranges name are of the domain
+each_contour : (p : List ℤ) (l : List (List ℕ)) → S.Contours (contours p (spans l)) → Contours (contours p (spans l))
+each_contour p [] h = tt
+each_contour p (r ∷ l) h = (h.0, each_contour p l h.1)
 
 pub all_contours : (p : List ℤ) (ranges : List (List ℕ)) → Named p ranges → Contours (contours p (spans ranges))
-all_contours p ranges n = without_tools p ranges (all_named p ranges n)
+all_contours p ranges n = each_contour p ranges (all_named p ranges n)
 
 module _ (rule : Rule) (p : List ℤ) (ranges : List (List ℕ)) (out₀ : List ℤ) where
   abbrev cs : List (List ℤ)

@@ -15,11 +15,9 @@ use Rattle.grid.specs.Limits.{limit}
 use Rattle.grid.specs.Domain.{count}
 use Rattle.ring.specs.declared.Rule.{Rule}
 use Rattle.clean.specs.Outcome.{scratch, Lent, lent}
-use Rattle.buffer.specs.Spans.{spans}
-use Rattle.buffer.specs.Records.{records, sound-records}
+use Rattle.buffer.specs.Spans.{spans, sound}
 use Rattle.buffer.specs.Sets.{contours}
 use Rattle.buffer.specs.Contours.{refusals}
-use Rattle.buffer.proofs.RecordLaws.{spans-sound}
 use Rattle.buffer.proofs.RefusalLaws.{accepted}
 use Rattle.sets.specs.inside.Contour.{Scratch}
 use Rattle.sets.specs.inside.Shape.{Named, Zeroed}
@@ -75,7 +73,7 @@ module _ (p : List ℤ) (ranges : List (List ℕ)) (l : Lent) where
     parts = cleared (refusals p ranges) (lacking p l) tt z
 
     pub set-named : Named p ranges
-    set-named = let a = accepted limit p (sound-records (records ranges) (count p)) parts.0 in accepted_named p ranges _ a (spans-sound ranges _ a.sound)
+    set-named = let a = accepted limit p (sound (spans ranges) (count p)) parts.0 in accepted_named p ranges _ a a.sound
 
     pub scratch-fits : Scratch (count p) l.next l.prev l.mark
     scratch-fits =

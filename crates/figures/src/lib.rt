@@ -1,5 +1,6 @@
 // The weekly figures: what any number of sets came to, up to 65,535 contours and refused sets in all.
 #![tactic(auto)]
+
 pub mod answer;
 pub mod inner;
 
@@ -58,7 +59,7 @@ fn add(
     f: Figures,
     rule: Rule,
     points: &[i32],
-    contours: &[[usize; 3]],
+    contours: &[[usize; 2]],
     next: &mut [u32],
     prev: &mut [u32],
     mark: &mut [u8],
@@ -100,7 +101,7 @@ fn add(
 pub fn add_simplified(
     f: Figures,
     points: &[i32],
-    contours: &[[usize; 3]],
+    contours: &[[usize; 2]],
     next: &mut [u32],
     prev: &mut [u32],
     mark: &mut [u8],
@@ -117,7 +118,7 @@ pub fn add_simplified(
 pub fn add_despiked(
     f: Figures,
     points: &[i32],
-    contours: &[[usize; 3]],
+    contours: &[[usize; 2]],
     next: &mut [u32],
     prev: &mut [u32],
     mark: &mut [u8],

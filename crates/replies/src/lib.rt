@@ -65,6 +65,8 @@ pub const FULL: u32 = 17;
 
 pub const NONE_LEFT: u32 = 18;
 
+pub const FIGURES_FULL: u32 = 21;
+
 // The answer to a question of yes or no: its reply number, and no where it is refused.
 #[repr(C)]
 #[derive(Clone, Copy)]

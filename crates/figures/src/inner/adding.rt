@@ -17,7 +17,7 @@ use ring::Rule;
 fn each(
     rule: Rule,
     points: &[i32],
-    contours: &[[usize; 3]],
+    contours: &[[usize; 2]],
     next: &mut [u32],
     prev: &mut [u32],
     mark: &mut [u8],
@@ -41,7 +41,7 @@ fn each(
 pub fn sweep(
     rule: Rule,
     points: &[i32],
-    contours: &[[usize; 3]],
+    contours: &[[usize; 2]],
     next: &mut [u32],
     prev: &mut [u32],
     mark: &mut [u8],
