@@ -41,7 +41,7 @@ def declared():
             if h:
                 kinds.setdefault(h.group(2), set()).add("type")
                 context = "part"
-            elif l.startswith("abbrev mutual"):
+            elif re.match(r"\s*(abbrev mutual|mutual|(pub )?module\b)", l):
                 context = "part"
             elif m and not l.strip().startswith("--"):
                 indent, _, name, of = m.groups()
@@ -50,7 +50,8 @@ def declared():
                     goal = of.split(" ")[0].startswith(("tie.", "goal."))
                     kinds.setdefault(name, set()).add("goal" if goal else "own")
                 elif context:
-                    kinds.setdefault(name, set()).add("own")
+                    goal = of.split(" ")[0].startswith(("tie.", "goal."))
+                    kinds.setdefault(name, set()).add("goal" if goal else "own")
     return {n for n, k in kinds.items() if k != {"goal"}}
 
 
@@ -81,14 +82,20 @@ def main():
         s = snake(n)
         if s != n:
             turned[n] = s
-    for old, new in turned.items():
+    for old, new in list(turned.items()):
         if new in own or new in kit or list(turned.values()).count(new) > 1:
-            print(f"falls together: {old} -> {new}")
+            print(f"falls together, and stays: {old} -> {new}")
+            del turned[old]
     token = re.compile(r"`[^`\n]*`|(?P<c>--[^\n]*|//[^\n]*)|(?P<s>\"(?:[^\"\\\n]|\\.)*\")|(?P<w>" + WORD.replace("+", "") + r"+)")
 
-    def turn(text, code):
+    # In answers and invariants a step's name, right behind `c.` or the like, is Rattle's own.
+    made = re.compile(r"(?:^|[\s(])(?:c|l|v|w|goal|goal\.at)\.$")
+
+    def turn(text, answers):
         def one(m):
             t = m.group(0)
+            if answers and made.search(text, max(0, m.start() - 12), m.start()):
+                return t
             if m.group("s"):
                 return t
             if m.group("c"):
@@ -99,9 +106,26 @@ def main():
 
         return token.sub(one, text)
 
+    def aliased(text, path):
+        """Names that a use line gives, within their own file."""
+        given = {}
+        for line in re.findall(r"(?:ghost )?use [^;\n{]*\{[^}]*\}", text):
+            for was, name in re.findall(r"(" + WORD + r") as (" + WORD + r")", line):
+                s = snake(name[0].lower() + name[1:] if "-" in name and was[0].islower() else name)
+                if s != name:
+                    given[name] = s
+        words = set(re.findall(WORD, text))
+        for name, s in sorted(given.items()):
+            if s in words:
+                print(f"falls together in {path}: {name} -> {s}")
+                continue
+            text = re.sub(r"(?<![^\s(){}.;,@\"«»\[\]\\])" + re.escape(name) + r"(?![^\s(){}.;,@\"«»\[\]\\])", s, text)
+        return text
+
     for p in files(".antt", ".rt", ".edit"):
         old = read(p)
-        new = turn(old, p.endswith(".rt"))
+        new = turn(old, p.endswith(("Answers.antt", "Invariants.antt")))
+        new = aliased(new, p)
         if new != old:
             with open(p, "w", encoding="utf-8", newline="") as f:
                 f.write(new)

@@ -37,8 +37,8 @@ module _ (f : List ℕ) where
   sized : Sized (length (drop 16 (bits f))) (promised f) (come f)
   sized = complete_sized (promised f) (drop 16 (bits f))
 
-  fates-few : length (fates_of f) ≤ 4095
-  fates-few = omega (arith, fates-length false (come f).contours, sized.number, promised_few f)
+  fates_few : length (fates_of f) ≤ 4095
+  fates_few = omega (arith, fates-length false (come f).contours, sized.number, promised_few f)
 
   counts-length : length f ≤ 65536 → length (counts (come f).missing ((come f).past / 8)) ≤ 45
   counts-length h =
@@ -54,12 +54,12 @@ module _ (f : List ℕ) where
       go (suc k) e = simp length-append (omega (arith, decimal_short (suc k)))
       go zero e =
           let h = ltb-false 65536 (length f) (clear (refusals f) tt e).0 in
-          omega (arith, length-append (lines (dropped_of f)) (counts (come f).missing ((come f).past / 8)), lines-length 0 (fates_of f) (omega (arith, fates-few)), fates-few, counts-length h)
+          omega (arith, length-append (lines (dropped_of f)) (counts (come f).missing ((come f).past / 8)), lines-length 0 (fates_of f) (omega (arith, fates_few)), fates_few, counts-length h)
 
 -- what is answered where there is room for any file
 module _ (f out : List ℕ) (list : List (List ℕ)) (out_room : 65536 ≤ length out) (list_room : 4095 ≤ length list) where
-  always-room : first_of (S.refusals f out list) ≡ first_of (refusals f)
-  always-room =
+  always_room : first_of (S.refusals f out list) ≡ first_of (refusals f)
+  always_room =
       same_below (ltb 65536 (length f)) 2 _ (bad_head f)
       (λ e.
       let n = ltb-false 65536 (length f) e in
@@ -76,7 +76,7 @@ pub record InRoom (f out text : List ℕ) (list : List (List ℕ)) (r : Salvaged
 module _ {f out text : List ℕ} {list : List (List ℕ)} {r : Salvaged} {out' : List ℕ} {list' : List (List ℕ)} (done : InRoom f out text list r out' list') where
   answered_as : (k : ℕ) → first_of (refusals f) ≡ k → S.leaving r out' list' ≡ answered k f out list
   unfolding S.outcome
-  answered_as k e = done.is ∙ ap (λ (n : ℕ). answered n f out list) (always-room f out list done.out_room done.list_room ∙ e)
+  answered_as k e = done.is ∙ ap (λ (n : ℕ). answered n f out list) (always_room f out list done.out_room done.list_room ∙ e)
 
   reply_is : r.reply ≡ first_of (refusals f)
   reply_is = go (first_of (refusals f)) refl
@@ -152,7 +152,7 @@ module _ {f out text : List ℕ} {list : List (List ℕ)} {r : Salvaged} {out' :
     counts_are = ap (λ (s : Salvaged). counts s.missing s.past) answer_is
 
     pub listed_numbers : Numbers (take r.dropped list')
-    listed_numbers = rw list_is (numbers 0 (fates_of f) (omega (arith, fates-few f)))
+    listed_numbers = rw list_is (numbers 0 (fates_of f) (omega (arith, fates_few f)))
 
     said : account f ≡ lines (take r.dropped list') ++ counts r.missing r.past
     said = account_is ∙ ap₂ (λ (l m : List ℕ). l ++ m) (ap lines (sym list_is)) (sym counts_are)

@@ -75,19 +75,19 @@ module _ {list : List (List ℕ)} {text₀ : List ℕ} {behind : ℕ} {text : Li
     abbrev next : List ℕ
     next = line (get_or (get_or list i []) 0 0 + 1) (get_or (get_or list i []) 1 0)
 
-    telling-next : Going 0 (lines list) text₀ behind text (next ∷ lines (drop (i + 1) list) ∷ [])
+    telling_next : Going 0 (lines list) text₀ behind text (next ∷ lines (drop (i + 1) list) ∷ [])
     unfolding joined lines
-    telling-next = going_same _ (rw (add-one i, drop-cons list i [] h) (simp append_assoc)) x.going
+    telling_next = going_same _ (rw (add-one i, drop-cons list i [] h) (simp append_assoc)) x.going
 
-    pub telling-room : behind + length next ≤ length text
-    telling-room = going_room telling-next
+    pub telling_room : behind + length next ≤ length text
+    telling_room = going_room telling_next
 
-    pub telling-more : {r : ℕ} {exit : List ℕ} → Put behind next text r exit → Telling list text₀ r exit (i + 1)
-    telling-more q = record { high = omega arith; going = going_more telling-next q }
+    pub telling_more : {r : ℕ} {exit : List ℕ} → Put behind next text r exit → Telling list text₀ r exit (i + 1)
+    telling_more q = record { high = omega arith; going = going_more telling_next q }
 
-  pub telling-all : length list ≤ i → Put 0 (lines list) text₀ behind text
+  pub telling_all : length list ≤ i → Put 0 (lines list) text₀ behind text
   unfolding joined lines
-  telling-all h =
+  telling_all h =
       let n : i ≡ length list = omega (arith, x.high) in
       let e : drop i list ≡ [] = ap (λ (k : ℕ). drop k list) n ∙ drop-length list in
       going_all (going_same [] (rw e) x.going)

@@ -22,36 +22,36 @@ module _ (row : List ℤ) where
   refused_domain k e n = first_is (refusals row) k (stopped _ _ _ e n)
 
   module _ (e : first_of (domain limit row) ≡ 0) where
-    pub refused-empty : count row ≡ 0 → 8 ≡ first_of (refusals row)
-    refused-empty h = first_is (refusals row) 8 (onward _ _ _ tt e (here (eq-eqb _ _ h)))
+    pub refused_empty : count row ≡ 0 → 8 ≡ first_of (refusals row)
+    refused_empty h = first_is (refusals row) 8 (onward _ _ _ tt e (here (eq-eqb _ _ h)))
 
     pub refused_none : (count row ≡ 0 → ⊥) → 0 ≡ first_of (refusals row)
     refused_none n = first_is (refusals row) 0 (onward _ _ _ tt e (past (ne_eqb _ _ n) foot))
 
   -- a contour that is not refused
-  pub filled-contour : first_of (refusals row) ≡ 0 → Contour row (count row) × (0 < count row)
-  filled-contour z =
+  pub filled_contour : first_of (refusals row) ≡ 0 → Contour row (count row) × (0 < count row)
+  filled_contour z =
       let d = cleared (domain limit row) (empty row) tt z in
       (in_domain row d.0, omega (arith, eqb-false (count row) 0 (clear (empty row) tt d.1).0))
 
   -- what is answered
   module _ (k : ℕ) (e : k ≡ first_of (refusals row)) (n : k ≡ 0 → ⊥) where
-    pub doubled-refused : record { reply = k; value = pos 0 } ≡ doubled row
+    pub doubled_refused : record { reply = k; value = pos 0 } ≡ doubled row
     unfolding doubled
-    doubled-refused = rw (← e) (answer_refused k _ n)
+    doubled_refused = rw (← e) (answer_refused k _ n)
 
-    pub half-refused : record { reply = k; value = pos 0 } ≡ half row
+    pub half_refused : record { reply = k; value = pos 0 } ≡ half row
     unfolding half
-    half-refused = rw (← e) (answer_refused k _ n)
+    half_refused = rw (← e) (answer_refused k _ n)
 
   module _ (e : first_of (refusals row) ≡ 0) (z : ℤ) (h : z ≡ reported (points row)) where
-    pub doubled-done : record { reply = 0; value = z } ≡ doubled row
+    pub doubled_done : record { reply = 0; value = z } ≡ doubled row
     unfolding doubled
-    doubled-done = rw (e, h)
+    doubled_done = rw (e, h)
 
-    pub half-done : record { reply = 0; value = halved z } ≡ half row
+    pub half_done : record { reply = 0; value = halved z } ≡ half row
     unfolding half
-    half-done = rw (e, h)
+    half_done = rw (e, h)
 
 -- an area's half
 pub answer_half : (k : ℕ) (z : ℤ) → record { reply = (answer k z).reply; value = halved (answer k z).value } ≡ answer k (halved z)

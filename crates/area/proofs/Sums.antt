@@ -9,7 +9,7 @@ use Rattle.grid.specs.Points.{at, points}
 use Rattle.grid.specs.Edges.{cross}
 use Rattle.grid.specs.Area.{around, exact}
 use Rattle.grid.specs.Domain.{Contour}
-use Rattle.grid.proofs.RowLaws.{points-length, points-more, points-done}
+use Rattle.grid.proofs.RowLaws.{points-length, points_more, points_done}
 use Rattle.area.specs.Shares.{share}
 use Rattle.area.proofs.Removal.{few_points}
 
@@ -32,9 +32,9 @@ added_on : (sum r : ℕ) (t rest all : ℤ) → r ≡ mod64 (pos sum +ℤ t) →
 added_on sum r t rest all e f = rw (e, f) (ap mod64 (sym (+ℤ_assoc (pos sum) t rest)) ∙ sym (mod64_add (pos sum +ℤ t) rest))
 
 module _ {row : List ℤ} {n : ℕ} (c : Contour row n) where
-  pub gathered-few : n < 3 → 0 ≡ mod64 (exact (points row))
+  pub gathered_few : n < 3 → 0 ≡ mod64 (exact (points row))
   unfolding mod64
-  gathered-few h = ap mod64 (sym (few_points (points row) (omega (arith, points-length c))))
+  gathered_few h = ap mod64 (sym (few_points (points row) (omega (arith, points-length c))))
 
   -- the first share, and the others
   whole : 2 ≤ n → exact (points row) ≡ share row (n - 1) 0 1 +ℤ after row n 0
@@ -43,7 +43,7 @@ module _ {row : List ℤ} {n : ℕ} (c : Contour row n) where
       let a = at row 0 in
       let b = at row 1 in
       let last = at row (n - 1) in
-      ap exact (points-more c 0 (omega arith)) ∙ ap (around a a) (points-more c 1 (omega arith))
+      ap exact (points_more c 0 (omega arith)) ∙ ap (around a a) (points_more c 1 (omega arith))
       ∙ ring
       (# 0 :* # 3 :- # 1 :* # 2 :+ # 5)
       (# 0 :* (# 3 :- # 4) :+ (# 5 :- # 2 :* # 1 :+ # 0 :* # 4))
@@ -59,7 +59,7 @@ module _ {row : List ℤ} {n : ℕ} (c : Contour row n) where
       let last = at row (n - 1) in
       let o = at row 0 in
       let two : i + 1 + 1 ≡ i + 2 = omega arith in
-      rw (two, points-more c (i + 2) h)
+      rw (two, points_more c (i + 2) h)
       (ring
       ((# 2 :* # 5 :- # 3 :* # 4 :+ # 8) :- # 2 :* # 1 :+ # 6 :* # 7)
       (# 2 :* (# 5 :- # 1) :+ (# 8 :- # 4 :* # 3 :+ # 6 :* # 7))
@@ -74,14 +74,14 @@ module _ {row : List ℤ} {n : ℕ} (c : Contour row n) where
       let o = at row 0 in
       let one : n - 2 + 1 ≡ n - 1 = omega arith in
       let all : n - 1 + 1 ≡ n = omega arith in
-      rw (one, points-done c (n - 1 + 1) all)
+      rw (one, points_done c (n - 1 + 1) all)
       (ring
       ((# 2 :* # 5 :- # 3 :* # 4) :- # 2 :* # 1 :+ # 4 :* # 3)
       (# 2 :* (# 5 :- # 1))
       (a.x ∷ a.y ∷ b.x ∷ b.y ∷ o.x ∷ o.y ∷ []) refl)
 
-  pub gathered-ends : (r s : ℕ) → 2 ≤ n → r ≡ mod64 (pos 0 +ℤ share row (n - 1) 0 1) → s ≡ mod64 (pos r +ℤ share row (n - 2) (n - 1) 0) → Gathered row n s (n - 2)
-  gathered-ends r s h e f = record {
+  pub gathered_ends : (r s : ℕ) → 2 ≤ n → r ≡ mod64 (pos 0 +ℤ share row (n - 1) 0 1) → s ≡ mod64 (pos r +ℤ share row (n - 2) (n - 1) 0) → Gathered row n s (n - 2)
+  gathered_ends r s h e f = record {
     high = omega arith;
     small = rw f (mod64_lt (pos r +ℤ share row (n - 2) (n - 1) 0));
     is =

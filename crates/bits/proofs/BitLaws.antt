@@ -91,19 +91,19 @@ field_low w n = field_value (field w n) w (n % 2 ^ w) (field-length w n) (value_
 
 -- the first w bits are a number of w bits, and its field
 module _ (w : ℕ) (l : List Bool) (h : w ≤ length l) where
-  pub taken-below : value (take w l) < 2 ^ w
-  taken-below = rw (length-take-le w l h) at (value_below (take w l))
+  pub taken_below : value (take w l) < 2 ^ w
+  taken_below = rw (length-take-le w l h) at (value_below (take w l))
 
   pub field_back : field w (value (take w l)) ≡ take w l
-  field_back = field_value (take w l) w (value (take w l)) (length-take-le w l h) (sym (mod-eq_of_lt taken-below))
+  field_back = field_value (take w l) w (value (take w l)) (length-take-le w l h) (sym (mod-eq_of_lt taken_below))
 
 -- a field in front of more bits
 module _ (w n : ℕ) (more : List Bool) where
-  pub front-value : n < 2 ^ w → value (take w (field w n ++ more)) ≡ n
-  front-value h = ap value (take_at (field w n) more w (field-length w n)) ∙ value_of w n h
+  pub front_value : n < 2 ^ w → value (take w (field w n ++ more)) ≡ n
+  front_value h = ap value (take_at (field w n) more w (field-length w n)) ∙ value_of w n h
 
-  pub front-gone : drop w (field w n ++ more) ≡ more
-  front-gone = drop_at (field w n) more w (field-length w n)
+  pub front_gone : drop w (field w n ++ more) ≡ more
+  front_gone = drop_at (field w n) more w (field-length w n)
 
 pub field-append : (j k n : ℕ) → field j (n / 2 ^ k) ++ field k n ≡ field (j + k) n
 field-append j k n =
@@ -134,8 +134,8 @@ module _ (l : List Bool) (j k : ℕ) (e : length l ≡ j + k) where
   back_below : value (drop j l) < 2 ^ k
   back_below = rw back-length at (value_below (drop j l))
 
-  pub value-front : value (take j l) ≡ value l / 2 ^ k
-  value-front = sym (rw in_two (high (value (take j l)) k back_below))
+  pub value_front : value (take j l) ≡ value l / 2 ^ k
+  value_front = sym (rw in_two (high (value (take j l)) k back_below))
 
   pub value_back : value (drop j l) ≡ value l % 2 ^ k
   value_back = sym (rw in_two (low (value (take j l)) k back_below))
@@ -146,7 +146,7 @@ module _ (l : List Bool) (j k : ℕ) (h : j + k ≤ length l) where
   both-length = length-take-le (j + k) l h
 
   pub high_bits : value (take j l) ≡ value (take (j + k) l) / 2 ^ k
-  high_bits = ap value (sym (take-take j (j + k) l (omega arith))) ∙ value-front (take (j + k) l) j k both-length
+  high_bits = ap value (sym (take-take j (j + k) l (omega arith))) ∙ value_front (take (j + k) l) j k both-length
 
   pub low_bits : value (take k (drop j l)) ≡ value (take (j + k) l) % 2 ^ k
   low_bits =

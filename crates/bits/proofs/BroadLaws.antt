@@ -10,13 +10,13 @@ use lib.Pow.{pow-add, pow_pos, shl_lt, shl_exact, shl-shr, shr_lt, shr-shr, low,
 use Rattle.bits.specs.declared.inner.pens.Pen.{Pen}
 use Rattle.bits.specs.declared.inner.broad.Broad.{Broad}
 use Rattle.rows.specs.Rows.{placed}
-use Rattle.rows.proofs.PlacedLaws.{placed-behind}
+use Rattle.rows.proofs.PlacedLaws.{placed_behind}
 use Rattle.bits.specs.Bits.{field, bits}
 use Rattle.bits.specs.inside.Words.{spelled}
 use Rattle.bits.specs.inside.Pens.{pen, Ready, Wrote, broad, narrowed, Fronted}
 use Rattle.bits.proofs.BitLaws.{field-append, bits-append}
 use Rattle.bits.proofs.WordLaws.{spelled-length, spelled_bits}
-use Rattle.bits.proofs.PenLaws.{up-below, wrote-up, wrote_out}
+use Rattle.bits.proofs.PenLaws.{up_below, wrote_up, wrote_out}
 
 -- the bits that a shift moves out of a word are lost
 lost : (m i j : ℕ) → m * 2 ^ j % 2 ^ (i + j) ≡ m % 2 ^ i * 2 ^ j
@@ -37,8 +37,8 @@ module _ (at m v : ℕ) (few : v ≤ 64) (small : m < 2 ^ v) (k : ℕ) (e : k �
   back : k / 2 ^ (64 - v) ≡ m
   back = ap (λ (n : ℕ). n / 2 ^ (64 - v)) e ∙ shl-shr m (64 - v)
 
-  pub narrowed-is : narrowed (broad at k v) ≡ pen at m v
-  narrowed-is = ap (λ (n : ℕ). pen at n v) back
+  pub narrowed_is : narrowed (broad at k v) ≡ pen at m v
+  narrowed_is = ap (λ (n : ℕ). pen at n v) back
 
   pub fronted : Fronted (broad at k v)
   fronted = record { few = few; small = rw back small; is = e ∙ ap (λ (n : ℕ). n * 2 ^ (64 - v)) (sym back) }
@@ -58,8 +58,8 @@ module _ (p : Pen) (ready : Ready p) where
   pub broadened : Fronted (broad p.at (p.kept * 2 ^ (32 - p.width) % 2 ^ 64 * 2 ^ 32 % 2 ^ 64) p.width)
   broadened = fronted p.at p.kept p.width (omega (arith, ready.few)) ready.small _ front_is
 
-  pub broadened-is : narrowed (broad p.at (p.kept * 2 ^ (32 - p.width) % 2 ^ 64 * 2 ^ 32 % 2 ^ 64) p.width) ≡ p
-  broadened-is = narrowed-is p.at p.kept p.width (omega (arith, ready.few)) ready.small _ front_is
+  pub broadened_is : narrowed (broad p.at (p.kept * 2 ^ (32 - p.width) % 2 ^ 64 * 2 ^ 32 % 2 ^ 64) p.width) ≡ p
+  broadened_is = narrowed_is p.at p.kept p.width (omega (arith, ready.few)) ready.small _ front_is
 
 -- a number in a field of w bits
 module _ (b : Broad) (row : List ℕ) (w n : ℕ) (f : Fronted b) (within : n < 2 ^ w) where
@@ -67,7 +67,7 @@ module _ (b : Broad) (row : List ℕ) (w n : ℕ) (f : Fronted b) (within : n < 
   m = b.kept / 2 ^ (64 - b.width)
 
   up : Wrote (narrowed b) (field w n) row (pen b.at (m * 2 ^ w + n) (b.width + w)) row
-  up = wrote-up (narrowed b) row w n f.small within
+  up = wrote_up (narrowed b) row w n f.small within
 
   -- the word has room for it
   module _ (v : ℕ) (e : v ≡ b.width + w) (few : v ≤ 64) where
@@ -81,19 +81,19 @@ module _ (b : Broad) (row : List ℕ) (w n : ℕ) (f : Fronted b) (within : n < 
         ∙ sym (add-mul (m * 2 ^ w) n (2 ^ g))
 
     below : m * 2 ^ w + n < 2 ^ v
-    below = rw e (up-below (narrowed b) row w n f.small within)
+    below = rw e (up_below (narrowed b) row w n f.small within)
 
     -- the sum fits a word
-    pub behind-fits : b.kept + n * 2 ^ (64 - v) % 2 ^ 64 < 2 ^ 64
-    behind-fits =
+    pub behind_fits : b.kept + n * 2 ^ (64 - v) % 2 ^ 64 < 2 ^ 64
+    behind_fits =
         let s : v + (64 - v) ≡ 64 = omega arith in
         rw behind (subst (λ (i : ℕ). (m * 2 ^ w + n) * 2 ^ (64 - v) < 2 ^ i) s (shl_lt v (64 - v) below))
 
     pub swept : Wrote (narrowed b) (field w n) row (narrowed (broad b.at (b.kept + n * 2 ^ (64 - v) % 2 ^ 64) v)) row
-    swept = rw (narrowed-is b.at (m * 2 ^ w + n) v few below _ behind, e) up
+    swept = rw (narrowed_is b.at (m * 2 ^ w + n) v few below _ behind, e) up
 
-    pub swept-front : Fronted (broad b.at (b.kept + n * 2 ^ (64 - v) % 2 ^ 64) v)
-    swept-front = fronted b.at (m * 2 ^ w + n) v few below _ behind
+    pub swept_front : Fronted (broad b.at (b.kept + n * 2 ^ (64 - v) % 2 ^ 64) v)
+    swept_front = fronted b.at (m * 2 ^ w + n) v few below _ behind
 
   -- it fills eight bytes, and r bits are left
   module _ (r : ℕ) (e : b.width + w ≡ 64 + r) (few : r ≤ 64) where
@@ -107,16 +107,16 @@ module _ (b : Broad) (row : List ℕ) (w n : ℕ) (f : Fronted b) (within : n < 
     pub full_is : (m * 2 ^ w + n) / 2 ^ r ≡ b.kept + n / 2 ^ r
     full_is = ap (λ (i : ℕ). (i + n) / 2 ^ r) taken ∙ mul-add-div_right (pow_pos r) b.kept n
 
-    pub full-fits : b.kept + n / 2 ^ r < 2 ^ 64
-    full-fits =
+    pub full_fits : b.kept + n / 2 ^ r < 2 ^ 64
+    full_fits =
         rw (← full_is)
-        (shr_lt 64 r (subst (λ (i : ℕ). m * 2 ^ w + n < 2 ^ i) e (up-below (narrowed b) row w n f.small within)))
+        (shr_lt 64 r (subst (λ (i : ℕ). m * 2 ^ w + n < 2 ^ i) e (up_below (narrowed b) row w n f.small within)))
 
     rest_is : (m * 2 ^ w + n) % 2 ^ r ≡ n % 2 ^ r
     rest_is = ap (λ (i : ℕ). (i + n) % 2 ^ r) taken ∙ mul-add-mod_self_right b.kept (2 ^ r) n
 
-    pub swept-rest : Fronted (broad (b.at + 8) (n * 2 ^ (64 - r) % 2 ^ 64) r)
-    swept-rest = fronted (b.at + 8) (n % 2 ^ r) r few (mod-lt n (pow_pos r)) _ (lost_of n r few)
+    pub swept_rest : Fronted (broad (b.at + 8) (n * 2 ^ (64 - r) % 2 ^ 64) r)
+    swept_rest = fronted (b.at + 8) (n % 2 ^ r) r few (mod-lt n (pow_pos r)) _ (lost_of n r few)
 
     module _ (mid exit : List ℕ) (room : b.at + 8 ≤ length row) (full : ℕ) (is : full ≡ b.kept + n / 2 ^ r)
         (first : mid ≡ placed b.at (spelled 4 (full / 2 ^ 32)) row) (second : exit ≡ placed (b.at + 4) (spelled 4 full) mid) where
@@ -138,12 +138,12 @@ module _ (b : Broad) (row : List ℕ) (w n : ℕ) (f : Fronted b) (within : n < 
       put =
           let l = spelled-length 4 (full / 2 ^ 32) in
           second ∙ ap (placed (b.at + 4) (spelled 4 full)) first
-          ∙ placed-behind row b.at (spelled 4 (full / 2 ^ 32)) (spelled 4 full) (b.at + 4) (omega (arith, l)) (omega (arith, l))
+          ∙ placed_behind row b.at (spelled 4 (full / 2 ^ 32)) (spelled 4 full) (b.at + 4) (omega (arith, l)) (omega (arith, l))
 
-      pub swept-out : Wrote (narrowed b) (field w n) row (narrowed (broad (b.at + 8) (n * 2 ^ (64 - r) % 2 ^ 64) r)) exit
-      swept-out =
+      pub swept_out : Wrote (narrowed b) (field w n) row (narrowed (broad (b.at + 8) (n * 2 ^ (64 - r) % 2 ^ 64) r)) exit
+      swept_out =
           let out = wrote_out eight r up (omega (arith, long, e)) whole (omega (arith, long)) in
-          rw (narrowed-is (b.at + 8) (n % 2 ^ r) r few (mod-lt n (pow_pos r)) _ (lost_of n r few), put)
+          rw (narrowed_is (b.at + 8) (n % 2 ^ r) r few (mod-lt n (pow_pos r)) _ (lost_of n r few), put)
           (subst (λ (i : ℕ). Wrote (narrowed b) (field w n) row (pen (b.at + 8) i r) (placed b.at eight row)) rest_is
           (subst (λ (i : ℕ). Wrote (narrowed b) (field w n) row (pen (b.at + i) ((m * 2 ^ w + n) % 2 ^ r) r) (placed b.at eight row)) long out))
 
@@ -160,8 +160,8 @@ module _ {p : Pen} {l : List Bool} {row mid : List ℕ} (b : Broad) (r : ℕ) (f
   left : b.kept / 2 ^ (64 - b.width) % 2 ^ r < 2 ^ r
   left = mod-lt (b.kept / 2 ^ (64 - b.width)) (pow_pos r)
 
-  pub poured-front : Fronted (broad (b.at + 4) (b.kept * 2 ^ 32 % 2 ^ 64) r)
-  poured-front = fronted (b.at + 4) (b.kept / 2 ^ (64 - b.width) % 2 ^ r) r (omega (arith, f.few)) left _ shifted
+  pub poured_front : Fronted (broad (b.at + 4) (b.kept * 2 ^ 32 % 2 ^ 64) r)
+  poured_front = fronted (b.at + 4) (b.kept / 2 ^ (64 - b.width) % 2 ^ r) r (omega (arith, f.few)) left _ shifted
 
   pub poured : {exit : List ℕ} → b.at + 4 ≤ length row → exit ≡ placed b.at (spelled 4 (b.kept / 2 ^ 32)) mid
       → Wrote p l row (narrowed (broad (b.at + 4) (b.kept * 2 ^ 32 % 2 ^ 64) r)) exit
@@ -172,7 +172,7 @@ module _ {p : Pen} {l : List Bool} {row mid : List ℕ} (b : Broad) (r : ℕ) (f
       let s : 64 - b.width + r ≡ 32 = omega (arith, f.few) in
       let high : b.kept / 2 ^ (64 - b.width) / 2 ^ r ≡ b.kept / 2 ^ 32 = shr-shr b.kept (64 - b.width) r ∙ ap (λ (i : ℕ). b.kept / 2 ^ i) s in
       let out = wrote_out four r g (omega (arith, long, e)) (spelled_bits 4 (b.kept / 2 ^ 32) ∙ ap₂ field (sym t) (sym high)) (omega (arith, long)) in
-      rw (narrowed-is (b.at + 4) (b.kept / 2 ^ (64 - b.width) % 2 ^ r) r (omega (arith, f.few)) left _ shifted, put)
+      rw (narrowed_is (b.at + 4) (b.kept / 2 ^ (64 - b.width) % 2 ^ r) r (omega (arith, f.few)) left _ shifted, put)
       (subst (λ (i : ℕ). Wrote p l row (pen (b.at + i) (b.kept / 2 ^ (64 - b.width) % 2 ^ r) r) (placed b.at four mid)) long out)
 
 -- fewer are left

@@ -41,8 +41,8 @@ module _ (w n : ℕ) (some : 0 < w) (within_32 : w ≤ 32) (below : n < 2 ^ w) w
   pub small : 2 ^ w ≤ 4294967296
   small = pow_mono {i = w} {j = 32} within_32
 
-  pub low-is : n < 2 ^ (w - 1) → to_z w64 n ≡ signed w n
-  low-is h = to_z_pos w64 (omega (arith, small)) ∙ sym (signed_low w some n h)
+  pub low_is : n < 2 ^ (w - 1) → to_z w64 n ≡ signed w n
+  low_is h = to_z_pos w64 (omega (arith, small)) ∙ sym (signed_low w some n h)
 
   module _ (h : 2 ^ (w - 1) ≤ n) where
     below-zero : (m : ℕ) → m ≡ 2 ^ w - suc n → negsuc 0 -ℤ to_z w64 m ≡ negsuc (2 ^ w - suc n)

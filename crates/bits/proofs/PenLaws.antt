@@ -10,7 +10,7 @@ use lib.Seq.{take_at, drop_at, drop-drop, length-take-le, sets-eq}
 use lib.Pow.{pow-add, pow_pos, pow_mono, shl_exact, shr_lt}
 use Rattle.bits.specs.declared.inner.pens.Pen.{Pen}
 use Rattle.rows.specs.Rows.{placed}
-use Rattle.rows.proofs.PlacedLaws.{placed-long, set_placed}
+use Rattle.rows.proofs.PlacedLaws.{placed_long, set_placed}
 use Rattle.bits.specs.Bits.{field, bits, fill}
 use Rattle.bits.specs.inside.Words.{spelled}
 use Rattle.bits.specs.inside.Pens.{pen, inked, reached, Ready, Space, Wrote, Lifted}
@@ -26,8 +26,8 @@ module _ (row d : List ℕ) (at : ℕ) (room : at + length d ≤ length row) whe
   placed_front : take (at + length d) (placed at d row) ≡ take at row ++ d
   placed_front = take_at (take at row ++ d) (drop (at + length d) row) (at + length d) head-length
 
-  placed-back : drop (at + length d) (placed at d row) ≡ drop (at + length d) row
-  placed-back = drop_at (take at row ++ d) (drop (at + length d) row) (at + length d) head-length
+  placed_back : drop (at + length d) (placed at d row) ≡ drop (at + length d) row
+  placed_back = drop_at (take at row ++ d) (drop (at + length d) row) (at + length d) head-length
 
 -- nothing is written yet
 pub wrote_none : (p : Pen) (row : List ℕ) → p.kept < 2 ^ p.width → Wrote p [] row p row
@@ -59,17 +59,17 @@ wrote_both {p} {q} {r} {l} {m} {row} {mid} {exit} f g = record {
 
 -- bits that the pen takes up
 module _ (p : Pen) (row : List ℕ) (w n : ℕ) (small : p.kept < 2 ^ p.width) (within : n < 2 ^ w) where
-  pub up-below : p.kept * 2 ^ w + n < 2 ^ (p.width + w)
-  up-below = more p.kept (2 ^ p.width) (2 ^ w) (2 ^ (p.width + w)) n (pow-add 2 p.width w) small within
+  pub up_below : p.kept * 2 ^ w + n < 2 ^ (p.width + w)
+  up_below = more p.kept (2 ^ p.width) (2 ^ w) (2 ^ (p.width + w)) n (pow-add 2 p.width w) small within
     where
       more : (h a b ab n : ℕ) → ab ≡ a * b → h < a → n < b → h * b + n < ab
       more h a b ab n e l k =
           let m : (h + 1) * b ≤ a * b = mul-le-mul_right b (omega arith) in
           omega (arith, m, e, k)
 
-  pub wrote-up : Wrote p (field w n) row (pen p.at (p.kept * 2 ^ w + n) (p.width + w)) row
-  wrote-up = record {
-    small = up-below;
+  pub wrote_up : Wrote p (field w n) row (pen p.at (p.kept * 2 ^ w + n) (p.width + w)) row
+  wrote_up = record {
+    small = up_below;
     is =
         ap (λ (b : List Bool). bits (take p.at row) ++ b) (sym (field_joined p.width w p.kept n within))
         ∙ sym (append_assoc (bits (take p.at row)) (field p.width p.kept) (field w n));
@@ -82,11 +82,11 @@ module _ (p : Pen) (row : List ℕ) (w n : ℕ) (small : p.kept < 2 ^ p.width) (
 -- of 32 at the most
 module _ (p : Pen) (row : List ℕ) (w n : ℕ) (ready : Ready p) (within_32 : w ≤ 32) (within : n < 2 ^ w) where
   -- the shift loses nothing
-  pub taken-up : p.kept * 2 ^ w % 2 ^ 64 ≡ p.kept * 2 ^ w
-  taken-up = shl_exact p.width w 64 ready.small (omega (arith, ready.few))
+  pub taken_up : p.kept * 2 ^ w % 2 ^ 64 ≡ p.kept * 2 ^ w
+  taken_up = shl_exact p.width w 64 ready.small (omega (arith, ready.few))
 
   pub up_fits : p.kept * 2 ^ w + n < 2 ^ 64
-  up_fits = lt_of_lt_of_le (up-below p row w n ready.small within) (pow_mono {j = 64} (omega (arith, ready.few)))
+  up_fits = lt_of_lt_of_le (up_below p row w n ready.small within) (pow_mono {j = 64} (omega (arith, ready.few)))
 
 -- bytes that are full go to the row
 pub wrote_out : {p q : Pen} {l : List Bool} {row mid : List ℕ} (d : List ℕ) (rest : ℕ) → Wrote p l row q mid → q.width ≡ 8 * length d + rest
@@ -104,8 +104,8 @@ wrote_out {p} {q} {l} {row} {mid} d rest f e s room =
           ∙ f.is;
       on = omega (arith, f.on);
       behind = omega (arith, f.behind);
-      rest = placed-back mid d q.at r ∙ later mid row q.at (q.at + length d) (omega arith) f.rest;
-      long = placed-long mid q.at d r ∙ f.long;
+      rest = placed_back mid d q.at r ∙ later mid row q.at (q.at + length d) (omega arith) f.rest;
+      long = placed_long mid q.at d r ∙ f.long;
     }
 
 -- four bytes that are stored one by one
@@ -125,9 +125,9 @@ pub wrote_four : (p : Pen) (row exit : List ℕ) (w n h r : ℕ) → Ready p →
     → exit ≡ placed p.at (spelled 4 (h / 2 ^ r)) row → Wrote p (field w n) row (pen (p.at + 4) (h % (1 * 2 ^ r % 2 ^ 64)) r) exit
 wrote_four p row exit w n h r ready space within e f g =
     let within_32 : w ≤ 32 = space.within_32 in
-    let same : h ≡ p.kept * 2 ^ w + n = e ∙ ap (λ (m : ℕ). m + n) (taken-up p row w n ready within_32 within) in
+    let same : h ≡ p.kept * 2 ^ w + n = e ∙ ap (λ (m : ℕ). m + n) (taken_up p row w n ready within_32 within) in
     let l : length (spelled 4 (h / 2 ^ r)) ≡ 4 = spelled-length 4 (h / 2 ^ r) in
-    let up = subst (λ (m : ℕ). Wrote p (field w n) row (pen p.at m (p.width + w)) row) (sym same) (wrote-up p row w n ready.small within) in
+    let up = subst (λ (m : ℕ). Wrote p (field w n) row (pen p.at m (p.width + w)) row) (sym same) (wrote_up p row w n ready.small within) in
     let t : 8 * length (spelled 4 (h / 2 ^ r)) ≡ 8 * 4 = ap (λ (m : ℕ). 8 * m) l in
     let out = wrote_out (spelled 4 (h / 2 ^ r)) r up (omega (arith, l, f)) (spelled_bits 4 (h / 2 ^ r) ∙ ap (λ (m : ℕ). field m (h / 2 ^ r)) (sym t)) (omega (arith, l, f, space.room)) in
     rw (g, one_shifted r (omega (arith, ready.few))) (subst (λ (m : ℕ). Wrote p (field w n) row (pen (p.at + m) (h % 2 ^ r) r) (placed p.at (spelled 4 (h / 2 ^ r)) row)) l out)

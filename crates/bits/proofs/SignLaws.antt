@@ -18,7 +18,7 @@ use borrow.Author.Tests.{ltb-true, lt-ltb, le-ltb, le-leb, lt-leb}
 use Rattle.integers.proofs.Logic.{and_left, and_right, and_both}
 use Rattle.bits.specs.Bits.{value, field}
 use Rattle.bits.specs.Signs.{signed, unsigned, fits, all_fit, fields, numbers}
-use Rattle.bits.proofs.BitLaws.{field-length, value_of, taken-below, field_back}
+use Rattle.bits.proofs.BitLaws.{field-length, value_of, taken_below, field_back}
 
 -- two halves of w bits
 pub halves : (w : ℕ) → 0 < w → 2 ^ w ≡ 2 ^ (w - 1) + 2 ^ (w - 1)
@@ -51,16 +51,16 @@ module _ (w : ℕ) (some : 0 < w) where
   pub signed_high : (n : ℕ) → 2 ^ (w - 1) ≤ n → signed w n ≡ negsuc (2 ^ w - suc n)
   signed_high n h = rw (le-ltb n (2 ^ (w - 1)) h)
 
-  pub signed-unsigned : (z : ℤ) → fits w z ≡ true → signed w (unsigned w z) ≡ z
-  signed-unsigned (pos n) h = signed_low n (ltb-true n (2 ^ (w - 1)) h)
-  signed-unsigned (negsuc n) h =
+  pub signed_unsigned : (z : ℤ) → fits w z ≡ true → signed w (unsigned w z) ≡ z
+  signed_unsigned (pos n) h = signed_low n (ltb-true n (2 ^ (w - 1)) h)
+  signed_unsigned (negsuc n) h =
       let l : n < 2 ^ (w - 1) = ltb-true n (2 ^ (w - 1)) h in
       let e : 2 ^ w - suc (2 ^ w - suc n) ≡ n = omega (arith, halves w some) in
       signed_high (2 ^ w - suc n) (omega (arith, halves w some)) ∙ ap negsuc e
 
-  pub unsigned-below : (z : ℤ) → fits w z ≡ true → unsigned w z < 2 ^ w
-  unsigned-below (pos n) h = omega (arith, ltb-true n (2 ^ (w - 1)) h, halves w some)
-  unsigned-below (negsuc n) h = omega (arith, ltb-true n (2 ^ (w - 1)) h, halves w some)
+  pub unsigned_below : (z : ℤ) → fits w z ≡ true → unsigned w z < 2 ^ w
+  unsigned_below (pos n) h = omega (arith, ltb-true n (2 ^ (w - 1)) h, halves w some)
+  unsigned_below (negsuc n) h = omega (arith, ltb-true n (2 ^ (w - 1)) h, halves w some)
 
   pub unsigned_signed : (n : ℕ) → n < 2 ^ w → unsigned w (signed w n) ≡ n
   unsigned_signed n h = go (dec_le (2 ^ (w - 1)) n)
@@ -69,8 +69,8 @@ module _ (w : ℕ) (some : 0 < w) where
       go (yes k) = ap (unsigned w) (signed_high n k) ∙ omega arith
       go (no k) = ap (unsigned w) (signed_low n (omega arith))
 
-  pub signed-fits : (n : ℕ) → n < 2 ^ w → fits w (signed w n) ≡ true
-  signed-fits n h = go (dec_le (2 ^ (w - 1)) n)
+  pub signed_fits : (n : ℕ) → n < 2 ^ w → fits w (signed w n) ≡ true
+  signed_fits n h = go (dec_le (2 ^ (w - 1)) n)
     where
       go : Dec (2 ^ (w - 1) ≤ n) → fits w (signed w n) ≡ true
       go (yes k) = rw (signed_high n k) (lt-ltb (2 ^ w - suc n) (2 ^ (w - 1)) (omega (arith, halves w some)))
@@ -107,7 +107,7 @@ numbers_fields w h (z ∷ l) rest e =
     let s : (field w (unsigned w z) ++ fields w l) ++ rest ≡ field w (unsigned w z) ++ (fields w l ++ rest) = append_assoc (field w (unsigned w z)) (fields w l) rest in
     ap₂ (λ (a : ℤ) (b : List ℤ). a ∷ b)
     (ap (λ (b : List Bool). signed w (value b)) (ap (take w) s ∙ take_at (field w (unsigned w z)) (fields w l ++ rest) w n)
-    ∙ ap (signed w) (value_of w (unsigned w z) (unsigned-below w h z c)) ∙ signed-unsigned w h z c)
+    ∙ ap (signed w) (value_of w (unsigned w z) (unsigned_below w h z c)) ∙ signed_unsigned w h z c)
     (ap (numbers w (length l)) (ap (drop w) s ∙ drop_at (field w (unsigned w z)) (fields w l ++ rest) w n)
     ∙ numbers_fields w h l rest (and_right (fits w z) (all_fit w l) e))
 
@@ -119,7 +119,7 @@ fields_numbers w h (suc k) l e =
     let s : w * suc k ≡ w + w * k = omega arith in
     let d : w ≤ length l = omega arith in
     ap₂ (λ (a c : List Bool). a ++ c)
-    (ap (field w) (unsigned_signed w h (value (take w l)) (taken-below w l d)) ∙ field_back w l d)
+    (ap (field w) (unsigned_signed w h (value (take w l)) (taken_below w l d)) ∙ field_back w l d)
     (fields_numbers w h k (drop w l) (omega (arith, length-drop w l)))
     ∙ sym (ap (λ (m : ℕ). take m l) s ∙ take-add w (w * k) l)
 
@@ -129,7 +129,7 @@ unfolding numbers all_fit
 numbers_fit w h zero l e = refl
 numbers_fit w h (suc k) l e =
     and_both (fits w (signed w (value (take w l)))) (all_fit w (numbers w k (drop w l)))
-    (signed-fits w h (value (take w l)) (taken-below w l (omega arith))) (numbers_fit w h k (drop w l) (omega (arith, length-drop w l)))
+    (signed_fits w h (value (take w l)) (taken_below w l (omega arith))) (numbers_fit w h k (drop w l) (omega (arith, length-drop w l)))
 
 -- at 32 bits these are the code's conversions
 pub signed_word : (n : ℕ) → signed 32 n ≡ to_z w32 n

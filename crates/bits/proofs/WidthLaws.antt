@@ -17,41 +17,41 @@ use Rattle.bits.proofs.SignLaws.{all_fit_wider}
 
 -- the smallest width that passes a test
 module _ (t : ℕ → Bool) (k : ℕ) where
-  smallest-yes : t (suc k) ≡ true → smallest t (suc k) ≡ smallest t k
+  smallest_yes : t (suc k) ≡ true → smallest t (suc k) ≡ smallest t k
   unfolding smallest
-  smallest-yes e = rw (e, smallest)
+  smallest_yes e = rw (e, smallest)
 
-  smallest-no : t (suc k) ≡ false → smallest t (suc k) ≡ suc (suc k)
+  smallest_no : t (suc k) ≡ false → smallest t (suc k) ≡ suc (suc k)
   unfolding smallest
-  smallest-no e = rw (e, smallest)
+  smallest_no e = rw (e, smallest)
 
   -- a fact of the smallest width, by cases
-  by-test : (P : ℕ → Type 0) → (t (suc k) ≡ true → P (smallest t k)) → (t (suc k) ≡ false → P (suc (suc k))) → P (smallest t (suc k))
-  by-test P f g = go (t (suc k)) refl
+  by_test : (P : ℕ → Type 0) → (t (suc k) ≡ true → P (smallest t k)) → (t (suc k) ≡ false → P (suc (suc k))) → P (smallest t (suc k))
+  by_test P f g = go (t (suc k)) refl
     where
       go : (b : Bool) → t (suc k) ≡ b → P (smallest t (suc k))
-      go true e = subst P (sym (smallest-yes e)) (f e)
-      go false e = subst P (sym (smallest-no e)) (g e)
+      go true e = subst P (sym (smallest_yes e)) (f e)
+      go false e = subst P (sym (smallest_no e)) (g e)
 
 pub smallest_some : (t : ℕ → Bool) (k : ℕ) → 0 < smallest t k
 unfolding smallest
 smallest_some t zero = omega arith
-smallest_some t (suc k) = by-test t k (λ (n : ℕ). 0 < n) (λ e. smallest_some t k) (λ e. omega arith)
+smallest_some t (suc k) = by_test t k (λ (n : ℕ). 0 < n) (λ e. smallest_some t k) (λ e. omega arith)
 
 pub smallest_few : (t : ℕ → Bool) (k : ℕ) → smallest t k ≤ suc k
 unfolding smallest
 smallest_few t zero = omega arith
-smallest_few t (suc k) = by-test t k (λ (n : ℕ). n ≤ suc (suc k)) (λ e. omega (arith, smallest_few t k)) (λ e. omega arith)
+smallest_few t (suc k) = by_test t k (λ (n : ℕ). n ≤ suc (suc k)) (λ e. omega (arith, smallest_few t k)) (λ e. omega arith)
 
 pub smallest_passes : (t : ℕ → Bool) (k : ℕ) → t (suc k) ≡ true → t (smallest t k) ≡ true
 unfolding smallest
 smallest_passes t zero h = h
-smallest_passes t (suc k) h = by-test t k (λ (n : ℕ). t n ≡ true) (λ e. smallest_passes t k e) (λ e. h)
+smallest_passes t (suc k) h = by_test t k (λ (n : ℕ). t n ≡ true) (λ e. smallest_passes t k e) (λ e. h)
 
 pub smallest_least : (t : ℕ → Bool) → ((w v : ℕ) → w ≤ v → t w ≡ true → t v ≡ true) → (k w : ℕ) → 0 < w → t w ≡ true → smallest t k ≤ w
 unfolding smallest
 smallest_least t up zero w s h = s
-smallest_least t up (suc k) w s h = by-test t k (λ (n : ℕ). n ≤ w) (λ e. smallest_least t up k w s h) (λ e. over e (dec_le w (suc k)))
+smallest_least t up (suc k) w s h = by_test t k (λ (n : ℕ). n ≤ w) (λ e. smallest_least t up k w s h) (λ e. over e (dec_le w (suc k)))
   where
     over : t (suc k) ≡ false → Dec (w ≤ suc k) → suc (suc k) ≤ w
     over e (yes l) = let c : true ≡ false = sym (up w (suc k) l h) ∙ e in absurd (subst T c tt)
@@ -61,8 +61,8 @@ pub smallest_same : (s t : ℕ → Bool) → ((w : ℕ) → s w ≡ t w) → (k 
 unfolding smallest
 smallest_same s t e zero = refl
 smallest_same s t e (suc k) =
-    by-test t k (λ (n : ℕ). smallest s (suc k) ≡ n)
-    (λ f. smallest-yes s k (e (suc k) ∙ f) ∙ smallest_same s t e k) (λ f. smallest-no s k (e (suc k) ∙ f))
+    by_test t k (λ (n : ℕ). smallest s (suc k) ≡ n)
+    (λ f. smallest_yes s k (e (suc k) ∙ f) ∙ smallest_same s t e k) (λ f. smallest_no s k (e (suc k) ∙ f))
 
 -- the smallest width that numbers fit is at most w exactly if they fit w
 pub width_at_most : (l : List ℤ) (w : ℕ) → 0 < w → all_fit w l ≡ true → width_of l ≤ w
@@ -76,8 +76,8 @@ module _ (m : ℕ) (h : m < 2 ^ 31) where
   abbrev passes : ℕ → Bool
   passes w = ltb m (2 ^ (w - 1))
 
-  pub by-zeros : 65 - count_leading_zeros 64 m ≡ smallest (λ (w : ℕ). ltb m (2 ^ (w - 1))) 31
-  by-zeros =
+  pub by_zeros : 65 - count_leading_zeros 64 m ≡ smallest (λ (w : ℕ). ltb m (2 ^ (w - 1))) 31
+  by_zeros =
       let s = leading_length 64 m (lt_of_lt_of_le h (pow_mono {i = 31} {j = 64} (omega arith))) in
       let j : ℕ = s.0 in
       let n : ℕ = smallest passes 31 in

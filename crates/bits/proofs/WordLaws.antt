@@ -8,10 +8,10 @@ use native.Mathlib.Omega.{arith}
 use lib.ListN.{length, take, drop, get_or, length-take, length-drop}
 use lib.Seq.{take-append-add, take-nil, take-add, take-take, drop-drop, drop_at, length-take-le, get_or-drop}
 use lib.Bits.{bit_or, or_shifted}
-use lib.Pow.{pow-add, pow_pos, pow_mono, shl_exact, field as shifted-field, shr-shr, shl-shr}
+use lib.Pow.{pow-add, pow_pos, pow_mono, shl_exact, field as shifted_field, shr-shr, shl-shr}
 use Rattle.bits.specs.Bits.{value, field, Bytes, bits, padded}
 use Rattle.bits.specs.inside.Words.{word, spelled, leading, Ahead}
-use Rattle.bits.proofs.BitLaws.{value-append, value_of, value-front, value_back, field-length, field_low, field-append, bits-length, bits_dropped, padded_bits}
+use Rattle.bits.proofs.BitLaws.{value-append, value_of, value_front, value_back, field-length, field_low, field-append, bits-length, bits_dropped, padded_bits}
 
 -- every element is a byte, and so is what is missing
 abbrev pub EachByte : List ℕ → Type 0
@@ -104,7 +104,7 @@ word_whole k f h e =
 pub value_middle : (l : List Bool) (s w r : ℕ) → length l ≡ s + (w + r) → value (take w (drop s l)) ≡ value l / 2 ^ r % 2 ^ w
 value_middle l s w r e =
     let d : length (drop s l) ≡ w + r = length-drop s l ∙ omega arith in
-    value-front (drop s l) w r d ∙ ap (λ (n : ℕ). n / 2 ^ r) (value_back l s (w + r) e) ∙ shifted-field (value l) w r
+    value_front (drop s l) w r d ∙ ap (λ (n : ℕ). n / 2 ^ r) (value_back l s (w + r) e) ∙ shifted_field (value l) w r
 
 -- two shifts within 64 bits leave the w bits behind the first s
 shifted : (v s w r : ℕ) → 64 ≡ s + (w + r) → v * 2 ^ s % 2 ^ 64 / 2 ^ (64 - w) ≡ v / 2 ^ r % 2 ^ w
@@ -112,7 +112,7 @@ shifted v s w r e =
     let a : 64 ≡ w + (s + r) = omega arith in
     let b : 64 - w ≡ s + r = omega arith in
     ap₂ (λ (m n : ℕ). v * 2 ^ s % 2 ^ m / 2 ^ n) a b
-    ∙ shifted-field (v * 2 ^ s) w (s + r)
+    ∙ shifted_field (v * 2 ^ s) w (s + r)
     ∙ ap (λ (n : ℕ). n % 2 ^ w) (sym (shr-shr (v * 2 ^ s) s r) ∙ ap (λ (n : ℕ). n / 2 ^ r) (shl-shr v s))
 
 -- a field within the first eight bytes

@@ -21,7 +21,7 @@ use Rattle.buffer.specs.Answers.{packed, leaving}
 use Rattle.buffer.specs.Contours as C
 use Rattle.buffer.specs.Shapes as S
 use Rattle.buffer.proofs.SpanLaws.{movable, one_movable}
-use Rattle.buffer.proofs.AnswerLaws.{Fits, stored-told, packing_refused, packing_fits, packing_done, contours_refused, contours_fit, contours_done}
+use Rattle.buffer.proofs.AnswerLaws.{Fits, stored_told, packing_refused, packing_fits, packing_done, contours_refused, contours_fit, contours_done}
 use Rattle.buffer.proofs.PackLaws.{Joined, joined, SoundParts, sound_parts, count-append, added-length}
 
 -- a contour added to a contour set
@@ -50,7 +50,7 @@ module _ {p : List ℤ} {cs : List (List ℕ)} {more out : List ℤ} {records : 
   one_more_refused w h n =
       contours_refused (p ++ more) (enlarged p cs more) out records _ _ (sym (length-append p more)) (enlarged-length p cs more)
       judged.k r judged.with_room w h n
-      ∙ stored-told (p ++ more) (enlarged p cs more) [] out records [] (both p more (sound (spans cs) (count p))) tt judged.k refusal
+      ∙ stored_told (p ++ more) (enlarged p cs more) [] out records [] (both p more (sound (spans cs) (count p))) tt judged.k refusal
 
   module _ (z : r ≡ 0) where
     fits : Fits judged.k (length p + length more) (length cs + 1) 0 out records []
@@ -77,7 +77,7 @@ module _ {p : List ℤ} {cs : List (List ℕ)} {more out : List ℤ} {records : 
     one_more_done o d h i =
         contours_done (p ++ more) (enlarged p cs more) out records _ _ (sym (length-append p more)) (enlarged-length p cs more)
         judged.k r judged.with_room _ o d z (count-append p more accepted.even) h i
-        ∙ stored-told (p ++ more) (enlarged p cs more) [] out records [] (both p more (sound (spans cs) (count p))) tt judged.k refusal
+        ∙ stored_told (p ++ more) (enlarged p cs more) [] out records [] (both p more (sound (spans cs) (count p))) tt judged.k refusal
 
 -- a shape added to a shape set
 module _ (p : List ℤ) (cs ss mcs : List (List ℕ)) where
@@ -116,7 +116,7 @@ module _ {p : List ℤ} {cs ss : List (List ℕ)} {more : List ℤ} {mcs : List 
   shape_more_refused w h n =
       packing_refused (p ++ more) (all_contours p cs ss mcs) (all_shapes p cs ss mcs) out records groups _ _ _
       (sym (length-append p more)) (contours-length p cs ss mcs) (shapes-length p cs ss mcs) judged.k r judged.with_room w h n
-      ∙ stored-told (p ++ more) (all_contours p cs ss mcs) (all_shapes p cs ss mcs) out records groups
+      ∙ stored_told (p ++ more) (all_contours p cs ss mcs) (all_shapes p cs ss mcs) out records groups
       (both p more (S.both_sound p cs ss more mcs)) tt judged.k shape_refusal
 
   module _ (z : r ≡ 0) where
@@ -155,5 +155,5 @@ module _ {p : List ℤ} {cs ss : List (List ℕ)} {more : List ℤ} {mcs : List 
         packing_done (p ++ more) (all_contours p cs ss mcs) (all_shapes p cs ss mcs) out records groups _ _ _
         (sym (length-append p more)) (contours-length p cs ss mcs) (shapes-length p cs ss mcs) judged.k r judged.with_room
         _ o c d z (count-append p more shape_accepted.even) h i j
-        ∙ stored-told (p ++ more) (all_contours p cs ss mcs) (all_shapes p cs ss mcs) out records groups
+        ∙ stored_told (p ++ more) (all_contours p cs ss mcs) (all_shapes p cs ss mcs) out records groups
         (both p more (S.both_sound p cs ss more mcs)) tt judged.k shape_refusal

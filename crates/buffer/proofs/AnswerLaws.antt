@@ -27,27 +27,27 @@ count_refused (suc r) n h = refl
 -- what packing leaves, by the number of the first refusal
 module _ (p : List ℤ) (cs ss : List Span) (out : List ℤ) (contours shapes : List (List ℕ)) where
   module _ (l : List Rung) (b : Bool) (e : b ≡ enough p cs ss out contours shapes) (r : ℕ) (f : r ≡ first_of (l ++ room b)) where
-    outcome-is : outcome r p cs ss out contours shapes ≡ stored l p cs ss out contours shapes
+    outcome_is : outcome r p cs ss out contours shapes ≡ stored l p cs ss out contours shapes
     unfolding stored
-    outcome-is = rw (f, e)
+    outcome_is = rw (f, e)
 
     pub stored_refused : (a : Packed) → a ≡ packed r 0 0 0 → (r ≡ 0 → ⊥) → leaving a out contours shapes ≡ stored l p cs ss out contours shapes
-    stored_refused a g n = ap (λ (a : Packed). leaving a out contours shapes) g ∙ go r n ∙ outcome-is
+    stored_refused a g n = ap (λ (a : Packed). leaving a out contours shapes) g ∙ go r n ∙ outcome_is
       where
         go : (r : ℕ) → (r ≡ 0 → ⊥) → leaving (packed r 0 0 0) out contours shapes ≡ outcome r p cs ss out contours shapes
         go zero n = absurd (n refl)
         go (suc r) n = refl
 
-    pub stored-done : (o : List ℤ) (c s : List (List ℕ)) → r ≡ 0 → o ≡ front p out → c ≡ front (rows cs) contours → s ≡ front (rows ss) shapes
+    pub stored_done : (o : List ℤ) (c s : List (List ℕ)) → r ≡ 0 → o ≡ front p out → c ≡ front (rows cs) contours → s ≡ front (rows ss) shapes
         → leaving (packed 0 (count p) (length cs) (length ss)) o c s ≡ stored l p cs ss out contours shapes
-    stored-done o c s z g h k = rw (g, h, k) (ap (λ (k : ℕ). outcome k p cs ss out contours shapes) (sym z) ∙ outcome-is)
+    stored_done o c s z g h k = rw (g, h, k) (ap (λ (k : ℕ). outcome k p cs ss out contours shapes) (sym z) ∙ outcome_is)
 
   -- only the number of the first refusal counts
-  pub stored-told : (l : List Rung) → T (numbered l) → (r : ℕ) → r ≡ first_of l → stored (so_far r) p cs ss out contours shapes ≡ stored l p cs ss out contours shapes
-  stored-told l t r e =
-      sym (outcome-is (so_far r) _ refl _ refl)
+  pub stored_told : (l : List Rung) → T (numbered l) → (r : ℕ) → r ≡ first_of l → stored (so_far r) p cs ss out contours shapes ≡ stored l p cs ss out contours shapes
+  stored_told l t r e =
+      sym (outcome_is (so_far r) _ refl _ refl)
       ∙ ap (λ (k : ℕ). outcome k p cs ss out contours shapes) (so_far_then l (room (enough p cs ss out contours shapes)) t r _ e refl)
-      ∙ outcome-is l _ refl _ refl
+      ∙ outcome_is l _ refl _ refl
 
 -- a set that there is room for
 pub record Fits (k a b c : ℕ) (out : List ℤ) (contours shapes : List (List ℕ)) : Type 0 where
@@ -81,7 +81,7 @@ module _ (p : List ℤ) (cs ss : List Span) (out : List ℤ) (contours shapes : 
   pub packing_done : (n : ℕ) (o : List ℤ) (d s : List (List ℕ)) → r ≡ 0 → n ≡ count p → o ≡ front p out → d ≡ front (rows cs) contours → s ≡ front (rows ss) shapes
       → leaving (packed 0 n b c) o d s ≡ stored (so_far k) p cs ss out contours shapes
   packing_done n o d s z h g i j =
-      rw (h, cb, sc) (stored-done p cs ss out contours shapes (so_far k) _ enough_is r f o d s z g i j)
+      rw (h, cb, sc) (stored_done p cs ss out contours shapes (so_far k) _ enough_is r f o d s z g i j)
 
 -- the same of a contour set, which has no row of shapes
 module _ (p : List ℤ) (cs : List Span) (out : List ℤ) (contours : List (List ℕ)) (a b : ℕ)

@@ -25,11 +25,11 @@ module _ {A B : Type 0} (f : A → B) where
   map-drop (suc n) (a ∷ l) = map-drop n l
 
   -- a part of such a list
-  pub map-cut : (l : List A) (s : Span) → cut (map f l) s ≡ map f (cut l s)
-  map-cut l s = ap (take (size s)) (map-drop s.start l) ∙ map-take (size s) (drop s.start l)
+  pub map_cut : (l : List A) (s : Span) → cut (map f l) s ≡ map f (cut l s)
+  map_cut l s = ap (take (size s)) (map-drop s.start l) ∙ map-take (size s) (drop s.start l)
 
   -- its parts, by number
-  pub map-cut-at : (l : List A) (ss : List Span) (k : ℕ) → get_or (map (cut (map f l)) ss) k [] ≡ map f (get_or (map (cut l) ss) k [])
-  map-cut-at l [] k = refl
-  map-cut-at l (s ∷ ss) zero = map-cut l s
-  map-cut-at l (s ∷ ss) (suc k) = map-cut-at l ss k
+  pub map_cut_at : (l : List A) (ss : List Span) (k : ℕ) → get_or (map (cut (map f l)) ss) k [] ≡ map f (get_or (map (cut l) ss) k [])
+  map_cut_at l [] k = refl
+  map_cut_at l (s ∷ ss) zero = map_cut l s
+  map_cut_at l (s ∷ ss) (suc k) = map_cut_at l ss k

@@ -34,14 +34,14 @@ shape_movable p cs k e z =
     movable cs (count p) 0 a.sound (omega (arith, a.few))
 
 module _ (p : List ℤ) (cs ss : List (List ℕ)) (k : ℕ) (e : k ≡ first_of (S.refusals p cs ss)) (z : k ≡ 0) where
-  pub contours-movable : Movable cs 0
+  pub contours_movable : Movable cs 0
   unfolding most
-  contours-movable =
+  contours_movable =
       let a = accepted limit p (sound (spans cs) (count p) && sound (spans ss) (length cs)) (sym e ∙ z) in
       movable cs (count p) 0 (and_left (sound (spans cs) (count p)) _ a.sound) (omega (arith, a.few))
 
-  pub shapes-movable : length cs < 2 ^ 64 → Movable ss 0
-  shapes-movable h =
+  pub shapes_movable : length cs < 2 ^ 64 → Movable ss 0
+  shapes_movable h =
       let a = accepted limit p (sound (spans cs) (count p) && sound (spans ss) (length cs)) (sym e ∙ z) in
       movable ss (length cs) 0 (and_right (sound (spans cs) (count p)) _ a.sound) (omega arith)
 
@@ -88,29 +88,29 @@ sound_parts p cs ss more mcs e =
 -- packing the contours of a row
 module _ (k r : ℕ) (p : List ℤ) (cs : List (List ℕ)) (out : List ℤ) (records : List (List ℕ))
     (f : r ≡ first_of (so_far k ++ room (leb (length p) (length out) && leb (length cs) (length records)))) where
-  pub pack-refused : (w : Packed) → w ≡ packed r 0 0 0 → (r ≡ 0 → ⊥) → leaving w out records [] ≡ stored (so_far k) p (spans cs) [] out records []
-  pack-refused = contours_refused p (spans cs) out records _ _ refl (sym (spans-length cs)) k r f
+  pub pack_refused : (w : Packed) → w ≡ packed r 0 0 0 → (r ≡ 0 → ⊥) → leaving w out records [] ≡ stored (so_far k) p (spans cs) [] out records []
+  pack_refused = contours_refused p (spans cs) out records _ _ refl (sym (spans-length cs)) k r f
 
-  pub pack-fits : r ≡ 0 → Fits k (length p) (length cs) 0 out records []
-  pack-fits = contours_fit p (spans cs) out records _ _ refl (sym (spans-length cs)) k r f
+  pub pack_fits : r ≡ 0 → Fits k (length p) (length cs) 0 out records []
+  pack_fits = contours_fit p (spans cs) out records _ _ refl (sym (spans-length cs)) k r f
 
-  pub pack-done : (o : List ℤ) (d : List (List ℕ)) → r ≡ 0 → o ≡ placed 0 p out → d ≡ placed 0 (rows (map (moved 0) (spans cs))) records
+  pub pack_done : (o : List ℤ) (d : List (List ℕ)) → r ≡ 0 → o ≡ placed 0 p out → d ≡ placed 0 (rows (map (moved 0) (spans cs))) records
       → leaving (packed 0 (count p) (length cs) 0) o d [] ≡ stored (so_far k) p (spans cs) [] out records []
-  pack-done o d z g h =
+  pack_done o d z g h =
       contours_done p (spans cs) out records _ _ refl (sym (spans-length cs)) k r f _ o d z refl (g ∙ placed_front out p) (h ∙ records_front cs records)
 
 -- packing the shapes of a row
 module _ (k r : ℕ) (p : List ℤ) (cs ss : List (List ℕ)) (out : List ℤ) (records groups : List (List ℕ))
     (f : r ≡ first_of (so_far k ++ room (leb (length p) (length out) && leb (length cs) (length records) && leb (length ss) (length groups)))) where
-  pub group-refused : (w : Packed) → w ≡ packed r 0 0 0 → (r ≡ 0 → ⊥) → leaving w out records groups ≡ stored (so_far k) p (spans cs) (spans ss) out records groups
-  group-refused = packing_refused p (spans cs) (spans ss) out records groups _ _ _ refl (sym (spans-length cs)) (sym (spans-length ss)) k r f
+  pub group_refused : (w : Packed) → w ≡ packed r 0 0 0 → (r ≡ 0 → ⊥) → leaving w out records groups ≡ stored (so_far k) p (spans cs) (spans ss) out records groups
+  group_refused = packing_refused p (spans cs) (spans ss) out records groups _ _ _ refl (sym (spans-length cs)) (sym (spans-length ss)) k r f
 
-  pub group-fits : r ≡ 0 → Fits k (length p) (length cs) (length ss) out records groups
-  group-fits = packing_fits p (spans cs) (spans ss) out records groups _ _ _ refl (sym (spans-length cs)) (sym (spans-length ss)) k r f
+  pub group_fits : r ≡ 0 → Fits k (length p) (length cs) (length ss) out records groups
+  group_fits = packing_fits p (spans cs) (spans ss) out records groups _ _ _ refl (sym (spans-length cs)) (sym (spans-length ss)) k r f
 
-  pub group-done : (o : List ℤ) (c d : List (List ℕ)) → r ≡ 0 → o ≡ placed 0 p out
+  pub group_done : (o : List ℤ) (c d : List (List ℕ)) → r ≡ 0 → o ≡ placed 0 p out
       → c ≡ placed 0 (rows (map (moved 0) (spans cs))) records → d ≡ placed 0 (rows (map (moved 0) (spans ss))) groups
       → leaving (packed 0 (count p) (length cs) (length ss)) o c d ≡ stored (so_far k) p (spans cs) (spans ss) out records groups
-  group-done o c d z g h i =
+  group_done o c d z g h i =
       packing_done p (spans cs) (spans ss) out records groups _ _ _ refl (sym (spans-length cs)) (sym (spans-length ss)) k r f _ o c d z refl
       (g ∙ placed_front out p) (h ∙ records_front cs records) (i ∙ records_front ss groups)

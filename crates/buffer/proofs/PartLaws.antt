@@ -13,7 +13,7 @@ use Rattle.integers.proofs.Logic.{and_left, and_right}
 use Rattle.replies.specs.Ladder.{first_of}
 use Rattle.grid.specs.Limits.{limit}
 use Rattle.grid.specs.Domain.{count, domain, Contour}
-use Rattle.grid.proofs.LimitLaws.{on-dropped, on-taken}
+use Rattle.grid.proofs.LimitLaws.{on_dropped, on_taken}
 use Rattle.buffer.specs.declared.answer.Counted.{Counted}
 use Rattle.buffer.specs.Spans.{span, spans, sound}
 use Rattle.buffer.specs.declared.ranges.Span.{Span}
@@ -24,7 +24,7 @@ use Rattle.buffer.specs.Parts.{named, contour_parts, shape_parts, handed}
 use Rattle.buffer.specs.Answers.{counted}
 use Rattle.buffer.specs.Contours as C
 use Rattle.buffer.specs.Shapes as S
-use Rattle.buffer.proofs.ListLaws.{map_at, map-cut-at}
+use Rattle.buffer.proofs.ListLaws.{map_at, map_cut_at}
 use Rattle.buffer.proofs.SpanLaws.{Within, range_within}
 use Rattle.buffer.proofs.RefusalLaws.{accepted}
 
@@ -36,16 +36,16 @@ names_of p cs k even sound h =
 
 -- and the part that a range names of points in the domain is a contour in the domain
 module _ (p : List ℤ) (cs : List (List ℕ)) (k : ℕ) (d : Contour p (count p)) (n : Names p cs k) where
-  pub part-long : length (contour p (span (get_or cs k []))) ≡ 2 * (span (get_or cs k [])).end - 2 * (span (get_or cs k [])).start
-  part-long = length-take-le _ _ (omega (arith, n.forward, n.fits, length-drop (2 * (span (get_or cs k [])).start) p))
+  pub part_long : length (contour p (span (get_or cs k []))) ≡ 2 * (span (get_or cs k [])).end - 2 * (span (get_or cs k [])).start
+  part_long = length-take-le _ _ (omega (arith, n.forward, n.fits, length-drop (2 * (span (get_or cs k [])).start) p))
 
-  pub part-contour : Contour (contour p (span (get_or cs k []))) (count (contour p (span (get_or cs k []))))
-  part-contour =
+  pub part_contour : Contour (contour p (span (get_or cs k []))) (count (contour p (span (get_or cs k []))))
+  part_contour =
       let r = span (get_or cs k []) in
       record {
-        even = omega (arith, part-long, n.forward);
-        few = omega (arith, part-long, n.fits, d.even, d.few);
-        on = on-taken limit (2 * r.end - 2 * r.start) (drop (2 * r.start) p) (on-dropped limit (2 * r.start) p d.on);
+        even = omega (arith, part_long, n.forward);
+        few = omega (arith, part_long, n.fits, d.even, d.few);
+        on = on_taken limit (2 * r.end - 2 * r.start) (drop (2 * r.start) p) (on_dropped limit (2 * r.start) p d.on);
       }
 
 -- what a caller who does not ask where a part lies knows of it
@@ -61,8 +61,8 @@ module _ {A : Type 0} (f : Span → A) (cs : List (List ℕ)) (k : ℕ) (d : A) 
   made_at : k < length cs → get_or (map f (spans cs)) k d ≡ f (span (get_or cs k []))
   made_at h = map_at f (spans cs) k d (span []) (omega (arith, length-map cs span)) ∙ ap f (map_at span cs k (span []) [] h)
 
-  made-past : length cs ≤ k → get_or (map f (spans cs)) k d ≡ d
-  made-past h =
+  made_past : length cs ≤ k → get_or (map f (spans cs)) k d ≡ d
+  made_past h =
       let l : length (map f (spans cs)) ≤ k = omega (arith, length-map (spans cs) f, length-map cs span) in
       get_or-eq_default (map f (spans cs)) d l
 
@@ -79,27 +79,27 @@ module _ (p : Part) where
   contours_are cs = sym (map-map numbers_of (named p) cs)
 
   shape_is : (cs ss : List Span) (s : ℕ) → get_or (shapes p.numbers cs ss) s [] ≡ map numbers_of (get_or (shape_parts p cs ss) s [])
-  shape_is cs ss s = ap (λ (l : List (List ℤ)). get_or (map (cut l) ss) s []) (contours_are cs) ∙ map-cut-at numbers_of (contour_parts p cs) ss s
+  shape_is cs ss s = ap (λ (l : List (List ℤ)). get_or (map (cut l) ss) s []) (contours_are cs) ∙ map_cut_at numbers_of (contour_parts p cs) ss s
 
-  pub part-holds : (cs : List Span) (k : ℕ) → (get_or (contour_parts p cs) k (none p)).numbers ≡ get_or (contours p.numbers cs) k []
-  part-holds cs k =
+  pub part_holds : (cs : List Span) (k : ℕ) → (get_or (contour_parts p cs) k (none p)).numbers ≡ get_or (contours p.numbers cs) k []
+  part_holds cs k =
       sym (get_or-map numbers_of (contour_parts p cs) k (none p))
       ∙ ap (λ (l : List (List ℤ)). get_or l k []) (sym (contours_are cs))
 
-  pub shape-part-holds : (cs ss : List Span) (s c : ℕ) → (get_or (get_or (shape_parts p cs ss) s []) c (none p)).numbers ≡ get_or (get_or (shapes p.numbers cs ss) s []) c []
-  shape-part-holds cs ss s c =
+  pub shape_part_holds : (cs ss : List Span) (s c : ℕ) → (get_or (get_or (shape_parts p cs ss) s []) c (none p)).numbers ≡ get_or (get_or (shapes p.numbers cs ss) s []) c []
+  shape_part_holds cs ss s c =
       sym (get_or-map numbers_of (get_or (shape_parts p cs ss) s []) c (none p))
       ∙ ap (λ (l : List (List ℤ)). get_or l c []) (sym (shape_is cs ss s))
 
 module _ (p : Part) (cs : List (List ℕ)) (k r : ℕ) (e : r ≡ first_of (C.refusals p.numbers cs)) where
-  pub contour-refused : (r ≡ 0 → ⊥) → none p ≡ C.contour_at p cs k
+  pub contour_refused : (r ≡ 0 → ⊥) → none p ≡ C.contour_at p cs k
   unfolding C.contour_at
-  contour-refused n = rw (← e) (handed_refused r p _ n)
+  contour_refused n = rw (← e) (handed_refused r p _ n)
 
   module _ (z : r ≡ 0) where
-    pub contour-absent : length cs ≤ k → none p ≡ C.contour_at p cs k
+    pub contour_absent : length cs ≤ k → none p ≡ C.contour_at p cs k
     unfolding C.contour_at
-    contour-absent h = rw (← e, z) (sym (made-past (named p) cs k (none p) h))
+    contour_absent h = rw (← e, z) (sym (made_past (named p) cs k (none p) h))
 
     module _ (h : k < length cs) where
       pub contour_there : named p (span (get_or cs k [])) ≡ C.contour_at p cs k
@@ -107,8 +107,8 @@ module _ (p : Part) (cs : List (List ℕ)) (k r : ℕ) (e : r ≡ first_of (C.re
       contour_there = rw (← e, z) (sym (made_at (named p) cs k (none p) h))
 
 module _ (p : List ℤ) (cs : List (List ℕ)) (k r : ℕ) (e : r ≡ first_of (C.refusals p cs)) (z : r ≡ 0) (h : k < length cs) where
-  pub contour-named : Names p cs k
-  contour-named = let a = accepted limit p (sound (spans cs) (count p)) (sym e ∙ z) in names_of p cs k a.even a.sound h
+  pub contour_named : Names p cs k
+  contour_named = let a = accepted limit p (sound (spans cs) (count p)) (sym e ∙ z) in names_of p cs k a.even a.sound h
 
 -- the first contour
 pub first_there : (p : Part) (cs : List (List ℕ)) → (length cs ≡ 0 → ⊥) → C.contour_at p cs 0 ≡ C.first_contour p cs
@@ -128,21 +128,21 @@ module _ (p : Part) (cs : List (List ℕ)) (e : length cs ≡ 0) (r : ℕ) (f : 
   pub first_refused : (r ≡ 0 → ⊥) → none p ≡ C.first_contour p cs
   first_refused n = handed_refused r p p n ∙ ap (λ (k : ℕ). handed k p p) f ∙ loose
 
-  pub first-loose : r ≡ 0 → p ≡ C.first_contour p cs
-  first-loose z = ap (λ (k : ℕ). handed k p p) (sym (sym f ∙ z)) ∙ loose
+  pub first_loose : r ≡ 0 → p ≡ C.first_contour p cs
+  first_loose z = ap (λ (k : ℕ). handed k p p) (sym (sym f ∙ z)) ∙ loose
 
 -- the shapes of a flat shape set, by number: what is made of the spans of each
 module _ {A : Type 0} (f : Span → A) (cs ss : List (List ℕ)) (s : ℕ) where
   shape : List A
   shape = get_or (map (cut (map f (spans cs))) (spans ss)) s []
 
-  shapes-past : length ss ≤ s → shape ≡ []
+  shapes_past : length ss ≤ s → shape ≡ []
   unfolding shape
-  shapes-past h = made-past (cut (map f (spans cs))) ss s [] h
+  shapes_past h = made_past (cut (map f (spans cs))) ss s [] h
 
-  shapes-at : s < length ss → shape ≡ cut (map f (spans cs)) (span (get_or ss s []))
+  shapes_at : s < length ss → shape ≡ cut (map f (spans cs)) (span (get_or ss s []))
   unfolding shape
-  shapes-at h = made_at (cut (map f (spans cs))) ss s [] h
+  shapes_at h = made_at (cut (map f (spans cs))) ss s [] h
 
   module _ (w : Within (length cs) (span (get_or ss s []))) (h : s < length ss) where
     shape-length : length shape ≡ get_or (get_or ss s []) 1 0 - get_or (get_or ss s []) 0 0
@@ -150,37 +150,37 @@ module _ {A : Type 0} (f : Span → A) (cs ss : List (List ℕ)) (s : ℕ) where
         let l : List A = map f (spans cs) in
         let d : length (drop (get_or (get_or ss s []) 0 0) l) ≡ length cs - get_or (get_or ss s []) 0 0 =
         length-drop (get_or (get_or ss s []) 0 0) l ∙ ap (λ (n : ℕ). n - get_or (get_or ss s []) 0 0) (length-map (spans cs) f ∙ length-map cs span) in
-        ap length (shapes-at h) ∙ length-take-le _ _ (omega (arith, w.ends, w.forward))
+        ap length (shapes_at h) ∙ length-take-le _ _ (omega (arith, w.ends, w.forward))
 
     shape_at : (c : ℕ) (d : A) → c < get_or (get_or ss s []) 1 0 - get_or (get_or ss s []) 0 0 → get_or shape c d ≡ f (span (get_or cs (get_or (get_or ss s []) 0 0 + c) []))
     shape_at c d l =
-        ap (λ (k : List A). get_or k c d) (shapes-at h)
+        ap (λ (k : List A). get_or k c d) (shapes_at h)
         ∙ get_or-take (get_or (get_or ss s []) 1 0 - get_or (get_or ss s []) 0 0) (drop (get_or (get_or ss s []) 0 0) (map f (spans cs))) c d l
         ∙ get_or-drop (get_or (get_or ss s []) 0 0) (map f (spans cs)) c d
         ∙ made_at f cs (get_or (get_or ss s []) 0 0 + c) d (omega (arith, w.ends))
 
 -- how many contours a shape has
 module _ (p : List ℤ) (cs ss : List (List ℕ)) (s r : ℕ) (e : r ≡ first_of (S.refusals p cs ss)) where
-  pub inside-refused : (a : Counted) → a ≡ counted r 0 → (r ≡ 0 → ⊥) → a ≡ S.contours_in p cs ss s
+  pub inside_refused : (a : Counted) → a ≡ counted r 0 → (r ≡ 0 → ⊥) → a ≡ S.contours_in p cs ss s
   unfolding S.contours_in
-  inside-refused a f n = f ∙ rw (← e) (go r n)
+  inside_refused a f n = f ∙ rw (← e) (go r n)
     where
       go : (r : ℕ) → (r ≡ 0 → ⊥) → counted r 0 ≡ counted r (length (get_or (shapes p (spans cs) (spans ss)) s []))
       go zero n = absurd (n refl)
       go (suc r) n = refl
 
   module _ (z : r ≡ 0) where
-    pub inside-absent : (a : Counted) → a ≡ counted 0 0 → length ss ≤ s → a ≡ S.contours_in p cs ss s
+    pub inside_absent : (a : Counted) → a ≡ counted 0 0 → length ss ≤ s → a ≡ S.contours_in p cs ss s
     unfolding S.contours_in shape
-    inside-absent a f h = f ∙ rw (← e, z) (ap (λ (l : List (List ℤ)). counted 0 (length l)) (sym (shapes-past (contour p) cs ss s h)))
+    inside_absent a f h = f ∙ rw (← e, z) (ap (λ (l : List (List ℤ)). counted 0 (length l)) (sym (shapes_past (contour p) cs ss s h)))
 
     module _ (h : s < length ss) where
-      pub shape-within : Within (length cs) (span (get_or ss s []))
-      shape-within = range_within ss (length cs) s (and_right (sound (spans cs) (count p)) (sound (spans ss) (length cs)) (accepted limit p _ (sym e ∙ z)).sound) h
+      pub shape_within : Within (length cs) (span (get_or ss s []))
+      shape_within = range_within ss (length cs) s (and_right (sound (spans cs) (count p)) (sound (spans ss) (length cs)) (accepted limit p _ (sym e ∙ z)).sound) h
 
-      pub inside-there : (a : Counted) → a ≡ counted 0 (get_or (get_or ss s []) 1 0 - get_or (get_or ss s []) 0 0) → a ≡ S.contours_in p cs ss s
+      pub inside_there : (a : Counted) → a ≡ counted 0 (get_or (get_or ss s []) 1 0 - get_or (get_or ss s []) 0 0) → a ≡ S.contours_in p cs ss s
       unfolding S.contours_in shape
-      inside-there a f = f ∙ rw (← e, z) (ap (λ (n : ℕ). counted 0 n) (sym (shape-length (contour p) cs ss s shape-within h)))
+      inside_there a f = f ∙ rw (← e, z) (ap (λ (n : ℕ). counted 0 n) (sym (shape-length (contour p) cs ss s shape_within h)))
 
 -- a contour of a shape
 pub record There (p : Part) (cs ss : List (List ℕ)) (s c : ℕ) : Type 0 where
@@ -209,10 +209,10 @@ module _ (p : Part) (cs ss : List (List ℕ)) (s c : ℕ) (a : Counted) (e : a �
       go zero f h = there (ltb s (length ss)) refl
         where
           there : (b : Bool) → ltb s (length ss) ≡ b → There p cs ss s c
-          there false g = absurd (omega (arith, ap length (shapes-past (contour p.numbers) cs ss s (ltb-false _ _ g))))
+          there false g = absurd (omega (arith, ap length (shapes_past (contour p.numbers) cs ss s (ltb-false _ _ g))))
           there true g =
               let k = ltb-true s (length ss) g in
-              let w = shape-within p.numbers cs ss s 0 f refl k in
+              let w = shape_within p.numbers cs ss s 0 f refl k in
               let l : c < get_or (get_or ss s []) 1 0 - get_or (get_or ss s []) 0 0 = omega (arith, shape-length (contour p.numbers) cs ss s w k) in
               let ok = accepted limit p.numbers _ (sym f) in
               record {

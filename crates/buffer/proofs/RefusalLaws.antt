@@ -31,12 +31,12 @@ module _ (d : ℕ) where
   past_one true b c e n = absurd (n e)
   past_one false b c e n = refl
 
-  at-two : (a b c : Bool) → Stops a b c → d ≡ 2 → b ≡ true
+  at_two : (a b c : Bool) → Stops a b c → d ≡ 2 → b ≡ true
   unfolding first_of
-  at-two true b c e f = absurd (omega arith)
-  at-two false true c e f = refl
-  at-two false false true e f = absurd (omega arith)
-  at-two false false false e f = absurd (omega arith)
+  at_two true b c e f = absurd (omega arith)
+  at_two false true c e f = refl
+  at_two false false true e f = absurd (omega arith)
+  at_two false false false e f = absurd (omega arith)
 
   past_two : (a b c : Bool) → Stops a b c → (d ≡ 1 → ⊥) → (d ≡ 2 → ⊥) → b ≡ false
   unfolding first_of
@@ -44,63 +44,63 @@ module _ (d : ℕ) where
   past_two false true c e n m = absurd (m e)
   past_two false false c e n m = refl
 
-  past-both : (a b c : Bool) → Stops a b c → a ≡ false → b ≡ false → d ≡ first_of ((c, 3) ∷ [])
+  past_both : (a b c : Bool) → Stops a b c → a ≡ false → b ≡ false → d ≡ first_of ((c, 3) ∷ [])
   unfolding first_of
-  past-both true b c e f g = absurd (true≢false f)
-  past-both false true c e f g = absurd (true≢false g)
-  past-both false false c e f g = e
+  past_both true b c e f g = absurd (true≢false f)
+  past_both false true c e f g = absurd (true≢false g)
+  past_both false false c e f g = e
 
 -- of a set, its ranges sound or not
 module _ (bound : ℕ) (row : List ℤ) (sound : Bool) (d : ℕ) (e : d ≡ first_of (domain bound row)) where
-  pub set-odd : d ≡ 1 → 1 ≡ first_of (set bound row sound)
-  set-odd h = first_is _ _ (here (at_one d _ _ _ e h))
+  pub set_odd : d ≡ 1 → 1 ≡ first_of (set bound row sound)
+  set_odd h = first_is _ _ (here (at_one d _ _ _ e h))
 
   module _ (n : d ≡ 1 → ⊥) where
-    pub set-over : d ≡ 2 → 2 ≡ first_of (set bound row sound)
-    set-over h = first_is _ _ (past (past_one d _ _ _ e n) (here (at-two d _ _ _ e h)))
+    pub set_over : d ≡ 2 → 2 ≡ first_of (set bound row sound)
+    set_over h = first_is _ _ (past (past_one d _ _ _ e n) (here (at_two d _ _ _ e h)))
 
     module _ (m : d ≡ 2 → ⊥) where
-      pub set-unsound : not sound ≡ true → 6 ≡ first_of (set bound row sound)
-      set-unsound h = first_is _ _ (past (past_one d _ _ _ e n) (past (past_two d _ _ _ e n m) (here h)))
+      pub set_unsound : not sound ≡ true → 6 ≡ first_of (set bound row sound)
+      set_unsound h = first_is _ _ (past (past_one d _ _ _ e n) (past (past_two d _ _ _ e n m) (here h)))
 
       pub set_rest : not sound ≡ false → d ≡ first_of (set bound row sound)
       set_rest h =
           let f = past_one d _ _ _ e n in
           let g = past_two d _ _ _ e n m in
-          first_is _ _ (past f (past g (past h (found _ _ (past-both d _ _ _ e f g)))))
+          first_is _ _ (past f (past g (past h (found _ _ (past_both d _ _ _ e f g)))))
 
 -- of a set and what is added to it
 module _ (row more : List ℤ) (sound : Bool) (d k : ℕ) (e : d ≡ first_of (domain limit row)) (f : k ≡ first_of (domain limit more)) where
-  pub both-odd : d ≡ 1 → 1 ≡ first_of (both row more sound)
-  both-odd h = first_is _ _ (here (at_one d _ _ _ e h))
+  pub both_odd : d ≡ 1 → 1 ≡ first_of (both row more sound)
+  both_odd h = first_is _ _ (here (at_one d _ _ _ e h))
 
   module _ (n : d ≡ 1 → ⊥) where
-    pub more-odd : k ≡ 1 → 1 ≡ first_of (both row more sound)
-    more-odd h = first_is _ _ (past (past_one d _ _ _ e n) (here (at_one k _ _ _ f h)))
+    pub more_odd : k ≡ 1 → 1 ≡ first_of (both row more sound)
+    more_odd h = first_is _ _ (past (past_one d _ _ _ e n) (here (at_one k _ _ _ f h)))
 
     module _ (m : k ≡ 1 → ⊥) where
-      pub both-over : most < count row + count more → 2 ≡ first_of (both row more sound)
-      both-over h = first_is _ _ (past (past_one d _ _ _ e n) (past (past_one k _ _ _ f m) (here (lt-ltb _ _ h))))
+      pub both_over : most < count row + count more → 2 ≡ first_of (both row more sound)
+      both_over h = first_is _ _ (past (past_one d _ _ _ e n) (past (past_one k _ _ _ f m) (here (lt-ltb _ _ h))))
 
       module _ (s : count row + count more ≤ most) where
         on : (r : ℕ) → First ((not sound, 6) ∷ off limit row ++ off limit more) r → First (both row more sound) r
         on r g = past (past_one d _ _ _ e n) (past (past_one k _ _ _ f m) (past (le-ltb _ _ s) g))
 
-        pub both-unsound : not sound ≡ true → 6 ≡ first_of (both row more sound)
-        both-unsound h = first_is _ _ (on _ (here h))
+        pub both_unsound : not sound ≡ true → 6 ≡ first_of (both row more sound)
+        both_unsound h = first_is _ _ (on _ (here h))
 
         module _ (h : not sound ≡ false) where
-          row-off : d ≡ first_of (off limit row)
-          row-off = past-both d _ _ _ e (past_one d _ _ _ e n) (le-ltb most (count row) (omega arith))
+          row_off : d ≡ first_of (off limit row)
+          row_off = past_both d _ _ _ e (past_one d _ _ _ e n) (le-ltb most (count row) (omega arith))
 
-          more-off : k ≡ first_of (off limit more)
-          more-off = past-both k _ _ _ f (past_one k _ _ _ f m) (le-ltb most (count more) (omega arith))
+          more_off : k ≡ first_of (off limit more)
+          more_off = past_both k _ _ _ f (past_one k _ _ _ f m) (le-ltb most (count more) (omega arith))
 
-          pub both-off : (d ≡ 0 → ⊥) → d ≡ first_of (both row more sound)
-          both-off z = first_is _ _ (on _ (past h (stopped (off limit row) (off limit more) d row-off z)))
+          pub both_off : (d ≡ 0 → ⊥) → d ≡ first_of (both row more sound)
+          both_off z = first_is _ _ (on _ (past h (stopped (off limit row) (off limit more) d row_off z)))
 
           pub both_rest : d ≡ 0 → k ≡ first_of (both row more sound)
-          both_rest z = first_is _ _ (on _ (past h (onward (off limit row) (off limit more) k tt (sym row-off ∙ z) (found _ _ more-off))))
+          both_rest z = first_is _ _ (on _ (past h (onward (off limit row) (off limit more) k tt (sym row_off ∙ z) (found _ _ more_off))))
 
 -- a set that no call refuses
 pub record Accepted (bound : ℕ) (p : List ℤ) (s : Bool) : Type 0 where

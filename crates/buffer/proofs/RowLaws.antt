@@ -38,9 +38,9 @@ records_front l out = placed_front out (rows (map (moved 0) (spans l))) ∙ ap (
 
 -- both rows of records
 module _ (one two out : List (List ℕ)) (n : ℕ) where
-  pub both-placed : (o p : List (List ℕ)) → o ≡ placed 0 (rows (map (moved 0) (spans one))) out → p ≡ placed (length one) (rows (map (moved n) (spans two))) o
+  pub both_placed : (o p : List (List ℕ)) → o ≡ placed 0 (rows (map (moved 0) (spans one))) out → p ≡ placed (length one) (rows (map (moved n) (spans two))) o
       → p ≡ front (rows (spans one ++ map (moved n) (spans two))) out
-  both-placed o p e f =
+  both_placed o p e f =
       let a : o ≡ front (rows (spans one)) out = e ∙ records_front one out in
       let k : length one ≡ length (rows (spans one)) = sym (length-map (spans one) row ∙ length-map one span) in
       f ∙ ap (placed (length one) (rows (map (moved n) (spans two)))) a

@@ -56,47 +56,47 @@ sound_laid p n (s ∷ l) e =
     (ap (λ (q : ℕ). laid q (map size l)) b ∙ sound_laid s.end n l (others_sound p n s l e))
 
 module _ {A : Type 0} where
-  pub cuts-joined : (a : List A) (p : ℕ) (l : List Span) → sound_from p l (length a) ≡ true → joined (map (cut a) l) ≡ drop p a
+  pub cuts_joined : (a : List A) (p : ℕ) (l : List Span) → sound_from p l (length a) ≡ true → joined (map (cut a) l) ≡ drop p a
   unfolding joined
-  cuts-joined a p [] e = sym (ap (λ (k : ℕ). drop k a) (ends_at p (length a) e) ∙ drop-length a)
-  cuts-joined a p (s ∷ l) e =
+  cuts_joined a p [] e = sym (ap (λ (k : ℕ). drop k a) (ends_at p (length a) e) ∙ drop-length a)
+  cuts_joined a p (s ∷ l) e =
       let b : s.start + (s.end - s.start) ≡ s.end = omega (arith, first_forward p (length a) s l e) in
-      ap (λ (t : List A). cut a s ++ t) (cuts-joined a s.end l (others_sound p (length a) s l e) ∙ ap (λ (k : ℕ). drop k a) (sym b) ∙ sym (drop-drop (s.end - s.start) s.start a))
+      ap (λ (t : List A). cut a s ++ t) (cuts_joined a s.end l (others_sound p (length a) s l e) ∙ ap (λ (k : ℕ). drop k a) (sym b) ∙ sym (drop-drop (s.end - s.start) s.start a))
       ∙ take-append-drop (s.end - s.start) (drop s.start a)
       ∙ ap (λ (k : ℕ). drop k a) (sym (first_starts p (length a) s l e))
 
-  pub laid-cut : (a : List A) (set : List (List A)) → map (cut (a ++ joined set)) (laid (length a) (map length set)) ≡ set
+  pub laid_cut : (a : List A) (set : List (List A)) → map (cut (a ++ joined set)) (laid (length a) (map length set)) ≡ set
   unfolding laid joined
-  laid-cut a [] = refl
-  laid-cut a (b ∷ set) =
+  laid_cut a [] = refl
+  laid_cut a (b ∷ set) =
       let n : (length a + length b) - length a ≡ length b = omega arith in
       ap₂ (λ (c : List A) (l : List (List A)). c ∷ l)
       (ap₂ (λ (k : ℕ) (l : List A). take k l) n (drop-append_seam a (b ++ joined set)) ∙ take-append_seam b (joined set))
       (ap₂ (λ (l : List A) (k : ℕ). map (cut l) (laid k (map length set))) (sym (append_assoc a b (joined set))) (sym (length-append a b))
-      ∙ laid-cut (a ++ b) set)
+      ∙ laid_cut (a ++ b) set)
 
   -- a part that ends within a list is a part of the longer list
-  pub cut-front : (a b : List A) (s : Span) → s.start ≤ s.end → s.end ≤ length a → cut (a ++ b) s ≡ cut a s
-  cut-front a b s f e =
+  pub cut_front : (a b : List A) (s : Span) → s.start ≤ s.end → s.end ≤ length a → cut (a ++ b) s ≡ cut a s
+  cut_front a b s f e =
       ap (take (s.end - s.start)) (drop-append-le s.start a b (omega arith))
       ∙ take-append-le (s.end - s.start) (drop s.start a) b (omega (arith, length-drop s.start a))
 
-  pub cuts-front : (a b : List A) (p : ℕ) (l : List Span) → sound_from p l (length a) ≡ true → map (cut (a ++ b)) l ≡ map (cut a) l
-  cuts-front a b p [] e = refl
-  cuts-front a b p (s ∷ l) e =
+  pub cuts_front : (a b : List A) (p : ℕ) (l : List Span) → sound_from p l (length a) ≡ true → map (cut (a ++ b)) l ≡ map (cut a) l
+  cuts_front a b p [] e = refl
+  cuts_front a b p (s ∷ l) e =
       let o = others_sound p (length a) s l e in
-      ap₂ (λ (c : List A) (l : List (List A)). c ∷ l) (cut-front a b s (first_forward p (length a) s l e) (rises s.end (length a) l o)) (cuts-front a b s.end l o)
+      ap₂ (λ (c : List A) (l : List (List A)). c ∷ l) (cut_front a b s (first_forward p (length a) s l e) (rises s.end (length a) l o)) (cuts_front a b s.end l o)
 
   -- and a part that is set off by the length of what stands before it is a part of the list behind
-  pub cut-behind : (a b : List A) (s : Span) → cut (a ++ b) (moved (length a) s) ≡ cut b s
-  cut-behind a b s =
+  pub cut_behind : (a b : List A) (s : Span) → cut (a ++ b) (moved (length a) s) ≡ cut b s
+  cut_behind a b s =
       let n : (s.end + length a) - (s.start + length a) ≡ s.end - s.start = omega arith in
       let m : s.start + length a ≡ length a + s.start = omega arith in
       ap₂ (λ (k : ℕ) (l : List A). take k l) n (ap (λ (k : ℕ). drop k (a ++ b)) m ∙ drop-append-add a b s.start)
 
-  pub cuts-behind : (a b : List A) (l : List Span) → map (cut (a ++ b)) (map (moved (length a)) l) ≡ map (cut b) l
-  cuts-behind a b [] = refl
-  cuts-behind a b (s ∷ l) = ap₂ (λ (c : List A) (l : List (List A)). c ∷ l) (cut-behind a b s) (cuts-behind a b l)
+  pub cuts_behind : (a b : List A) (l : List Span) → map (cut (a ++ b)) (map (moved (length a)) l) ≡ map (cut b) l
+  cuts_behind a b [] = refl
+  cuts_behind a b (s ∷ l) = ap₂ (λ (c : List A) (l : List (List A)). c ∷ l) (cut_behind a b s) (cuts_behind a b l)
 
 -- sound spans behind sound spans
 pub sound-append : (p n m : ℕ) (k l : List Span) → sound_from p k n ≡ true → sound_from n l m ≡ true → sound_from p (k ++ l) m ≡ true

@@ -17,14 +17,14 @@ use Rattle.buffer.proofs.ListLaws.{map_at}
 
 -- what is left of a row from i on: one span more is met, or none is left
 module _ (n : ℕ) (all : Bool) (p i : ℕ) where
-  pub spans-more : (l : List Span) (d : Span) → i < length l
+  pub spans_more : (l : List Span) (d : Span) → i < length l
       → (all && sound_from p (drop i l) n) ≡ ((all && follows p (get_or l i d)) && sound_from (get_or l i d).end (drop (i + 1) l) n)
   unfolding sound_from
-  spans-more l d h = rw (drop-cons l i d h, add-one i) (sym (and_assoc all _ _))
+  spans_more l d h = rw (drop-cons l i d h, add-one i) (sym (and_assoc all _ _))
 
-  pub spans-done : (l : List Span) → i ≡ length l → (all && sound_from p (drop i l) n) ≡ (all && follows p (record { start = n; end = n }))
+  pub spans_done : (l : List Span) → i ≡ length l → (all && sound_from p (drop i l) n) ≡ (all && follows p (record { start = n; end = n }))
   unfolding sound_from
-  spans-done l e = rw (e, drop-length l, le-leb n n (omega arith)) (ap (λ (b : Bool). all && b) (sym (and-true (eqb p n))))
+  spans_done l e = rw (e, drop-length l, le-leb n n (omega arith)) (ap (λ (b : Bool). all && b) (sym (and-true (eqb p n))))
 
   module _ (rows : List (List ℕ)) where
     pub sound_more : i < length rows
@@ -32,9 +32,9 @@ module _ (n : ℕ) (all : Bool) (p i : ℕ) where
     unfolding sound_from
     sound_more h = rw (drop-cons rows i [] h, add-one i) (sym (and_assoc all _ _))
 
-    pub sound-done : i ≡ length rows → (all && sound_from p (spans (drop i rows)) n) ≡ (all && follows p (record { start = n; end = n }))
+    pub sound_done : i ≡ length rows → (all && sound_from p (spans (drop i rows)) n) ≡ (all && follows p (record { start = n; end = n }))
     unfolding sound_from
-    sound-done e = rw (e, drop-length rows, le-leb n n (omega arith)) (ap (λ (b : Bool). all && b) (sym (and-true (eqb p n))))
+    sound_done e = rw (e, drop-length rows, le-leb n n (omega arith)) (ap (λ (b : Bool). all && b) (sym (and-true (eqb p n))))
 
 -- a span of a sound row: it does not run backward, and ends within the count
 pub record Within (n : ℕ) (s : Span) : Type 0 where

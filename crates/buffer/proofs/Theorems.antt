@@ -10,7 +10,7 @@ use Rattle.integers.proofs.Logic.{and_left}
 use Rattle.replies.specs.Ladder.{Rung, first_of}
 use Rattle.grid.specs.Limits.{limit}
 use Rattle.grid.specs.Domain.{count, domain}
-use Rattle.grid.proofs.LimitLaws.{on-joined}
+use Rattle.grid.proofs.LimitLaws.{on_joined}
 use Rattle.grid.proofs.DomainLaws.{in_domain}
 use Rattle.buffer.specs.declared.answer.Packed.{Packed}
 use Rattle.buffer.specs.declared.ranges.Span.{Span}
@@ -21,11 +21,11 @@ use Rattle.buffer.specs.Refusals.{both}
 use Rattle.buffer.specs.Answers.{Outcome, stored, written_points, written_contours, written_shapes}
 use Rattle.buffer.specs.Contours as C
 use Rattle.buffer.specs.Shapes as S
-use Rattle.buffer.proofs.SetLaws.{sound_nothing, sound_first, laid_sound, sound_laid, sizes_are, cuts-joined, all_of, laid-cut, cuts-front, cuts-behind, sound-append, sound_moved, sound_doubled, as_cuts, doubled_laid, doubled_moved}
+use Rattle.buffer.proofs.SetLaws.{sound_nothing, sound_first, laid_sound, sound_laid, sizes_are, cuts_joined, all_of, laid_cut, cuts_front, cuts_behind, sound-append, sound_moved, sound_doubled, as_cuts, doubled_laid, doubled_moved}
 use Rattle.buffer.proofs.RefusalLaws.{Accepted, accepted}
 use Rattle.buffer.proofs.RowLaws.{spans-length}
-use Rattle.buffer.proofs.PackLaws.{Joined, joined as Joined-of, SoundParts, sound_parts, count-append, added-length}
-use Rattle.buffer.proofs.WrittenLaws.{spans_rows, Written, written, refused_unchanged, contours_taken, shapes-taken, unpacked-contour, unpacked-shape}
+use Rattle.buffer.proofs.PackLaws.{Joined, joined as joined_of, SoundParts, sound_parts, count-append, added-length}
+use Rattle.buffer.proofs.WrittenLaws.{spans_rows, Written, written, refused_unchanged, contours_taken, shapes_taken, unpacked_contour, unpacked_shape}
 
 whole_is : (c : List ℤ) → length c ≡ 2 * count c → contour c (whole c) ≡ c
 whole_is c e = all_of c (doubled (whole c)) refl (sym e)
@@ -38,42 +38,42 @@ grown p more s j t e =
       even = omega (arith, j.even, j.more_even);
       few = omega (arith, j.few, count-append p more j.even);
       sound = e;
-      on = rw (on-joined limit p more, j.on, j.more_on);
+      on = rw (on_joined limit p more, j.on, j.more_on);
     }
 
 -- a flat set that is sound
 module _ (p : List ℤ) (cs : List Span) (even : length p ≡ 2 * count p) (ok : sound cs (count p) ≡ true) where
-  numbers-sound : sound (map doubled cs) (length p) ≡ true
-  numbers-sound = ap (sound (map doubled cs)) even ∙ sound_doubled 0 (count p) cs ok
+  numbers_sound : sound (map doubled cs) (length p) ≡ true
+  numbers_sound = ap (sound (map doubled cs)) even ∙ sound_doubled 0 (count p) cs ok
 
-  pub a-sound-set's-contours-laid-end-to-end-are-its-points : joined (contours p cs) ≡ p
-  a-sound-set's-contours-laid-end-to-end-are-its-points = ap joined (as_cuts p cs) ∙ cuts-joined p 0 (map doubled cs) numbers-sound
+  pub a_sound_set's_contours_laid_end_to_end_are_its_points : joined (contours p cs) ≡ p
+  a_sound_set's_contours_laid_end_to_end_are_its_points = ap joined (as_cuts p cs) ∙ cuts_joined p 0 (map doubled cs) numbers_sound
 
-  pub and-its-ranges-are-theirs : contour_spans (contours p cs) ≡ cs
-  and-its-ranges-are-theirs = ap (laid 0) (sizes_are p 0 cs even ok) ∙ sound_laid 0 (count p) cs ok
+  pub and_its_ranges_are_theirs : contour_spans (contours p cs) ≡ cs
+  and_its_ranges_are_theirs = ap (laid 0) (sizes_are p 0 cs even ok) ∙ sound_laid 0 (count p) cs ok
 
-  pub adding-points-leaves-every-contour : (more : List ℤ) → contours (p ++ more) cs ≡ contours p cs
-  adding-points-leaves-every-contour more = as_cuts (p ++ more) cs ∙ cuts-front p more 0 (map doubled cs) numbers-sound ∙ sym (as_cuts p cs)
+  pub adding_points_leaves_every_contour : (more : List ℤ) → contours (p ++ more) cs ≡ contours p cs
+  adding_points_leaves_every_contour more = as_cuts (p ++ more) cs ∙ cuts_front p more 0 (map doubled cs) numbers_sound ∙ sym (as_cuts p cs)
 
-  pub adding-a-shape-appends-its-contours : (more : List ℤ) (mcs : List Span)
+  pub adding_a_shape_appends_its_contours : (more : List ℤ) (mcs : List Span)
       → contours (p ++ more) (cs ++ map (moved (count p)) mcs) ≡ contours p cs ++ contours more mcs
-  adding-a-shape-appends-its-contours more mcs =
+  adding_a_shape_appends_its_contours more mcs =
       map-append (contour (p ++ more)) cs (map (moved (count p)) mcs)
-      ∙ ap₂ (λ (a b : List (List ℤ)). a ++ b) (adding-points-leaves-every-contour more)
+      ∙ ap₂ (λ (a b : List (List ℤ)). a ++ b) (adding_points_leaves_every_contour more)
       (as_cuts (p ++ more) (map (moved (count p)) mcs)
       ∙ ap (map (cut (p ++ more))) (doubled_moved (count p) mcs ∙ ap (λ (n : ℕ). map (moved n) (map doubled mcs)) (sym even))
-      ∙ cuts-behind p more (map doubled mcs)
+      ∙ cuts_behind p more (map doubled mcs)
       ∙ sym (as_cuts more mcs))
 
-  pub adding-a-contour-appends-exactly-it : (more : List ℤ) → length more ≡ 2 * count more
+  pub adding_a_contour_appends_exactly_it : (more : List ℤ) → length more ≡ 2 * count more
       → contours (p ++ more) (cs ++ moved (count p) (whole more) ∷ []) ≡ contours p cs ++ more ∷ []
-  adding-a-contour-appends-exactly-it more e =
-      adding-a-shape-appends-its-contours more (whole more ∷ [])
+  adding_a_contour_appends_exactly_it more e =
+      adding_a_shape_appends_its_contours more (whole more ∷ [])
       ∙ ap (λ (c : List ℤ). contours p cs ++ c ∷ []) (whole_is more e)
 
-  pub adding-keeps-the-ranges-sound : (more : List ℤ) (mcs : List Span) → sound mcs (count more) ≡ true
+  pub adding_keeps_the_ranges_sound : (more : List ℤ) (mcs : List Span) → sound mcs (count more) ≡ true
       → sound (cs ++ map (moved (count p)) mcs) (count (p ++ more)) ≡ true
-  adding-keeps-the-ranges-sound more mcs e =
+  adding_keeps_the_ranges_sound more mcs e =
       let n : count more + count p ≡ count (p ++ more) = omega (arith, count-append p more even) in
       let z : 0 + count p ≡ count p = omega arith in
       sound-append 0 (count p) (count (p ++ more)) cs (map (moved (count p)) mcs) ok
@@ -82,7 +82,7 @@ module _ (p : List ℤ) (cs : List Span) (even : length p ≡ 2 * count p) (ok :
 -- a list of contours, packed and unpacked
 pub packing_then_unpacking_gives_back_every_contour : (set : List (List ℤ)) → Even set → contours (joined set) (contour_spans set) ≡ set
 packing_then_unpacking_gives_back_every_contour set h =
-    as_cuts (joined set) (contour_spans set) ∙ ap (map (cut (joined set))) (doubled_laid 0 set h) ∙ laid-cut [] set
+    as_cuts (joined set) (contour_spans set) ∙ ap (map (cut (joined set))) (doubled_laid 0 set h) ∙ laid_cut [] set
 
 pub points_total : (set : List (List ℤ)) → Even set → length (joined set) ≡ 2 * total (map count set)
 unfolding joined
@@ -104,28 +104,28 @@ contours_total (s ∷ set) = length-append s (joined set) ∙ ap (λ (n : ℕ). 
 pub packing_then_unpacking_gives_back_every_shape : (set : List (List (List ℤ))) → Even (joined set)
     → shapes (joined (joined set)) (contour_spans (joined set)) (shape_spans set) ≡ set
 packing_then_unpacking_gives_back_every_shape set h =
-    ap (λ (l : List (List ℤ)). map (cut l) (shape_spans set)) (packing_then_unpacking_gives_back_every_contour (joined set) h) ∙ laid-cut [] set
+    ap (λ (l : List (List ℤ)). map (cut l) (shape_spans set)) (packing_then_unpacking_gives_back_every_contour (joined set) h) ∙ laid_cut [] set
 
 pub packed_shapes_are_sound : (set : List (List (List ℤ))) → sound (shape_spans set) (length (joined set)) ≡ true
 packed_shapes_are_sound set = laid_sound 0 (length (joined set)) (map length set) (omega (arith, contours_total set))
 
 -- a shape set that is sound
 module _ (p : List ℤ) (cs ss : List Span) (even : length p ≡ 2 * count p) (ok : sound cs (count p) ≡ true) (grouped : sound ss (length cs) ≡ true) where
-  pub a-sound-set's-shapes-laid-end-to-end-are-its-contours : joined (shapes p cs ss) ≡ contours p cs
-  a-sound-set's-shapes-laid-end-to-end-are-its-contours =
-      cuts-joined (contours p cs) 0 ss (ap (sound ss) (length-map cs (contour p)) ∙ grouped)
+  pub a_sound_set's_shapes_laid_end_to_end_are_its_contours : joined (shapes p cs ss) ≡ contours p cs
+  a_sound_set's_shapes_laid_end_to_end_are_its_contours =
+      cuts_joined (contours p cs) 0 ss (ap (sound ss) (length-map cs (contour p)) ∙ grouped)
 
-  pub adding-a-shape-appends-exactly-it : (more : List ℤ) (mcs : List Span)
+  pub adding_a_shape_appends_exactly_it : (more : List ℤ) (mcs : List Span)
       → shapes (p ++ more) (cs ++ map (moved (count p)) mcs) (ss ++ moved (length cs) (every mcs) ∷ []) ≡ shapes p cs ss ++ contours more mcs ∷ []
-  adding-a-shape-appends-exactly-it more mcs =
+  adding_a_shape_appends_exactly_it more mcs =
       let l = length-map cs (contour p) in
       let m = length-map mcs (contour more) in
-      ap (λ (k : List (List ℤ)). map (cut k) (ss ++ moved (length cs) (every mcs) ∷ [])) (adding-a-shape-appends-its-contours p cs even ok more mcs)
+      ap (λ (k : List (List ℤ)). map (cut k) (ss ++ moved (length cs) (every mcs) ∷ [])) (adding_a_shape_appends_its_contours p cs even ok more mcs)
       ∙ map-append (cut (contours p cs ++ contours more mcs)) ss (moved (length cs) (every mcs) ∷ [])
       ∙ ap₂ (λ (a b : List (List (List ℤ))). a ++ b)
-      (cuts-front (contours p cs) (contours more mcs) 0 ss (ap (sound ss) l ∙ grouped))
+      (cuts_front (contours p cs) (contours more mcs) 0 ss (ap (sound ss) l ∙ grouped))
       (ap (λ (n : ℕ). cut (contours p cs ++ contours more mcs) (moved n (every mcs)) ∷ []) (sym l)
-      ∙ cuts-behind (contours p cs) (contours more mcs) (every mcs ∷ [])
+      ∙ cuts_behind (contours p cs) (contours more mcs) (every mcs ∷ [])
       ∙ ap (λ (c : List (List ℤ)). c ∷ []) (all_of (contours more mcs) (every mcs) refl (sym m)))
 
 -- one contour, or one shape, alone in its set
@@ -135,47 +135,47 @@ whole_sound n s e f = sound_first 0 n s [] (sym e) (omega arith) (sound_nothing 
 -- the calls that pack, and are not refused
 module _ (o : Outcome) (ok : o.answer.reply ≡ 0) where
   module _ (p out : List ℤ) (records : List (List ℕ)) (e : o ≡ C.with_contour p out records) where
-    contour-written : Written (domain limit p) p (whole p ∷ []) [] o
-    contour-written = written (domain limit p) tt p (whole p ∷ []) [] out records [] o e ok
+    contour_written : Written (domain limit p) p (whole p ∷ []) [] o
+    contour_written = written (domain limit p) tt p (whole p ∷ []) [] out records [] o e ok
 
-    contour-accepted : Accepted limit p (sound (whole p ∷ []) (count p))
-    contour-accepted = let c = in_domain p contour-written.clear in record { even = c.even; few = c.few; sound = whole_sound (count p) (whole p) refl refl; on = c.on }
+    contour_accepted : Accepted limit p (sound (whole p ∷ []) (count p))
+    contour_accepted = let c = in_domain p contour_written.clear in record { even = c.even; few = c.few; sound = whole_sound (count p) (whole p) refl refl; on = c.on }
 
-    pub a-packed-contour-is-unpacked : (at : ℕ × ℕ) → (C.contour_at (lying at (written_points o)) (written_contours o) 0).numbers ≡ p
-    a-packed-contour-is-unpacked at = unpacked-contour _ p (whole p ∷ []) [] o contour-written contour-accepted at 0 ∙ whole_is p contour-accepted.even
+    pub a_packed_contour_is_unpacked : (at : ℕ × ℕ) → (C.contour_at (lying at (written_points o)) (written_contours o) 0).numbers ≡ p
+    a_packed_contour_is_unpacked at = unpacked_contour _ p (whole p ∷ []) [] o contour_written contour_accepted at 0 ∙ whole_is p contour_accepted.even
 
-    pub a-packed-contour-is-a-set-that-no-call-refuses : first_of (C.refusals (written_points o) (written_contours o)) ≡ 0
-    a-packed-contour-is-a-set-that-no-call-refuses = contours_taken _ p (whole p ∷ []) [] o contour-written contour-accepted
+    pub a_packed_contour_is_a_set_that_no_call_refuses : first_of (C.refusals (written_points o) (written_contours o)) ≡ 0
+    a_packed_contour_is_a_set_that_no_call_refuses = contours_taken _ p (whole p ∷ []) [] o contour_written contour_accepted
 
   module _ (p : List ℤ) (cs : List (List ℕ)) (out : List ℤ) (records : List (List ℕ)) (e : o ≡ C.with_shape p cs out records) where
-    shape-written : Written (C.refusals p cs) p (spans cs) [] o
-    shape-written = written (C.refusals p cs) tt p (spans cs) [] out records [] o e ok
+    shape_written : Written (C.refusals p cs) p (spans cs) [] o
+    shape_written = written (C.refusals p cs) tt p (spans cs) [] out records [] o e ok
 
-    pub every-contour-of-a-packed-shape-is-unpacked : (at : ℕ × ℕ) (k : ℕ) → (C.contour_at (lying at (written_points o)) (written_contours o) k).numbers ≡ get_or (contours p (spans cs)) k []
-    every-contour-of-a-packed-shape-is-unpacked = unpacked-contour _ p (spans cs) [] o shape-written (accepted limit p _ shape-written.clear)
+    pub every_contour_of_a_packed_shape_is_unpacked : (at : ℕ × ℕ) (k : ℕ) → (C.contour_at (lying at (written_points o)) (written_contours o) k).numbers ≡ get_or (contours p (spans cs)) k []
+    every_contour_of_a_packed_shape_is_unpacked = unpacked_contour _ p (spans cs) [] o shape_written (accepted limit p _ shape_written.clear)
 
-    pub a-packed-shape-is-a-set-that-no-call-refuses : first_of (C.refusals (written_points o) (written_contours o)) ≡ 0
-    a-packed-shape-is-a-set-that-no-call-refuses = contours_taken _ p (spans cs) [] o shape-written (accepted limit p _ shape-written.clear)
+    pub a_packed_shape_is_a_set_that_no_call_refuses : first_of (C.refusals (written_points o) (written_contours o)) ≡ 0
+    a_packed_shape_is_a_set_that_no_call_refuses = contours_taken _ p (spans cs) [] o shape_written (accepted limit p _ shape_written.clear)
 
   module _ (p : List ℤ) (cs ss : List (List ℕ)) (out : List ℤ) (records : List (List ℕ)) (e : o ≡ C.with_shapes p cs ss out records) where
-    shapes-written : Written (S.refusals p cs ss) p (spans cs) [] o
-    shapes-written = written (S.refusals p cs ss) tt p (spans cs) [] out records [] o e ok
+    shapes_written : Written (S.refusals p cs ss) p (spans cs) [] o
+    shapes_written = written (S.refusals p cs ss) tt p (spans cs) [] out records [] o e ok
 
-    shapes-accepted : Accepted limit p (sound (spans cs) (count p))
-    shapes-accepted =
-        let a = accepted limit p (sound (spans cs) (count p) && sound (spans ss) (length cs)) shapes-written.clear in
+    shapes_accepted : Accepted limit p (sound (spans cs) (count p))
+    shapes_accepted =
+        let a = accepted limit p (sound (spans cs) (count p) && sound (spans ss) (length cs)) shapes_written.clear in
         record { even = a.even; few = a.few; sound = and_left (sound (spans cs) (count p)) _ a.sound; on = a.on }
 
-    pub every-contour-of-packed-shapes-is-unpacked : (at : ℕ × ℕ) (k : ℕ) → (C.contour_at (lying at (written_points o)) (written_contours o) k).numbers ≡ get_or (contours p (spans cs)) k []
-    every-contour-of-packed-shapes-is-unpacked = unpacked-contour _ p (spans cs) [] o shapes-written shapes-accepted
+    pub every_contour_of_packed_shapes_is_unpacked : (at : ℕ × ℕ) (k : ℕ) → (C.contour_at (lying at (written_points o)) (written_contours o) k).numbers ≡ get_or (contours p (spans cs)) k []
+    every_contour_of_packed_shapes_is_unpacked = unpacked_contour _ p (spans cs) [] o shapes_written shapes_accepted
 
-    pub packed-shapes-are-a-set-that-no-call-refuses : first_of (C.refusals (written_points o) (written_contours o)) ≡ 0
-    packed-shapes-are-a-set-that-no-call-refuses = contours_taken _ p (spans cs) [] o shapes-written shapes-accepted
+    pub packed_shapes_are_a_set_that_no_call_refuses : first_of (C.refusals (written_points o) (written_contours o)) ≡ 0
+    packed_shapes_are_a_set_that_no_call_refuses = contours_taken _ p (spans cs) [] o shapes_written shapes_accepted
 
-  pub a-list-of-contours-is-unpacked-as-it-was : (set : List (List ℤ)) → Even set → (out : List ℤ) (records : List (List ℕ)) → o ≡ C.with_shape (joined set) (rows (contour_spans set)) out records
+  pub a_list_of_contours_is_unpacked_as_it_was : (set : List (List ℤ)) → Even set → (out : List ℤ) (records : List (List ℕ)) → o ≡ C.with_shape (joined set) (rows (contour_spans set)) out records
       → (at : ℕ × ℕ) (k : ℕ) → (C.contour_at (lying at (written_points o)) (written_contours o) k).numbers ≡ get_or set k []
-  a-list-of-contours-is-unpacked-as-it-was set h out records e at k =
-      every-contour-of-a-packed-shape-is-unpacked (joined set) (rows (contour_spans set)) out records e at k
+  a_list_of_contours_is_unpacked_as_it_was set h out records e at k =
+      every_contour_of_a_packed_shape_is_unpacked (joined set) (rows (contour_spans set)) out records e at k
       ∙ ap (λ (l : List Span). get_or (contours (joined set) l) k []) (spans_rows (contour_spans set))
       ∙ ap (λ (l : List (List ℤ)). get_or l k []) (packing_then_unpacking_gives_back_every_contour set h)
 
@@ -184,53 +184,53 @@ module _ (o : Outcome) (ok : o.answer.reply ≡ 0) where
     abbrev only : List Span
     only = every (whole p ∷ []) ∷ []
 
-    lone-written : Written (domain limit p) p (whole p ∷ []) only o
-    lone-written = written (domain limit p) tt p (whole p ∷ []) only out records groups o e ok
+    lone_written : Written (domain limit p) p (whole p ∷ []) only o
+    lone_written = written (domain limit p) tt p (whole p ∷ []) only out records groups o e ok
 
-    lone-accepted : Accepted limit p (sound (whole p ∷ []) (count p) && sound only 1)
-    lone-accepted =
-        let c = in_domain p lone-written.clear in
+    lone_accepted : Accepted limit p (sound (whole p ∷ []) (count p) && sound only 1)
+    lone_accepted =
+        let c = in_domain p lone_written.clear in
         record { even = c.even; few = c.few; sound = rw (whole_sound (count p) (whole p) refl refl, whole_sound 1 (every (whole p ∷ [])) refl refl); on = c.on }
 
-    pub a-packed-contour-is-unpacked-from-its-shape : (at : ℕ × ℕ) → (S.contour_of (lying at (written_points o)) (written_contours o) (written_shapes o) 0 0).numbers ≡ p
-    a-packed-contour-is-unpacked-from-its-shape at = unpacked-shape _ p (whole p ∷ []) only o lone-written lone-accepted at 0 0 ∙ whole_is p lone-accepted.even
+    pub a_packed_contour_is_unpacked_from_its_shape : (at : ℕ × ℕ) → (S.contour_of (lying at (written_points o)) (written_contours o) (written_shapes o) 0 0).numbers ≡ p
+    a_packed_contour_is_unpacked_from_its_shape at = unpacked_shape _ p (whole p ∷ []) only o lone_written lone_accepted at 0 0 ∙ whole_is p lone_accepted.even
 
-    pub a-packed-contour-is-a-shape-set-that-no-call-refuses : first_of (S.refusals (written_points o) (written_contours o) (written_shapes o)) ≡ 0
-    a-packed-contour-is-a-shape-set-that-no-call-refuses = shapes-taken _ p (whole p ∷ []) only o lone-written lone-accepted
+    pub a_packed_contour_is_a_shape_set_that_no_call_refuses : first_of (S.refusals (written_points o) (written_contours o) (written_shapes o)) ≡ 0
+    a_packed_contour_is_a_shape_set_that_no_call_refuses = shapes_taken _ p (whole p ∷ []) only o lone_written lone_accepted
 
   -- one shape
   module _ (p : List ℤ) (cs : List (List ℕ)) (out : List ℤ) (records groups : List (List ℕ)) (e : o ≡ S.with_shape p cs out records groups) where
     one_written : Written (C.refusals p cs) p (spans cs) (every cs ∷ []) o
     one_written = written (C.refusals p cs) tt p (spans cs) (every cs ∷ []) out records groups o e ok
 
-    one-accepted : Accepted limit p (sound (spans cs) (count p) && sound (every cs ∷ []) (length (spans cs)))
-    one-accepted =
+    one_accepted : Accepted limit p (sound (spans cs) (count p) && sound (every cs ∷ []) (length (spans cs)))
+    one_accepted =
         let a = accepted limit p (sound (spans cs) (count p)) one_written.clear in
         record { even = a.even; few = a.few; sound = rw (a.sound, whole_sound (length (spans cs)) (every cs) refl (sym (spans-length cs))); on = a.on }
 
-    pub every-contour-of-a-packed-shape-is-unpacked-from-it : (at : ℕ × ℕ) (c : ℕ)
+    pub every_contour_of_a_packed_shape_is_unpacked_from_it : (at : ℕ × ℕ) (c : ℕ)
         → (S.contour_of (lying at (written_points o)) (written_contours o) (written_shapes o) 0 c).numbers ≡ get_or (contours p (spans cs)) c []
-    every-contour-of-a-packed-shape-is-unpacked-from-it at c =
-        unpacked-shape _ p (spans cs) (every cs ∷ []) o one_written one-accepted at 0 c
+    every_contour_of_a_packed_shape_is_unpacked_from_it at c =
+        unpacked_shape _ p (spans cs) (every cs ∷ []) o one_written one_accepted at 0 c
         ∙ ap (λ (l : List (List ℤ)). get_or l c []) (all_of (contours p (spans cs)) (every cs) refl (sym (length-map (spans cs) (contour p) ∙ spans-length cs)))
 
-    pub a-packed-shape-is-a-shape-set-that-no-call-refuses : first_of (S.refusals (written_points o) (written_contours o) (written_shapes o)) ≡ 0
-    a-packed-shape-is-a-shape-set-that-no-call-refuses = shapes-taken _ p (spans cs) (every cs ∷ []) o one_written one-accepted
+    pub a_packed_shape_is_a_shape_set_that_no_call_refuses : first_of (S.refusals (written_points o) (written_contours o) (written_shapes o)) ≡ 0
+    a_packed_shape_is_a_shape_set_that_no_call_refuses = shapes_taken _ p (spans cs) (every cs ∷ []) o one_written one_accepted
 
   -- shapes
   module _ (p : List ℤ) (cs ss : List (List ℕ)) (out : List ℤ) (records groups : List (List ℕ)) (e : o ≡ S.with_shapes p cs ss out records groups) where
-    all-written : Written (S.refusals p cs ss) p (spans cs) (spans ss) o
-    all-written = written (S.refusals p cs ss) tt p (spans cs) (spans ss) out records groups o e ok
+    all_written : Written (S.refusals p cs ss) p (spans cs) (spans ss) o
+    all_written = written (S.refusals p cs ss) tt p (spans cs) (spans ss) out records groups o e ok
 
-    all-accepted : Accepted limit p (sound (spans cs) (count p) && sound (spans ss) (length (spans cs)))
-    all-accepted = rw (spans-length cs) (accepted limit p (sound (spans cs) (count p) && sound (spans ss) (length cs)) all-written.clear)
+    all_accepted : Accepted limit p (sound (spans cs) (count p) && sound (spans ss) (length (spans cs)))
+    all_accepted = rw (spans-length cs) (accepted limit p (sound (spans cs) (count p) && sound (spans ss) (length cs)) all_written.clear)
 
-    pub every-contour-of-every-packed-shape-is-unpacked : (at : ℕ × ℕ) (s c : ℕ)
+    pub every_contour_of_every_packed_shape_is_unpacked : (at : ℕ × ℕ) (s c : ℕ)
         → (S.contour_of (lying at (written_points o)) (written_contours o) (written_shapes o) s c).numbers ≡ get_or (get_or (shapes p (spans cs) (spans ss)) s []) c []
-    every-contour-of-every-packed-shape-is-unpacked = unpacked-shape _ p (spans cs) (spans ss) o all-written all-accepted
+    every_contour_of_every_packed_shape_is_unpacked = unpacked_shape _ p (spans cs) (spans ss) o all_written all_accepted
 
-    pub packed-shapes-are-a-shape-set-that-no-call-refuses : first_of (S.refusals (written_points o) (written_contours o) (written_shapes o)) ≡ 0
-    packed-shapes-are-a-shape-set-that-no-call-refuses = shapes-taken _ p (spans cs) (spans ss) o all-written all-accepted
+    pub packed_shapes_are_a_shape_set_that_no_call_refuses : first_of (S.refusals (written_points o) (written_contours o) (written_shapes o)) ≡ 0
+    packed_shapes_are_a_shape_set_that_no_call_refuses = shapes_taken _ p (spans cs) (spans ss) o all_written all_accepted
 
   -- an addition to a contour set
   module _ (p : List ℤ) (cs : List (List ℕ)) (more out : List ℤ) (records : List (List ℕ)) (e : o ≡ C.with_one_more p cs more out records) where
@@ -238,27 +238,27 @@ module _ (o : Outcome) (ok : o.answer.reply ≡ 0) where
     added = written (both p more (sound (spans cs) (count p))) tt (p ++ more) (spans cs ++ moved (count p) (whole more) ∷ []) [] out records [] o e ok
 
     taken : Joined p more (sound (spans cs) (count p))
-    taken = Joined-of p more (sound (spans cs) (count p)) 0 (sym added.clear) refl
+    taken = joined_of p more (sound (spans cs) (count p)) 0 (sym added.clear) refl
 
-    pub what-adding-a-contour-writes-is-sound : sound (spans cs ++ moved (count p) (whole more) ∷ []) (count (p ++ more)) ≡ true
-    what-adding-a-contour-writes-is-sound =
-        adding-keeps-the-ranges-sound p (spans cs) taken.even taken.sound more (whole more ∷ [])
+    pub what_adding_a_contour_writes_is_sound : sound (spans cs ++ moved (count p) (whole more) ∷ []) (count (p ++ more)) ≡ true
+    what_adding_a_contour_writes_is_sound =
+        adding_keeps_the_ranges_sound p (spans cs) taken.even taken.sound more (whole more ∷ [])
         (whole_sound (count more) (whole more) refl refl)
 
-    pub the-counts-of-an-addition-add-up : (o.answer.points ≡ count p + count more) × (o.answer.contours ≡ length cs + 1)
-    the-counts-of-an-addition-add-up = (
+    pub the_counts_of_an_addition_add_up : (o.answer.points ≡ count p + count more) × (o.answer.contours ≡ length cs + 1)
+    the_counts_of_an_addition_add_up = (
       ap (λ (a : Packed). a.points) added.answer ∙ sym (count-append p more taken.even),
       ap (λ (a : Packed). a.contours) added.answer ∙ sym (added-length cs ((0 ∷ count more ∷ []) ∷ []) (count p)),
     )
 
-    pub an-enlarged-contour-set-is-refused-by-no-call : first_of (C.refusals (written_points o) (written_contours o)) ≡ 0
-    an-enlarged-contour-set-is-refused-by-no-call =
-        contours_taken _ (p ++ more) (spans cs ++ moved (count p) (whole more) ∷ []) [] o added (grown p more _ taken _ what-adding-a-contour-writes-is-sound)
+    pub an_enlarged_contour_set_is_refused_by_no_call : first_of (C.refusals (written_points o) (written_contours o)) ≡ 0
+    an_enlarged_contour_set_is_refused_by_no_call =
+        contours_taken _ (p ++ more) (spans cs ++ moved (count p) (whole more) ∷ []) [] o added (grown p more _ taken _ what_adding_a_contour_writes_is_sound)
 
-    pub an-added-contour-stands-behind-the-others-unchanged : (at : ℕ × ℕ) (k : ℕ) → (C.contour_at (lying at (written_points o)) (written_contours o) k).numbers ≡ get_or (contours p (spans cs) ++ more ∷ []) k []
-    an-added-contour-stands-behind-the-others-unchanged at k =
-        unpacked-contour _ (p ++ more) (spans cs ++ moved (count p) (whole more) ∷ []) [] o added (grown p more _ taken _ what-adding-a-contour-writes-is-sound) at k
-        ∙ ap (λ (l : List (List ℤ)). get_or l k []) (adding-a-contour-appends-exactly-it p (spans cs) taken.even taken.sound more taken.more_even)
+    pub an_added_contour_stands_behind_the_others_unchanged : (at : ℕ × ℕ) (k : ℕ) → (C.contour_at (lying at (written_points o)) (written_contours o) k).numbers ≡ get_or (contours p (spans cs) ++ more ∷ []) k []
+    an_added_contour_stands_behind_the_others_unchanged at k =
+        unpacked_contour _ (p ++ more) (spans cs ++ moved (count p) (whole more) ∷ []) [] o added (grown p more _ taken _ what_adding_a_contour_writes_is_sound) at k
+        ∙ ap (λ (l : List (List ℤ)). get_or l k []) (adding_a_contour_appends_exactly_it p (spans cs) taken.even taken.sound more taken.more_even)
 
   -- an addition to a shape set
   module _ (p : List ℤ) (cs ss : List (List ℕ)) (more : List ℤ) (mcs : List (List ℕ)) (out : List ℤ) (records groups : List (List ℕ)) (e : o ≡ S.with_one_more p cs ss more mcs out records groups) where
@@ -271,15 +271,15 @@ module _ (o : Outcome) (ok : o.answer.reply ≡ 0) where
     shape_added : Written (both p more (S.both_sound p cs ss more mcs)) (p ++ more) all_contours all_shapes o
     shape_added = written (both p more (S.both_sound p cs ss more mcs)) tt (p ++ more) all_contours all_shapes out records groups o e ok
 
-    shape-taken : Joined p more (S.both_sound p cs ss more mcs)
-    shape-taken = Joined-of p more (S.both_sound p cs ss more mcs) 0 (sym shape_added.clear) refl
+    shape_taken : Joined p more (S.both_sound p cs ss more mcs)
+    shape_taken = joined_of p more (S.both_sound p cs ss more mcs) 0 (sym shape_added.clear) refl
 
     parts : SoundParts p cs ss more mcs
-    parts = sound_parts p cs ss more mcs shape-taken.sound
+    parts = sound_parts p cs ss more mcs shape_taken.sound
 
-    pub what-adding-a-shape-writes-is-sound : (sound all_contours (count (p ++ more)) && sound all_shapes (length all_contours)) ≡ true
-    what-adding-a-shape-writes-is-sound =
-        let a = adding-keeps-the-ranges-sound p (spans cs) shape-taken.even parts.contours more (spans mcs) parts.added in
+    pub what_adding_a_shape_writes_is_sound : (sound all_contours (count (p ++ more)) && sound all_shapes (length all_contours)) ≡ true
+    what_adding_a_shape_writes_is_sound =
+        let a = adding_keeps_the_ranges_sound p (spans cs) shape_taken.even parts.contours more (spans mcs) parts.added in
         let n : length cs + length mcs ≡ length all_contours = added-length cs mcs (count p) in
         let b =
         sound-append 0 (length cs) (length all_contours) (spans ss) (moved (length cs) (every mcs) ∷ []) parts.shapes
@@ -289,26 +289,26 @@ module _ (o : Outcome) (ok : o.answer.reply ≡ 0) where
     pub the-counts-of-an-added-shape-add-up :
         (o.answer.points ≡ count p + count more) × (o.answer.contours ≡ length cs + length mcs) × (o.answer.shapes ≡ length ss + 1)
     the-counts-of-an-added-shape-add-up = (
-      ap (λ (a : Packed). a.points) shape_added.answer ∙ sym (count-append p more shape-taken.even),
+      ap (λ (a : Packed). a.points) shape_added.answer ∙ sym (count-append p more shape_taken.even),
       ap (λ (a : Packed). a.contours) shape_added.answer ∙ sym (added-length cs mcs (count p)),
       ap (λ (a : Packed). a.shapes) shape_added.answer ∙ sym (added-length ss ((0 ∷ length mcs ∷ []) ∷ []) (length cs)),
     )
 
-    pub an-enlarged-shape-set-is-refused-by-no-call : first_of (S.refusals (written_points o) (written_contours o) (written_shapes o)) ≡ 0
-    an-enlarged-shape-set-is-refused-by-no-call =
-        shapes-taken _ (p ++ more) all_contours all_shapes o shape_added (grown p more _ shape-taken _ what-adding-a-shape-writes-is-sound)
+    pub an_enlarged_shape_set_is_refused_by_no_call : first_of (S.refusals (written_points o) (written_contours o) (written_shapes o)) ≡ 0
+    an_enlarged_shape_set_is_refused_by_no_call =
+        shapes_taken _ (p ++ more) all_contours all_shapes o shape_added (grown p more _ shape_taken _ what_adding_a_shape_writes_is_sound)
 
-    pub an-added-shape-stands-behind-the-others-unchanged : (at : ℕ × ℕ) (s c : ℕ)
+    pub an_added_shape_stands_behind_the_others_unchanged : (at : ℕ × ℕ) (s c : ℕ)
         → (S.contour_of (lying at (written_points o)) (written_contours o) (written_shapes o) s c).numbers ≡ get_or (get_or (shapes p (spans cs) (spans ss) ++ contours more (spans mcs) ∷ []) s []) c []
-    an-added-shape-stands-behind-the-others-unchanged at s c =
+    an_added_shape_stands_behind_the_others_unchanged at s c =
         let grouped : sound (spans ss) (length (spans cs)) ≡ true = ap (sound (spans ss)) (spans-length cs) ∙ parts.shapes in
-        unpacked-shape _ (p ++ more) all_contours all_shapes o shape_added (grown p more _ shape-taken _ what-adding-a-shape-writes-is-sound) at s c
+        unpacked_shape _ (p ++ more) all_contours all_shapes o shape_added (grown p more _ shape_taken _ what_adding_a_shape_writes_is_sound) at s c
         ∙ ap (λ (l : List (List (List ℤ))). get_or (get_or l s []) c [])
         (ap₂ (λ (n m : ℕ). shapes (p ++ more) all_contours (spans ss ++ moved n (record { start = 0; end = m }) ∷ [])) (sym (spans-length cs)) (sym (spans-length mcs))
-        ∙ adding-a-shape-appends-exactly-it p (spans cs) (spans ss) shape-taken.even parts.contours grouped more (spans mcs))
+        ∙ adding_a_shape_appends_exactly_it p (spans cs) (spans ss) shape_taken.even parts.contours grouped more (spans mcs))
 
 -- and a refused call
-pub a-refusal-leaves-every-row-as-it-was :
+pub a_refusal_leaves_every_row_as_it_was :
     (l : List Rung) (p : List ℤ) (cs ss : List Span) (out : List ℤ) (records groups : List (List ℕ)) (o : Outcome) → o ≡ stored l p cs ss out records groups
     → (o.answer.reply ≡ 0 → ⊥) → (o.points ≡ out) × (o.contours ≡ records) × (o.shapes ≡ groups)
-a-refusal-leaves-every-row-as-it-was = refused_unchanged
+a_refusal_leaves_every_row_as_it_was = refused_unchanged

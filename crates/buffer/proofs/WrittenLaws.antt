@@ -25,7 +25,7 @@ use Rattle.buffer.specs.Contours as C
 use Rattle.buffer.specs.Shapes as S
 use Rattle.buffer.proofs.RefusalLaws.{Accepted}
 use Rattle.buffer.proofs.RowLaws.{spans-length}
-use Rattle.buffer.proofs.PartLaws.{part-holds, shape-part-holds}
+use Rattle.buffer.proofs.PartLaws.{part_holds, shape_part_holds}
 
 pub spans_rows : (l : List Span) → spans (rows l) ≡ l
 spans_rows [] = refl
@@ -77,21 +77,21 @@ refused_unchanged l p cs ss out contours shapes o e n = go (first_of (l ++ room 
 
 -- unpacked by number
 module _ (l : List Rung) (p : List ℤ) (cs ss : List Span) (o : Outcome) (w : Written l p cs ss o) where
-  pub unpacked-contour : Accepted limit p (sound cs (count p)) → (at : ℕ × ℕ) (k : ℕ) → (C.contour_at (lying at (written_points o)) (written_contours o) k).numbers ≡ get_or (contours p cs) k []
+  pub unpacked_contour : Accepted limit p (sound cs (count p)) → (at : ℕ × ℕ) (k : ℕ) → (C.contour_at (lying at (written_points o)) (written_contours o) k).numbers ≡ get_or (contours p cs) k []
   unfolding C.contour_at
-  unpacked-contour a at k = rw (w.points a.even, w.contours, accepted_clear p (sound cs (count p)) a) (part-holds (lying at p) cs k)
+  unpacked_contour a at k = rw (w.points a.even, w.contours, accepted_clear p (sound cs (count p)) a) (part_holds (lying at p) cs k)
 
   pub contours_taken : Accepted limit p (sound cs (count p)) → first_of (C.refusals (written_points o) (written_contours o)) ≡ 0
   contours_taken a = rw (w.points a.even, w.contours) (accepted_clear p (sound cs (count p)) a)
 
-  pub shapes-taken : Accepted limit p (sound cs (count p) && sound ss (length cs)) → first_of (S.refusals (written_points o) (written_contours o) (written_shapes o)) ≡ 0
-  shapes-taken a =
+  pub shapes_taken : Accepted limit p (sound cs (count p) && sound ss (length cs)) → first_of (S.refusals (written_points o) (written_contours o) (written_shapes o)) ≡ 0
+  shapes_taken a =
       let n : length (written_contours o) ≡ length cs = sym (spans-length (written_contours o)) ∙ ap length w.contours in
       rw (w.points a.even, n, w.contours, w.shapes) (accepted_clear p (sound cs (count p) && sound ss (length cs)) a)
 
-  pub unpacked-shape : Accepted limit p (sound cs (count p) && sound ss (length cs)) → (at : ℕ × ℕ) (s c : ℕ)
+  pub unpacked_shape : Accepted limit p (sound cs (count p) && sound ss (length cs)) → (at : ℕ × ℕ) (s c : ℕ)
       → (S.contour_of (lying at (written_points o)) (written_contours o) (written_shapes o) s c).numbers ≡ get_or (get_or (shapes p cs ss) s []) c []
   unfolding S.contour_of
-  unpacked-shape a at s c =
+  unpacked_shape a at s c =
       let n : length (written_contours o) ≡ length cs = sym (spans-length (written_contours o)) ∙ ap length w.contours in
-      rw (w.points a.even, n, w.contours, w.shapes, accepted_clear p (sound cs (count p) && sound ss (length cs)) a) (shape-part-holds (lying at p) cs ss s c)
+      rw (w.points a.even, n, w.contours, w.shapes, accepted_clear p (sound cs (count p) && sound ss (length cs)) a) (shape_part_holds (lying at p) cs ss s c)

@@ -21,14 +21,14 @@ of_kind_few kind (row ∷ listing) = omega (arith, digit_below (eqb (get_or row 
 
 -- of the lines from number i on: one, and those behind it, or none
 module _ (listing : List (List ℕ)) (kind i : ℕ) where
-  pub of-kind-more : i < length listing
+  pub of_kind_more : i < length listing
       → of_kind kind (drop i listing) ≡ digit (eqb (get_or (get_or listing i []) 0 0) kind) + of_kind kind (drop (i + 1) listing)
   unfolding of_kind
-  of-kind-more h = rw (add-one i, drop-cons listing i [] h)
+  of_kind_more h = rw (add-one i, drop-cons listing i [] h)
 
-  pub of-kind-done : length listing ≤ i → of_kind kind (drop i listing) ≡ 0
+  pub of_kind_done : length listing ≤ i → of_kind kind (drop i listing) ≡ 0
   unfolding of_kind
-  of-kind-done h = rw (drop_of_length-le listing {i = i} h)
+  of_kind_done h = rw (drop_of_length-le listing {i = i} h)
 
 -- the words of the last line
 abbrev pub words : List (List ℕ) → List (List ℕ)

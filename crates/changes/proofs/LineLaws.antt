@@ -9,7 +9,7 @@ use lib.Dec.{eqb}
 use lib.ListN.{length, get_or, drop, length-append}
 use lib.Seq.{drop-cons, drop-length}
 use borrow.Author.Tests.{eq-eqb, ne_eqb}
-use Rattle.rows.proofs.PlacedLaws.{placed-none}
+use Rattle.rows.proofs.PlacedLaws.{placed_none}
 use Rattle.buffer.specs.Sets.{joined}
 use Rattle.report.specs.Text.{decimal, line_end}
 use Rattle.report.specs.inside.Lines.{Put}
@@ -20,23 +20,23 @@ use Rattle.changes.specs.inside.Lines.{Places}
 
 -- what became of a contour, by its kind
 module _ (kind place : ℕ) where
-  pub change-elsewhere : kind ≡ 1 → change kind place ≡ starts_elsewhere ++ decimal (place + 1) ++ of_the_second
+  pub change_elsewhere : kind ≡ 1 → change kind place ≡ starts_elsewhere ++ decimal (place + 1) ++ of_the_second
   unfolding change
-  change-elsewhere e = rw (eq-eqb kind 1 e, change)
+  change_elsewhere e = rw (eq-eqb kind 1 e, change)
 
   module _ (not-1 : kind ≡ 1 → ⊥) where
-    pub change-different : kind ≡ 2 → change kind place ≡ differs_from ++ decimal (place + 1) ++ and_on
+    pub change_different : kind ≡ 2 → change kind place ≡ differs_from ++ decimal (place + 1) ++ and_on
     unfolding change
-    change-different e = rw (ne_eqb kind 1 not-1, eq-eqb kind 2 e, change)
+    change_different e = rw (ne_eqb kind 1 not-1, eq-eqb kind 2 e, change)
 
     module _ (not-2 : kind ≡ 2 → ⊥) where
-      pub change-first : kind ≡ 3 → change kind place ≡ in_the_first
+      pub change_first : kind ≡ 3 → change kind place ≡ in_the_first
       unfolding change
-      change-first e = rw (ne_eqb kind 1 not-1, ne_eqb kind 2 not-2, eq-eqb kind 3 e, change)
+      change_first e = rw (ne_eqb kind 1 not-1, ne_eqb kind 2 not-2, eq-eqb kind 3 e, change)
 
-      pub change-second : (kind ≡ 3 → ⊥) → change kind place ≡ in_the_second
+      pub change_second : (kind ≡ 3 → ⊥) → change kind place ≡ in_the_second
       unfolding change
-      change-second n = rw (ne_eqb kind 1 not-1, ne_eqb kind 2 not-2, ne_eqb kind 3 n, change)
+      change_second n = rw (ne_eqb kind 1 not-1, ne_eqb kind 2 not-2, ne_eqb kind 3 n, change)
 
 -- the words of a line
 abbrev pub words : ℕ → ℕ → ℕ → List (List ℕ)
@@ -44,17 +44,17 @@ words k kind place = contour ∷ decimal k ∷ change kind place ∷ line_end �
 
 -- a line, by whether the contour is the same
 module _ (k kind place : ℕ) where
-  line-none : kind ≡ 0 → line k kind place ≡ []
+  line_none : kind ≡ 0 → line k kind place ≡ []
   unfolding line
-  line-none e = rw (eq-eqb kind 0 e, line)
+  line_none e = rw (eq-eqb kind 0 e, line)
 
   pub line_words : (kind ≡ 0 → ⊥) → line k kind place ≡ joined (words k kind place)
   unfolding line joined
   line_words n = rw (ne_eqb kind 0 n, line) (simp (append_assoc, append-nil))
 
   -- nothing is put where it is
-  pub none-put : kind ≡ 0 → (at : ℕ) (text : List ℕ) → Put at (line k kind place) text at text
-  none-put e at text = rw (line-none e) (record { behind = omega arith; is = sym (placed-none text at) })
+  pub none_put : kind ≡ 0 → (at : ℕ) (text : List ℕ) → Put at (line k kind place) text at text
+  none_put e at text = rw (line_none e) (record { behind = omega arith; is = sym (placed_none text at) })
 
 change-length : (kind place : ℕ) → place ≤ 65536 → length (change kind place) ≤ 63
 unfolding change
@@ -106,22 +106,22 @@ module _ {listing : List (List ℕ)} {text₀ : List ℕ} {behind : ℕ} {text :
     abbrev next : List ℕ
     next = line (i + 1) (get_or (get_or listing i []) 0 0) (get_or (get_or listing i []) 1 0)
 
-    telling-next : Going 0 (lines 1 listing) text₀ behind text (next ∷ lines (i + 1 + 1) (drop (i + 1) listing) ∷ [])
+    telling_next : Going 0 (lines 1 listing) text₀ behind text (next ∷ lines (i + 1 + 1) (drop (i + 1) listing) ∷ [])
     unfolding joined lines
-    telling-next =
+    telling_next =
         going_same _
         (rw (drop-cons listing i [] h, add-one (i + 1), add-one i) (simp append_assoc))
         x.going
 
-    pub telling-room : behind + length next ≤ length text
-    telling-room = going_room telling-next
+    pub telling_room : behind + length next ≤ length text
+    telling_room = going_room telling_next
 
-    pub telling-more : {r : ℕ} {exit : List ℕ} → Put behind next text r exit → Telling listing text₀ r exit (i + 1)
-    telling-more q = record { high = omega arith; going = going_more telling-next q }
+    pub telling_more : {r : ℕ} {exit : List ℕ} → Put behind next text r exit → Telling listing text₀ r exit (i + 1)
+    telling_more q = record { high = omega arith; going = going_more telling_next q }
 
-  pub telling-all : length listing ≤ i → Put 0 (lines 1 listing) text₀ behind text
+  pub telling_all : length listing ≤ i → Put 0 (lines 1 listing) text₀ behind text
   unfolding joined lines
-  telling-all h =
+  telling_all h =
       let n : i ≡ length listing = omega (arith, x.high) in
       let e : drop i listing ≡ [] = ap (λ (k : ℕ). drop k listing) n ∙ drop-length listing in
       going_all (going_same [] (rw e) x.going)

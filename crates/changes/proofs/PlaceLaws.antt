@@ -12,7 +12,7 @@ use Rattle.grid.specs.Domain.{count}
 use Rattle.turned.specs.Starts.{smallest_start}
 use Rattle.difference.specs.declared.inner.lines.Line.{Line}
 use Rattle.difference.specs.Lines.{elsewhere, different, judged, by_count, compared, listed, written}
-use Rattle.difference.proofs.LineLaws.{other-within}
+use Rattle.difference.proofs.LineLaws.{other_within}
 use Rattle.report.specs.inside.Lines.{Contours}
 use Rattle.changes.specs.inside.Lines.{Places}
 
@@ -29,8 +29,8 @@ unfolding compared
 place_within first second = go (eqb (count first) (count second))
   where
     go : (b : Bool) → (by_count b first second).place ≤ count second
-    go true = judged_within (count second) (smallest_start first second (count second)) _ (other-within first second (count second))
-    go false = omega (arith, other-within first second (min (count first) (count second)))
+    go true = judged_within (count second) (smallest_start first second (count second)) _ (other_within first second (count second))
+    go false = omega (arith, other_within first second (min (count first) (count second)))
 
 pub places : (firsts seconds : List (List ℤ)) → Contours seconds → Places (written (listed firsts seconds))
 unfolding listed most

@@ -36,8 +36,8 @@ use Rattle.report.proofs.ReportLaws.{accepted}
 -- the set of a file
 module _ (f : List ℕ) where
   -- its contours are so few
-  pub job-few : length (job f) ≤ 4095
-  job-few = omega (arith, (job_sized f).few, promised_few f, length-map (read_contours (parsed f)) (λ (e : Entry). e.points))
+  pub job_few : length (job f) ≤ 4095
+  job_few = omega (arith, (job_sized f).few, promised_few f, length-map (read_contours (parsed f)) (λ (e : Entry). e.points))
 
   pub ranges-length : length (rows (contour_spans (job f))) ≡ length (job f)
   ranges-length = length-map (contour_spans (job f)) row ∙ laid-length 0 (map count (job f)) ∙ length-map (job f) count
@@ -46,15 +46,15 @@ module _ (f : List ℕ) where
   numbers-length = omega (arith, points_total (job f) (job_sized f).even, the_counts_add_up (job f) (job_sized f).even)
 
   -- unpacked it is what the file carries
-  pub contours-back : contours (joined (job f)) (spans (rows (contour_spans (job f)))) ≡ job f
-  contours-back =
+  pub contours_back : contours (joined (job f)) (spans (rows (contour_spans (job f)))) ≡ job f
+  contours_back =
       ap (contours (joined (job f))) (spans_rows (contour_spans (job f)))
       ∙ packing_then_unpacking_gives_back_every_contour (job f) (job_sized f).even
 
   -- and no call refuses it, where the file is not
-  pub set-sound : first_of (listing_refusals f) ≡ 0 → Sound (joined (job f)) (rows (contour_spans (job f)))
+  pub set_sound : first_of (listing_refusals f) ≡ 0 → Sound (joined (job f)) (rows (contour_spans (job f)))
   unfolding most
-  set-sound e =
+  set_sound e =
       let a = accepted f e in
       record {
         domain = record { even = numbers-length; few = omega (arith, a.few, numbers-length); on = a.on };
@@ -85,7 +85,7 @@ module _ (f : List ℕ) (out : List ℤ) (cs ss : List (List ℕ)) (has : Roomy 
           let h = leb-true (count (joined (job f))) most_listed e in
           rw (
             le-leb (length (joined (job f))) (length out) (omega (arith, numbers-length f, has.numbers)),
-            le-leb (length (contour_spans (job f))) (length cs) (omega (arith, laid-length 0 (map count (job f)), length-map (job f) count, job-few f, has.contours)),
+            le-leb (length (contour_spans (job f))) (length cs) (omega (arith, laid-length 0 (map count (job f)), length-map (job f) count, job_few f, has.contours)),
             le-leb (length shapes_in) (length ss) (omega (arith, shapes-length, has.shapes)),
           )
       go false e =
@@ -174,4 +174,4 @@ module _ {f : List ℕ} {out : List ℤ} {cs ss : List (List ℕ)} {r : Read} {o
     few_shapes = omega (arith, shapes_number, length-map (shapes_in f out cs ss done.has) row, shapes-length f out cs ss done.has)
 
     pub few_contours : r.contours ≤ 4095
-    few_contours = omega (arith, contours_number, ranges-length f, job-few f)
+    few_contours = omega (arith, contours_number, ranges-length f, job_few f)

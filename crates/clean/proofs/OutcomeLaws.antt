@@ -65,8 +65,8 @@ pub contour_count : {row : List ℤ} {n : ℕ} → Contour row n → count row �
 contour_count c = omega (arith, c.even)
 
 module _ (rule : Rule) (row out : List ℤ) {n : ℕ} (c : Contour row n) where
-  pub settled-few : n < 3 → Settled rule row out (answer 7 0 0 0) out
-  settled-few h =
+  pub settled_few : n < 3 → Settled rule row out (answer 7 0 0 0) out
+  settled_few h =
       let w : walked rule row ≡ ending collapsed (tally 0 0) = walk_few (goes rule row) (count row) (omega (arith, contour_count c)) in
       record { answer = rw w; output = rw w }
 
@@ -74,12 +74,12 @@ module _ (rule : Rule) (row out : List ℤ) {n : ℕ} (c : Contour row n) where
     ended_is : walked rule row ≡ ended_as w mark
     ended_is = ap (walk (goes rule row)) (contour_count c) ∙ e.is
 
-    pub settled-fallen : w.kept ≡ false → Settled rule row out (answer 7 0 w.decisions w.decisions) out
-    settled-fallen t = record { answer = rw (ended_is, t); output = rw (ended_is, t) }
+    pub settled_fallen : w.kept ≡ false → Settled rule row out (answer 7 0 w.decisions w.decisions) out
+    settled_fallen t = record { answer = rw (ended_is, t); output = rw (ended_is, t) }
 
-    pub settled-kept : w.kept ≡ true → (k v : ℕ) (exit : List ℤ) → k ≡ length (survivors mark) → v ≡ turns_of w mark → exit ≡ front (chosen row (survivors mark)) out
+    pub settled_kept : w.kept ≡ true → (k v : ℕ) (exit : List ℤ) → k ≡ length (survivors mark) → v ≡ turns_of w mark → exit ≡ front (chosen row (survivors mark)) out
         → Settled rule row out (answer 0 k w.decisions v) exit
-    settled-kept t k v exit f h g = record { answer = rw (ended_is, t) (ap₂ (λ (i j : ℕ). answer 0 i w.decisions j) f h); output = rw (ended_is, t) g }
+    settled_kept t k v exit f h g = record { answer = rw (ended_is, t) (ap₂ (λ (i j : ℕ). answer 0 i w.decisions j) f h); output = rw (ended_is, t) g }
 
 -- the parts that are lent on
 pub ready_parts : (row : List ℤ) (l : Lent) → InDomainWithRoom row l
@@ -94,14 +94,14 @@ ready_parts row l a =
     }
 
 module _ (goes : Corner → Bool) (row : List ℤ) (l : Lent) where
-  pub outcome-refused : (k : ℕ) → k ≡ refusal row l → (k ≡ 0 → ⊥) → leaving (answer k 0 0 0) l ≡ outcome_by goes row l
+  pub outcome_refused : (k : ℕ) → k ≡ refusal row l → (k ≡ 0 → ⊥) → leaving (answer k 0 0 0) l ≡ outcome_by goes row l
   unfolding outcome_by
-  outcome-refused zero e n = absurd (n refl)
-  outcome-refused (suc k) e n = rw (← e, outcome_by)
+  outcome_refused zero e n = absurd (n refl)
+  outcome_refused (suc k) e n = rw (← e, outcome_by)
 
-  pub outcome-done : NotRefused row l → outcome_by goes row l ≡ finished row (walked_by goes row).end (walked_by goes row).tally l
+  pub outcome_done : NotRefused row l → outcome_by goes row l ≡ finished row (walked_by goes row).end (walked_by goes row).tally l
   unfolding outcome_by
-  outcome-done e = rw (e, outcome_by)
+  outcome_done e = rw (e, outcome_by)
 
 -- a walk that has ended leaves the scratch zeroed, and the answer and the output that it has alone
 in_parts : (row : List ℤ) (e : End) (t : Tally) (l : Lent) →
@@ -118,4 +118,4 @@ joined rule row l e r exit next prev mark t s =
     let n : length (take (count row) l.mark) ≡ count row = length-take-le (count row) l.mark (accepted row l e).room_in_mark in
     let z : length {A = ℕ} (replicate (count row) 0) ≡ count row = length-replicate (count row) 0 in
     rw (t.answer, t.output, s.next-zero, s.prev-zero, s.mark-zero, n)
-    (sym (outcome-done (goes_at rule) row l e ∙ in_parts row (walked rule row).end (walked rule row).tally l ∙ rw z))
+    (sym (outcome_done (goes_at rule) row l e ∙ in_parts row (walked rule row).end (walked rule row).tally l ∙ rw z))

@@ -66,8 +66,8 @@ module _ {row : List ℤ} {mark : List ℕ} {out₀ out : List ℤ} {kept i : �
             ∙ ap (λ (l : List ℤ). front l out₀) (sym (chosen-append row x.done (i ∷ [])));
       }
 
-  pub writing-past : 2 ≤ get_or mark i 0 → Writing row mark out₀ out kept (i + 1)
-  writing-past gone =
+  pub writing_past : 2 ≤ get_or mark i 0 → Writing row mark out₀ out kept (i + 1)
+  writing_past gone =
       let next : survivors_from i (drop i mark) ≡ survivors_from (suc i) (drop (suc i) mark) = ap (survivors_from i) (drop-cons mark i 0 h) ∙ survivors_no i (get_or mark i 0) (drop (suc i) mark) gone in
       record {
         done = x.done;

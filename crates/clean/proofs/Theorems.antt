@@ -20,12 +20,12 @@ use Rattle.ring.specs.Walk.{Tally, End, Walked, ending, walk}
 use Rattle.ring.specs.Walk.End.{kept, collapsed}
 use Rattle.ring.specs.Rule.{goes_in, CrossZero}
 use Rattle.ring.specs.Promises.{Preserved}
-use Rattle.ring.proofs.Theorems.{ends-in-4n-9, decisions-at-most-turns as walk-decides, turns-at-most-3n-3 as walk-in-3n-3, kept-in-3n-turns, collapsed-without-idle, kept-rising, kept-clean, kept-preserves, collapsed-at-three}
+use Rattle.ring.proofs.Theorems.{ends_in_4n_9, decisions_at_most_turns as walk_decides, turns_at_most_3n_3 as walk_in_3n_3, kept_in_3n_turns, collapsed_without_idle, kept_rising, kept_clean, kept_preserves, collapsed_at_three}
 use Rattle.clean.specs.Outcome.{refusals, walked_by, chosen, answer, Lent, Outcome, leaving, swept, with_chosen, finished, refusal, outcome_by}
 use Rattle.clean.specs.Promises.{InDomainWithRoom, Untouched, OnlyZeroed, kept_points, Keeps}
-use Rattle.clean.proofs.OutcomeLaws.{contour, not_refused, outcome-refused, outcome-done}
+use Rattle.clean.proofs.OutcomeLaws.{contour, not_refused, outcome_refused, outcome_done}
 use Rattle.clean.proofs.RowLaws.{length_chosen, zeroed_is}
-use Rattle.clean.proofs.Picked.{picked, points-chosen, picked-leaving, would-go-picked, picked_all}
+use Rattle.clean.proofs.Picked.{picked, points_chosen, picked_leaving, would_go_picked, picked_all}
 
 -- three points at one of which the cross is 0 have no area
 three_flat : (l : List Point) (j : ℕ) → length l ≡ 3 → j < 3 → cross_at (corner_in l j) ≡ pos 0 → exact l ≡ pos 0
@@ -40,35 +40,35 @@ three_flat (a ∷ b ∷ c ∷ d ∷ l) j e h t = absurd (omega arith)
 
 module _ (goes : Corner → Bool) (cross-zero : CrossZero goes) (row : List ℤ) where
   -- removing a vertex that goes leaves the exact doubled area
-  area-preserved : (n : ℕ) → Preserved (goes_in goes row) n (λ s. exact (picked row s))
-  area-preserved n s j rising many h t =
+  area_preserved : (n : ℕ) → Preserved (goes_in goes row) n (λ s. exact (picked row s))
+  area_preserved n s j rising many h t =
       let l : length (picked row s) ≡ length s = length-map s (at row) in
-      let flat : cross_at (corner_in (picked row s) j) ≡ pos 0 = cross-zero (corner_in (picked row s) j) (sym (would-go-picked row goes s j h) ∙ t) in
-      ap exact (picked-leaving row s j)
+      let flat : cross_at (corner_in (picked row s) j) ≡ pos 0 = cross-zero (corner_in (picked row s) j) (sym (would_go_picked row goes s j h) ∙ t) in
+      ap exact (picked_leaving row s j)
       ∙ sym (removed (picked row s) j (omega arith) (omega arith) ∙ ap (λ (z : ℤ). exact (leaving_out (picked row s) j) +ℤ z) flat ∙ +ℤ_idr (exact (leaving_out (picked row s) j)))
 
   module _ {n : ℕ} (c : Contour row n) where
-    pub kept-area : {s : List ℕ} → (walk (goes_in goes row) n).end ≡ kept s → exact (picked row s) ≡ exact (points row)
-    kept-area e = kept-preserves (goes_in goes row) n e (λ s. exact (picked row s)) (area-preserved n) ∙ ap exact (picked_all row c)
+    pub kept_area : {s : List ℕ} → (walk (goes_in goes row) n).end ≡ kept s → exact (picked row s) ≡ exact (points row)
+    kept_area e = kept_preserves (goes_in goes row) n e (λ s. exact (picked row s)) (area_preserved n) ∙ ap exact (picked_all row c)
 
-    pub collapsed-area : 3 ≤ n → (walk (goes_in goes row) n).end ≡ collapsed → exact (points row) ≡ pos 0
-    collapsed-area h e =
-        let x = collapsed-at-three (goes_in goes row) n h e (λ s. exact (picked row s)) (area-preserved n) in
-        let t = sym (would-go-picked row goes x.rest x.j (omega (arith, x.three, x.inside))) ∙ x.goes_now in
+    pub collapsed_area : 3 ≤ n → (walk (goes_in goes row) n).end ≡ collapsed → exact (points row) ≡ pos 0
+    collapsed_area h e =
+        let x = collapsed_at_three (goes_in goes row) n h e (λ s. exact (picked row s)) (area_preserved n) in
+        let t = sym (would_go_picked row goes x.rest x.j (omega (arith, x.three, x.inside))) ∙ x.goes_now in
         sym (x.same ∙ ap exact (picked_all row c))
         ∙ three_flat (picked row x.rest) x.j (length-map x.rest (at row) ∙ x.three) x.inside (cross-zero _ t)
 
 -- Any call by any rule; o is whatever the contract allows.
 module _ (goes : Corner → Bool) (row : List ℤ) (l : Lent) (o : Outcome) (is : o ≡ outcome_by goes row l) where
   refused : (k : ℕ) → refusal row l ≡ suc k → o ≡ leaving (answer (suc k) 0 0 0) l
-  refused k e = is ∙ sym (outcome-refused goes row l (suc k) (sym e) (λ z. omega arith))
+  refused k e = is ∙ sym (outcome_refused goes row l (suc k) (sym e) (λ z. omega arith))
 
   done : refusal row l ≡ 0 → o ≡ finished row (walked_by goes row).end (walked_by goes row).tally l
-  done e = is ∙ outcome-done goes row l e
+  done e = is ∙ outcome_done goes row l e
 
   -- a refusal, which is any reply but 0 and 7, leaves every lent row as it was
-  pub a-refusal-leaves-every-row-as-it-was : (o.answer.reply ≡ 0 → ⊥) → (o.answer.reply ≡ 7 → ⊥) → Untouched l o
-  a-refusal-leaves-every-row-as-it-was zero-not seven-not = go (refusal row l) refl
+  pub a_refusal_leaves_every_row_as_it_was : (o.answer.reply ≡ 0 → ⊥) → (o.answer.reply ≡ 7 → ⊥) → Untouched l o
+  a_refusal_leaves_every_row_as_it_was zero-not seven-not = go (refusal row l) refl
     where
       answered : (w : End) (t : Tally) → o ≡ finished row w t l → ⊥
       answered (kept s) t e = zero-not (rw e)
@@ -79,8 +79,8 @@ module _ (goes : Corner → Bool) (row : List ℤ) (l : Lent) (o : Outcome) (is 
       go (suc k) e = ap (λ (w : Outcome). w.rows) (refused k e)
 
   -- a collapse, which is the reply 7, leaves the output as it was and the scratch zeroed
-  pub a-collapse-only-zeroes-the-scratch : o.answer.reply ≡ 7 → OnlyZeroed (count row) l o
-  a-collapse-only-zeroes-the-scratch seven = go (refusal row l) refl
+  pub a_collapse_only_zeroes_the_scratch : o.answer.reply ≡ 7 → OnlyZeroed (count row) l o
+  a_collapse_only_zeroes_the_scratch seven = go (refusal row l) refl
     where
       reply : (w : Outcome) → o ≡ w → w.answer.reply ≡ 7
       reply w e = sym (ap (λ (x : Outcome). x.answer.reply) e) ∙ seven
@@ -117,32 +117,32 @@ module _ (goes : Corner → Bool) (row : List ℤ) (l : Lent) (o : Outcome) (is 
         go collapsed e = inr e
 
     -- at most 4n - 9 decisions, kept or collapsed
-    pub decisions-at-most-4n-9 : o.answer.decisions ≤ 4 * count row - 9
-    decisions-at-most-4n-9 = rw cleaned (go (walked_by goes row).end)
+    pub decisions_at_most_4n_9 : o.answer.decisions ≤ 4 * count row - 9
+    decisions_at_most_4n_9 = rw cleaned (go (walked_by goes row).end)
       where
         go : (e : End) → (finished row e (walked_by goes row).tally l).answer.decisions ≤ 4 * count row - 9
-        go (kept s) = ends-in-4n-9 (goes_in goes row) (count row)
-        go collapsed = ends-in-4n-9 (goes_in goes row) (count row)
+        go (kept s) = ends_in_4n_9 (goes_in goes row) (count row)
+        go collapsed = ends_in_4n_9 (goes_in goes row) (count row)
 
     -- at most 3n - 3 turns, kept or collapsed
-    turns-at-most-3n-3 : o.answer.turns + 3 ≤ 3 * count row
-    turns-at-most-3n-3 = rw cleaned (go (walked_by goes row).end)
+    turns_at_most_3n_3 : o.answer.turns + 3 ≤ 3 * count row
+    turns_at_most_3n_3 = rw cleaned (go (walked_by goes row).end)
       where
         go : (e : End) → (finished row e (walked_by goes row).tally l).answer.turns + 3 ≤ 3 * count row
-        go (kept s) = walk-in-3n-3 (goes_in goes row) (count row) many
-        go collapsed = walk-in-3n-3 (goes_in goes row) (count row) many
+        go (kept s) = walk_in_3n_3 (goes_in goes row) (count row) many
+        go collapsed = walk_in_3n_3 (goes_in goes row) (count row) many
 
     -- so at most 5n
-    pub turns-at-most-5n : o.answer.turns ≤ 5 * count row
-    turns-at-most-5n = omega (arith, turns-at-most-3n-3)
+    pub turns_at_most_5n : o.answer.turns ≤ 5 * count row
+    turns_at_most_5n = omega (arith, turns_at_most_3n_3)
 
     -- no more decisions than turns
-    pub decisions-at-most-turns : o.answer.decisions ≤ o.answer.turns
-    decisions-at-most-turns = rw cleaned (go (walked_by goes row).end)
+    pub decisions_at_most_turns : o.answer.decisions ≤ o.answer.turns
+    decisions_at_most_turns = rw cleaned (go (walked_by goes row).end)
       where
         go : (e : End) → let r = (finished row e (walked_by goes row).tally l).answer in r.decisions ≤ r.turns
-        go (kept s) = walk-decides (goes_in goes row) (count row)
-        go collapsed = walk-decides (goes_in goes row) (count row)
+        go (kept s) = walk_decides (goes_in goes row) (count row)
+        go collapsed = walk_decides (goes_in goes row) (count row)
 
     -- and as many where it collapses: each turn of it decided
     pub a_collapse_has_no_idle_turn : o.answer.reply ≡ 7 → o.answer.turns ≡ o.answer.decisions
@@ -150,11 +150,11 @@ module _ (goes : Corner → Bool) (row : List ℤ) (l : Lent) (o : Outcome) (is 
       where
         go : (e : End) → (walked_by goes row).end ≡ e → let r = (finished row e (walked_by goes row).tally l).answer in r.turns ≡ r.decisions
         go (kept s) e = let z : ◌≡◌ {A = ℕ} 0 7 = sym (ap (λ (w : Outcome). w.answer.reply) cleaned ∙ rw e) ∙ seven in absurd (omega arith)
-        go collapsed e = collapsed-without-idle (goes_in goes row) (count row) many e
+        go collapsed e = collapsed_without_idle (goes_in goes row) (count row) many e
 
     -- a contour whose exact doubled area isn't zero is kept
-    pub kept-if-area : CrossZero goes → (exact (points row) ≡ pos 0 → ⊥) → o.answer.reply ≡ 0
-    kept-if-area cross-zero n = ⊎_elim (λ x. rw (cleaned, x.1)) (λ x. absurd (n (collapsed-area goes cross-zero row (contour fits) many x))) ended
+    pub kept_if_area : CrossZero goes → (exact (points row) ≡ pos 0 → ⊥) → o.answer.reply ≡ 0
+    kept_if_area cross-zero n = ⊎_elim (λ x. rw (cleaned, x.1)) (λ x. absurd (n (collapsed_area goes cross-zero row (contour fits) many x))) ended
 
     keeps : (s : List ℕ) → (walked_by goes row).end ≡ kept s → Keeps goes row l.out o
     keeps s e =
@@ -162,37 +162,37 @@ module _ (goes : Corner → Bool) (row : List ℤ) (l : Lent) (o : Outcome) (is 
         let n = length_chosen row s in
         record {
           positions = s;
-          rising = kept-rising (goes_in goes row) (count row) e;
+          rising = kept_rising (goes_in goes row) (count row) e;
           walk_is = rw d (ap (λ (x : End). ending x (walked_by goes row).tally) e);
           count_is = rw d;
-          points_are = rw (d, ← n, take-append_seam (chosen row s) (drop (length (chosen row s)) l.out)) (points-chosen row s);
+          points_are = rw (d, ← n, take-append_seam (chosen row s) (drop (length (chosen row s)) l.out)) (points_chosen row s);
           rest_is = rw (d, ← n) (drop-append_seam (chosen row s) (drop (length (chosen row s)) l.out));
         }
 
     module _ (zero-reply : o.answer.reply ≡ 0) where
       -- a kept contour has its points in their old order, and the output behind them is as it was
-      pub kept-in-order : Keeps goes row l.out o
-      kept-in-order = ⊎_elim (λ x. keeps x.0 x.1) (λ x. absurd (seven x)) ended
+      pub kept_in_order : Keeps goes row l.out o
+      kept_in_order = ⊎_elim (λ x. keeps x.0 x.1) (λ x. absurd (seven x)) ended
         where
           seven : (walked_by goes row).end ≡ collapsed → ⊥
           seven e = let z : ◌≡◌ {A = ℕ} 7 0 = sym (ap (λ (w : Outcome). w.answer.reply) cleaned ∙ rw e) ∙ zero-reply in omega arith
 
-      kept-end : (walked_by goes row).end ≡ kept kept-in-order.positions
-      kept-end = ap (λ (w : Walked). w.end) kept-in-order.walk_is
+      kept_end : (walked_by goes row).end ≡ kept kept_in_order.positions
+      kept_end = ap (λ (w : Walked). w.end) kept_in_order.walk_is
 
       -- in at most 3n turns, less one for each point that is kept
-      pub kept-turns-at-most-3n-less-the-kept : o.answer.turns + o.answer.points ≤ 3 * count row
-      kept-turns-at-most-3n-less-the-kept =
-          let x = kept-in-order in
-          omega (arith, x.count_is, ap (λ (w : Walked). w.tally.turns) x.walk_is, kept-in-3n-turns (goes_in goes row) (count row) kept-end)
+      pub kept_turns_at_most_3n_less_the_kept : o.answer.turns + o.answer.points ≤ 3 * count row
+      kept_turns_at_most_3n_less_the_kept =
+          let x = kept_in_order in
+          omega (arith, x.count_is, ap (λ (w : Walked). w.tally.turns) x.walk_is, kept_in_3n_turns (goes_in goes row) (count row) kept_end)
 
       -- the same exact doubled area
-      pub kept-same-area : CrossZero goes → exact (kept_points o) ≡ exact (points row)
-      kept-same-area cross-zero = ap exact kept-in-order.points_are ∙ kept-area goes cross-zero row (contour fits) kept-end
+      pub kept_same_area : CrossZero goes → exact (kept_points o) ≡ exact (points row)
+      kept_same_area cross-zero = ap exact kept_in_order.points_are ∙ kept_area goes cross-zero row (contour fits) kept_end
 
       -- and no vertex that the rule would remove
-      pub nothing-left-to-remove : (j : ℕ) → j < o.answer.points → goes (corner_in (kept_points o) j) ≡ false
-      nothing-left-to-remove j h =
-          let x = kept-in-order in
+      pub nothing_left_to_remove : (j : ℕ) → j < o.answer.points → goes (corner_in (kept_points o) j) ≡ false
+      nothing_left_to_remove j h =
+          let x = kept_in_order in
           let n : j < length x.positions = omega (arith, x.count_is) in
-          rw x.points_are (sym (would-go-picked row goes x.positions j n) ∙ kept-clean (goes_in goes row) (count row) kept-end j n)
+          rw x.points_are (sym (would_go_picked row goes x.positions j n) ∙ kept_clean (goes_in goes row) (count row) kept_end j n)

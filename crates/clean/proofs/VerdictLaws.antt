@@ -17,23 +17,23 @@ use Rattle.ring.specs.Rule.{goes_at}
 use Rattle.clean.specs.Verdicts.{is_simple, spike_free_distinct, no_spikes, passes}
 
 module _ (row : List ℤ) where
-  pub simple-many : 3 ≤ count row → not (some (goes_at Collinear) (corners (points row))) ≡ is_simple (points row)
+  pub simple_many : 3 ≤ count row → not (some (goes_at Collinear) (corners (points row))) ≡ is_simple (points row)
   unfolding is_simple goes_at
-  simple-many h = sym (ap (λ (t : Bool). t && not (some aligned_at (corners (points row)))) (le-leb 3 (length (points row)) (omega (arith, points_count row))))
+  simple_many h = sym (ap (λ (t : Bool). t && not (some aligned_at (corners (points row)))) (le-leb 3 (length (points row)) (omega (arith, points_count row))))
 
-  pub simple-few : count row < 3 → false ≡ is_simple (points row)
+  pub simple_few : count row < 3 → false ≡ is_simple (points row)
   unfolding is_simple
-  simple-few h = sym (ap (λ (t : Bool). t && not (some aligned_at (corners (points row)))) (lt-leb 3 (length (points row)) (omega (arith, points_count row))))
+  simple_few h = sym (ap (λ (t : Bool). t && not (some aligned_at (corners (points row)))) (lt-leb 3 (length (points row)) (omega (arith, points_count row))))
 
-  pub spikes-few : count row < 3 → false ≡ no_spikes (points row)
+  pub spikes_few : count row < 3 → false ≡ no_spikes (points row)
   unfolding no_spikes
-  spikes-few h = sym (ap (λ (t : Bool). t && spike_free_distinct (distinct_neighbours (points row))) (lt-leb 3 (length (points row)) (omega (arith, points_count row))))
+  spikes_few h = sym (ap (λ (t : Bool). t && spike_free_distinct (distinct_neighbours (points row))) (lt-leb 3 (length (points row)) (omega (arith, points_count row))))
 
-  pub spikes-many : 3 ≤ count row → spike_free_distinct (distinct_neighbours (points row)) ≡ no_spikes (points row)
+  pub spikes_many : 3 ≤ count row → spike_free_distinct (distinct_neighbours (points row)) ≡ no_spikes (points row)
   unfolding no_spikes
-  spikes-many h = sym (ap (λ (t : Bool). t && spike_free_distinct (distinct_neighbours (points row))) (le-leb 3 (length (points row)) (omega (arith, points_count row))))
+  spikes_many h = sym (ap (λ (t : Bool). t && spike_free_distinct (distinct_neighbours (points row))) (le-leb 3 (length (points row)) (omega (arith, points_count row))))
 
   -- by either rule
-  pub passes-few : (rule : Rule) → count row < 3 → false ≡ passes rule (points row)
-  passes-few Collinear h = simple-few h
-  passes-few Spike h = spikes-few h
+  pub passes_few : (rule : Rule) → count row < 3 → false ≡ passes rule (points row)
+  passes_few Collinear h = simple_few h
+  passes_few Spike h = spikes_few h

@@ -1,7 +1,7 @@
 // Simple contours: no vertex whose two edges have cross 0.
 ghost use Rattle.std.specs.Prelude.{◌≡◌};
 ghost use Rattle.ring.specs.declared.Rule as R;
-ghost use Rattle.clean.specs.Verdicts.{simple as simple-verdict};
+ghost use Rattle.clean.specs.Verdicts.{simple as simple_verdict};
 ghost use Rattle.clean.specs.Outcome.{lent, leaving, outcome};
 
 use crate::cleaning;
@@ -13,7 +13,7 @@ use ring::Rule;
 // Whether the contour has three or more points, and no vertex whose two edges have cross 0. Most contours are boxes, of
 // which it is known.
 pub fn is_simple(points: &[i32]) -> Verdict
-    ensures { result ≡ simple-verdict points.now }
+    ensures { result ≡ simple_verdict points.now }
 {
     let refusal = grid::domain(points);
     if refusal != 0 {

@@ -13,7 +13,7 @@ use Rattle.grid.specs.Points as Points
 use Rattle.grid.specs.Domain.{count}
 use Rattle.turned.specs.Starts.{starts_at, smallest_start}
 use Rattle.turned.specs.inside.Words.{key, keys, Apart}
-use Rattle.turned.proofs.KeyLaws.{key-same, key_differs}
+use Rattle.turned.proofs.KeyLaws.{key_same, key_differs}
 use Rattle.turned.proofs.SearchLaws.{first_is, is_first, all_true, true_all}
 use Rattle.difference.specs.Lines.{same, elsewhere, different, first_other, judged, by_count, compared}
 
@@ -22,8 +22,8 @@ module _ (first second : List ℤ) (n : ℕ) where
   Differs i = not (Points.same (at second i) (at first i))
 
   -- a position counted from the start 0
-  from-none : (x : ℕ) → x < n → (0 + x) % n ≡ x
-  from-none x l = let z : 0 + x ≡ x = omega arith in ap (λ (y : ℕ). y % n) z ∙ mod-eq_of_lt l
+  from_none : (x : ℕ) → x < n → (0 + x) % n ≡ x
+  from_none x l = let z : 0 + x ≡ x = omega arith in ap (λ (y : ℕ). y % n) z ∙ mod-eq_of_lt l
 
   -- no position differs: the start is 0
   pub start-zero : first_other first second n ≡ n → smallest_start first second n ≡ 0
@@ -31,29 +31,29 @@ module _ (first second : List ℤ) (n : ℕ) where
   start-zero e = sym (first_is _ n 0 (record {
     within = omega arith;
     passes = λ h. all_true _ n (λ x l.
-        ap (λ (y : ℕ). Points.same (at second y) (at first x)) (from-none x l)
+        ap (λ (y : ℕ). Points.same (at second y) (at first x)) (from_none x l)
         ∙ not-false _ ((is_first Differs n).before x (omega (arith, e))));
     before = λ x l. absurd (omega arith);
   }))
 
   -- a position differs: the start is not 0
-  pub start-not-zero : first_other first second n < n → smallest_start first second n ≡ 0 → ⊥
+  pub start_not_zero : first_other first second n < n → smallest_start first second n ≡ 0 → ⊥
   unfolding starts_at
-  start-not-zero h e =
+  start_not_zero h e =
       let d = first_other first second n in
       let t : starts_at first second n 0 ≡ true = rw e at ((is_first (starts_at first second n) n).passes (omega (arith, e))) in
-      let y : Points.same (at second d) (at first d) ≡ true = ap (λ (y : ℕ). Points.same (at second y) (at first d)) (sym (from-none d h)) ∙ true_all _ n t d h in
+      let y : Points.same (at second d) (at first d) ≡ true = ap (λ (y : ℕ). Points.same (at second y) (at first d)) (sym (from_none d h)) ∙ true_all _ n t d h in
       true≢false (sym y ∙ not-true _ ((is_first Differs n).passes h))
 
-  pub other-within : first_other first second n ≤ n
-  other-within = (is_first Differs n).within
+  pub other_within : first_other first second n ≤ n
+  other_within = (is_first Differs n).within
 
 -- how far the keys of two rows agree is how far their points do
 pub other_is : (first second : List ℤ) (n r : ℕ) → all_on_grid limit first ≡ true → all_on_grid limit second ≡ true → Apart (keys first 0) (keys second 0) n r → r ≡ first_other first second n
 other_is first second n r f s a = first_is _ n r (record {
   within = a.within;
   passes = λ h. ap not (key_differs (at second r) (at first r) (λ e. a.differ h (at_front first r ∙ sym e ∙ sym (at_front second r))));
-  before = λ x h. ap not (key-same first second f s x x (sym (at_front second x) ∙ sym (a.agree x h) ∙ at_front first x));
+  before = λ x h. ap not (key_same first second f s x x (sym (at_front second x) ∙ sym (a.agree x h) ∙ at_front first x));
 })
   where
     at_front : (row : List ℤ) (x : ℕ) → keys row 0 x ≡ key (at row x)
@@ -83,12 +83,12 @@ module _ (first second : List ℤ) where
     unfolding compared
     level = ap (λ (b : Bool). by_count b first second) (eq-eqb (count first) (count second) m)
 
-    pub same-all : first_other first second (count second) ≡ count second → compared first second ≡ same
-    same-all e = level ∙ ap (λ (s : ℕ). judged (count second) s (first_other first second (count second))) (start-zero first second (count second) e)
+    pub same_all : first_other first second (count second) ≡ count second → compared first second ≡ same
+    same_all e = level ∙ ap (λ (s : ℕ). judged (count second) s (first_other first second (count second))) (start-zero first second (count second) e)
 
     module _ (d : first_other first second (count second) < count second) where
-      pub same-elsewhere : smallest_start first second (count second) < count second → compared first second ≡ elsewhere (smallest_start first second (count second))
-      same-elsewhere h = level ∙ judged_elsewhere _ _ _ (start-not-zero first second (count second) d) h
+      pub same_elsewhere : smallest_start first second (count second) < count second → compared first second ≡ elsewhere (smallest_start first second (count second))
+      same_elsewhere h = level ∙ judged_elsewhere _ _ _ (start_not_zero first second (count second) d) h
 
-      pub same-nowhere : count second ≤ smallest_start first second (count second) → compared first second ≡ different (first_other first second (count second))
-      same-nowhere h = level ∙ judged_different _ _ _ (start-not-zero first second (count second) d) h
+      pub same_nowhere : count second ≤ smallest_start first second (count second) → compared first second ≡ different (first_other first second (count second))
+      same_nowhere h = level ∙ judged_different _ _ _ (start_not_zero first second (count second) d) h

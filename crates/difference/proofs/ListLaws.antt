@@ -14,7 +14,7 @@ use Rattle.rows.specs.Parts.{Part}
 use Rattle.buffer.specs.Spans.{span, spans}
 use Rattle.buffer.specs.Sets.{contour, contours}
 use Rattle.buffer.proofs.SpanLaws.{range_within}
-use Rattle.buffer.proofs.PartLaws.{names_of, part-contour, contours_at}
+use Rattle.buffer.proofs.PartLaws.{names_of, part_contour, contours_at}
 use Rattle.difference.specs.Walking.{if_there, handed}
 use Rattle.difference.specs.Lines.{only_first, only_second, compared, listed, lines_of, same, row, written}
 use Rattle.difference.specs.inside.Sets.{Sound}
@@ -63,25 +63,25 @@ module _ (p : List ℤ) (rs : List (List ℕ)) (q : List ℤ) (ss : List (List �
   written-length = length-map (lines_of p rs q ss) row ∙ lines-length
 
   module _ (k : ℕ) where
-    pub told-second : length rs ≤ k → k < max (length rs) (length ss) → only_second ≡ get_or (lines_of p rs q ss) k same
-    told-second h g = sym (at_second _ _ k (omega (arith, many p rs)) (omega (arith, many q ss)))
+    pub told_second : length rs ≤ k → k < max (length rs) (length ss) → only_second ≡ get_or (lines_of p rs q ss) k same
+    told_second h g = sym (at_second _ _ k (omega (arith, many p rs)) (omega (arith, many q ss)))
 
-    pub told-first : k < length rs → length ss ≤ k → only_first ≡ get_or (lines_of p rs q ss) k same
-    told-first h g = sym (at_first _ _ k (omega (arith, many p rs)) (omega (arith, many q ss)))
+    pub told_first : k < length rs → length ss ≤ k → only_first ≡ get_or (lines_of p rs q ss) k same
+    told_first h g = sym (at_first _ _ k (omega (arith, many p rs)) (omega (arith, many q ss)))
 
-    pub told-both : k < length rs → k < length ss → compared (get_or (contours p (spans rs)) k []) (get_or (contours q (spans ss)) k []) ≡ get_or (lines_of p rs q ss) k same
-    told-both h g = sym (at_both _ _ k (omega (arith, many p rs)) (omega (arith, many q ss)))
+    pub told_both : k < length rs → k < length ss → compared (get_or (contours p (spans rs)) k []) (get_or (contours q (spans ss)) k []) ≡ get_or (lines_of p rs q ss) k same
+    told_both h g = sym (at_both _ _ k (omega (arith, many p rs)) (omega (arith, many q ss)))
 
 -- what a walker hands out of a sound set is a contour of it
 module _ (p : Part) (rs : List (List ℕ)) (s : Sound p.numbers rs) (k : ℕ) (h : k < length rs) where
   there : (leb (get_or (get_or rs k []) 0 0) (get_or (get_or rs k []) 1 0) && leb (get_or (get_or rs k []) 1 0) (count p.numbers)) ≡ true
   there = let w = range_within rs (count p.numbers) k s.tied h in and_both _ _ (le-leb _ _ w.forward) (le-leb _ _ w.ends)
 
-  pub handed-is : (handed p (get_or (get_or rs k []) 0 0) (get_or (get_or rs k []) 1 0)).numbers ≡ get_or (contours p.numbers (spans rs)) k []
-  handed-is =
+  pub handed_is : (handed p (get_or (get_or rs k []) 0 0) (get_or (get_or rs k []) 1 0)).numbers ≡ get_or (contours p.numbers (spans rs)) k []
+  handed_is =
       ap (λ (b : Bool). (if_there b p (get_or (get_or rs k []) 0 0) (get_or (get_or rs k []) 1 0)).numbers) there
       ∙ sym (contours_at p.numbers rs k h)
 
 -- and a contour of the domain
 pub in_domain : (p : List ℤ) (rs : List (List ℕ)) → Sound p rs → (k : ℕ) → k < length rs → {row : List ℤ} → row ≡ get_or (contours p (spans rs)) k [] → Contour row (count row)
-in_domain p rs s k h {row} e = rw (e ∙ contours_at p rs k h) (part-contour p rs k s.domain (names_of p rs k s.domain.even s.tied h))
+in_domain p rs s k h {row} e = rw (e ∙ contours_at p rs k h) (part_contour p rs k s.domain (names_of p rs k s.domain.even s.tied h))

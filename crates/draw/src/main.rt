@@ -2,7 +2,7 @@
 #![tactic(auto)]
 
 ghost use Rattle.std.specs.Prelude.{◌≤◌, length};
-ghost use Rattle.picture.specs.Picture.{picture as picture-of};
+ghost use Rattle.picture.specs.Picture.{picture as picture_of};
 
 use picture::TEXT;
 use picture::inner::drawing;
@@ -13,7 +13,7 @@ const BYTES: usize = 65537;
 
 // Writes the picture of a file, by a row that has room for it.
 fn print(rt: &HostRuntime, bytes: &[u8], text: &mut [u8]) -> io::Result<()>
-    requires { length (picture-of bytes.now) ≤ length text.old }
+    requires { length (picture_of bytes.now) ≤ length text.old }
 {
     let length = drawing::draw(bytes, text);
     rt.stdout().write_all(&text[..length])

@@ -56,19 +56,19 @@ opens_is (suc (suc (suc k))) floats = le-ltb (suc (suc (suc k))) 2 (omega arith)
 -- what is left of the rows: one kind more is met, or none is left
 module _ (kinds : List ℕ) (i : ℕ) where
   module _ (h : i < length kinds) where
-    pub asked-more : asked (drop i kinds) ≡ brought (get_or kinds i 0) + asked (drop (i + 1) kinds)
+    pub asked_more : asked (drop i kinds) ≡ brought (get_or kinds i 0) + asked (drop (i + 1) kinds)
     unfolding asked
-    asked-more = rw (drop-cons kinds i 0 h, add-one i)
+    asked_more = rw (drop-cons kinds i 0 h, add-one i)
 
     pub items_more : (floats : List Float) (at : ℕ)
         → items (drop i kinds) (drop at floats) ≡ item (get_or kinds i 0) (drop at floats) ∷ items (drop (i + 1) kinds) (drop (at + brought (get_or kinds i 0)) floats)
     unfolding items
     items_more floats at = rw (drop-cons kinds i 0 h, add-one i, drop-drop (brought (get_or kinds i 0)) at floats)
 
-  pub asked-done : i ≡ length kinds → asked (drop i kinds) ≡ 0
+  pub asked_done : i ≡ length kinds → asked (drop i kinds) ≡ 0
   unfolding asked
-  asked-done e = rw (e, drop-length kinds)
+  asked_done e = rw (e, drop-length kinds)
 
-  pub items-done : i ≡ length kinds → (floats : List Float) → items (drop i kinds) floats ≡ []
+  pub items_done : i ≡ length kinds → (floats : List Float) → items (drop i kinds) floats ≡ []
   unfolding items
-  items-done e floats = rw (e, drop-length kinds)
+  items_done e floats = rw (e, drop-length kinds)

@@ -25,7 +25,7 @@ use Rattle.buffer.specs.Sets.{joined, contours, Even}
 use Rattle.buffer.proofs.RefusalLaws.{Accepted, accepted}
 use Rattle.buffer.proofs.SetLaws.{contours_even, joined-append, sizes_are}
 use Rattle.buffer.proofs.SpanLaws.{ends_at, first_starts, first_forward, others_sound, range_within}
-use Rattle.buffer.proofs.Theorems.{a-sound-set's-contours-laid-end-to-end-are-its-points}
+use Rattle.buffer.proofs.Theorems.{a_sound_set's_contours_laid_end_to_end_are_its_points}
 use Rattle.millimetres.specs.Scale.{millimetres}
 use Rattle.drawing.specs.declared.answer.Drawn.{Drawn}
 use Rattle.drawing.specs.declared.command.Command.{Command}
@@ -106,16 +106,16 @@ module _ (p : List ℤ) (ranges : List (List ℕ)) (even : length p ≡ 2 * coun
   pub floats_are : floats_of drawn ≡ map millimetres p
   floats_are =
       floats_by_row (contours p (spans ranges)) (contours_even p 0 (spans ranges) even ok)
-      ∙ ap (map millimetres) (a-sound-set's-contours-laid-end-to-end-are-its-points p (spans ranges) even ok)
+      ∙ ap (map millimetres) (a_sound_set's_contours_laid_end_to_end_are_its_points p (spans ranges) even ok)
 
-  pub kinds-count : length (kinds_of drawn) ≡ count p + filled (spans ranges)
-  kinds-count = ap length kinds_are ∙ omega (arith, set-length (spans ranges), sizes_total 0 (count p) (spans ranges) ok)
+  pub kinds_count : length (kinds_of drawn) ≡ count p + filled (spans ranges)
+  kinds_count = ap length kinds_are ∙ omega (arith, set-length (spans ranges), sizes_total 0 (count p) (spans ranges) ok)
 
-  pub floats-count : length (floats_of drawn) ≡ length p
-  floats-count = ap length floats_are ∙ length-map p millimetres
+  pub floats_count : length (floats_of drawn) ≡ length p
+  floats_count = ap length floats_are ∙ length-map p millimetres
 
-  pub commands-few : count p + filled (spans ranges) ≤ 2 * count p
-  commands-few = omega (arith, filled_few (spans ranges), sizes_total 0 (count p) (spans ranges) ok)
+  pub commands_few : count p + filled (spans ranges) ≤ 2 * count p
+  commands_few = omega (arith, filled_few (spans ranges), sizes_total 0 (count p) (spans ranges) ok)
 
 -- what it answers
 put_refused : (l : List Command) (kinds : List ℕ) (floats : List Float) (r : ℕ) → (r ≡ 0 → ⊥) → leaving (none_drawn r) kinds floats ≡ put r l kinds floats
@@ -123,19 +123,19 @@ put_refused l kinds floats zero n = absurd (n refl)
 put_refused l kinds floats (suc r) n = refl
 
 module _ (p : List ℤ) (ranges : List (List ℕ)) (kinds : List ℕ) (floats : List Float) where
-  abbrev told-commands : List Command
-  told-commands = commands (contours p (spans ranges))
+  abbrev told_commands : List Command
+  told_commands = commands (contours p (spans ranges))
 
-  by_number : (r : ℕ) → r ≡ first_of (refusals p ranges ++ room (enough told-commands kinds floats)) → put r told-commands kinds floats ≡ outcome p ranges kinds floats
+  by_number : (r : ℕ) → r ≡ first_of (refusals p ranges ++ room (enough told_commands kinds floats)) → put r told_commands kinds floats ≡ outcome p ranges kinds floats
   unfolding outcome
-  by_number r f = ap (λ (n : ℕ). put n told-commands kinds floats) f
+  by_number r f = ap (λ (n : ℕ). put n told_commands kinds floats) f
 
-  pub export-refused : (k : ℕ) → k ≡ first_of (refusals p ranges) → (w : Drawn) → w ≡ none_drawn k → (k ≡ 0 → ⊥)
+  pub export_refused : (k : ℕ) → k ≡ first_of (refusals p ranges) → (w : Drawn) → w ≡ none_drawn k → (k ≡ 0 → ⊥)
       → leaving w kinds floats ≡ outcome p ranges kinds floats
-  export-refused k e w g n =
-      ap (λ (a : Drawn). leaving a kinds floats) g ∙ put_refused told-commands kinds floats k n
+  export_refused k e w g n =
+      ap (λ (a : Drawn). leaving a kinds floats) g ∙ put_refused told_commands kinds floats k n
       ∙ by_number k
-      (first_is _ _ (stopped (refusals p ranges) (room (enough told-commands kinds floats)) k e n))
+      (first_is _ _ (stopped (refusals p ranges) (room (enough told_commands kinds floats)) k e n))
 
 -- a set of which nothing is refused, n of whose contours have points, and the rows for its drawing
 pub record Exporting (p : List ℤ) (ranges : List (List ℕ)) (kinds : List ℕ) (floats : List Float) (n : ℕ) : Type 0 where
@@ -144,19 +144,19 @@ pub record Exporting (p : List ℤ) (ranges : List (List ℕ)) (kinds : List ℕ
 
 module _ {p : List ℤ} {ranges : List (List ℕ)} {kinds : List ℕ} {floats : List Float} {n : ℕ} (set : Exporting p ranges kinds floats n) where
   abbrev drawing : List Command
-  drawing = told-commands p ranges kinds floats
+  drawing = told_commands p ranges kinds floats
 
   taken : Accepted narrow p (sound (spans ranges) (count p))
   taken = accepted narrow p (sound (spans ranges) (count p)) set.free
 
   pub export_few : count p + filled (spans ranges) ≤ 2 * most
-  export_few = omega (arith, commands-few p ranges taken.even taken.sound, taken.few)
+  export_few = omega (arith, commands_few p ranges taken.even taken.sound, taken.few)
 
   same_room : (leb (count p + n) (length kinds) && leb (length p) (length floats)) ≡ enough drawing kinds floats
   same_room =
       ap₂ (λ (a b : ℕ). leb a (length kinds) && leb b (length floats))
-      (ap (λ (m : ℕ). count p + m) set.filled_ones ∙ sym (kinds-count p ranges taken.even taken.sound))
-      (sym (floats-count p ranges taken.even taken.sound))
+      (ap (λ (m : ℕ). count p + m) set.filled_ones ∙ sym (kinds_count p ranges taken.even taken.sound))
+      (sym (floats_count p ranges taken.even taken.sound))
 
   onto : (r : ℕ) → First (room (enough drawing kinds floats)) r → put r drawing kinds floats ≡ outcome p ranges kinds floats
   onto r f = by_number p ranges kinds floats r (first_is _ _ (onward (refusals p ranges) (room (enough drawing kinds floats)) r tt set.free f))
@@ -171,7 +171,7 @@ module _ {p : List ℤ} {ranges : List (List ℕ)} {kinds : List ℕ} {floats : 
     export_contours =
         let m : count p + n ≤ length kinds = leb-true _ _ (and_left (leb (count p + n) (length kinds)) (leb (length p) (length floats)) h) in (
           λ i l. (range_within ranges (count p) i taken.sound l).forward,
-          omega (arith, set.filled_ones, kinds-count p ranges taken.even taken.sound, ap length (kinds_are p ranges taken.even taken.sound)),
+          omega (arith, set.filled_ones, kinds_count p ranges taken.even taken.sound, ap length (kinds_are p ranges taken.even taken.sound)),
         )
 
     pub export_places : (length p % 2 ≡ 0) × (length p ≤ length floats)
@@ -181,8 +181,8 @@ module _ {p : List ℤ} {ranges : List (List ℕ)} {kinds : List ℕ} {floats : 
         → leaving (record { reply = 0; commands = count p + n; floats = length p }) c d ≡ outcome p ranges kinds floats
     export_done c d f g =
         ap₂ (λ (a b : ℕ). leaving (record { reply = 0; commands = a; floats = b }) c d)
-        (ap (λ (m : ℕ). count p + m) set.filled_ones ∙ sym (kinds-count p ranges taken.even taken.sound))
-        (sym (floats-count p ranges taken.even taken.sound))
+        (ap (λ (m : ℕ). count p + m) set.filled_ones ∙ sym (kinds_count p ranges taken.even taken.sound))
+        (sym (floats_count p ranges taken.even taken.sound))
         ∙ ap₂ (λ (a : List ℕ) (b : List Float). leaving (record { reply = 0; commands = length (kinds_of drawing); floats = length (floats_of drawing) }) a b)
         (f ∙ ap (λ (l : List ℕ). front l kinds) (sym (kinds_are p ranges taken.even taken.sound)))
         (g ∙ ap (λ (l : List Float). front l floats) (sym (floats_are p ranges taken.even taken.sound)))

@@ -18,17 +18,17 @@ use Rattle.drawing.specs.Faults.{place_faults, faults, opens, or_else, first_fau
 
 -- a command that is faulty, or not
 module _ (opened : Bool) (c : Item) (l : List Item) (r : ℕ) (e : r ≡ first_of (faults opened c)) where
-  pub fault-decides : (r ≡ 0 → ⊥) → first_fault opened (c ∷ l) ≡ r
+  pub fault_decides : (r ≡ 0 → ⊥) → first_fault opened (c ∷ l) ≡ r
   unfolding first_fault
-  fault-decides n = ap (λ (k : ℕ). or_else k (first_fault (opens c) l)) (sym e) ∙ stops r n
+  fault_decides n = ap (λ (k : ℕ). or_else k (first_fault (opens c) l)) (sym e) ∙ stops r n
     where
       stops : (k : ℕ) → (k ≡ 0 → ⊥) → or_else k (first_fault (opens c) l) ≡ k
       stops zero m = absurd (m refl)
       stops (suc k) m = refl
 
-  pub fault-passes : r ≡ 0 → first_fault opened (c ∷ l) ≡ first_fault (opens c) l
+  pub fault_passes : r ≡ 0 → first_fault opened (c ∷ l) ≡ first_fault (opens c) l
   unfolding first_fault
-  fault-passes z = ap (λ (k : ℕ). or_else k (first_fault (opens c) l)) (sym e ∙ z)
+  fault_passes z = ap (λ (k : ℕ). or_else k (first_fault (opens c) l)) (sym e ∙ z)
 
 pub no_command_decides : (opened : Bool) (l : List Item) → first_fault opened (no_command ∷ l) ≡ 13
 unfolding first_fault first_of
@@ -41,20 +41,20 @@ on_finite v t = and_left (finite v) (leb (size v) narrow) t
 
 -- a place on the grid, off it, and none: the code asks for the grid first
 module _ (p : Place) where
-  abbrev pub all-on : Bool
-  all-on = on_grid p.x && on_grid p.y
+  abbrev pub all_on : Bool
+  all_on = on_grid p.x && on_grid p.y
 
-  abbrev pub all-finite : Bool
-  all-finite = finite p.x && finite p.y
+  abbrev pub all_finite : Bool
+  all_finite = finite p.x && finite p.y
 
-  pub place-sound : all-on ≡ true → 0 ≡ first_of (place_faults p)
-  place-sound t =
+  pub place_sound : all_on ≡ true → 0 ≡ first_of (place_faults p)
+  place_sound t =
       let x = on_finite p.x (and_left (on_grid p.x) (on_grid p.y) t) in
       let y = on_finite p.y (and_right (on_grid p.x) (on_grid p.y) t) in
       first_is _ _ (past (ap₂ (λ (a b : Bool). not (a && b)) x y) (past (ap not t) foot))
 
-  pub place-off : all-on ≡ false → all-finite ≡ true → 3 ≡ first_of (place_faults p)
-  place-off t f = first_is _ _ (past (ap not f) (here (ap not t)))
+  pub place_off : all_on ≡ false → all_finite ≡ true → 3 ≡ first_of (place_faults p)
+  place_off t f = first_is _ _ (past (ap not f) (here (ap not t)))
 
-  pub place-not-finite : all-finite ≡ false → 14 ≡ first_of (place_faults p)
-  place-not-finite f = first_is _ _ (here (ap not f))
+  pub place_not_finite : all_finite ≡ false → 14 ≡ first_of (place_faults p)
+  place_not_finite f = first_is _ _ (here (ap not f))

@@ -15,9 +15,9 @@ use Rattle.drawing.specs.inside.Rows.{run, sizes}
 
 -- two elements more of a list are written
 module _ {A : Type 0} {row₀ : List A} {at : ℕ} {l row : List A} {i : ℕ} (c : Copied row₀ at l row i) where
-  pub copied-two : at + length l ≤ length row₀ → i + 1 < length l → (d x y : A) (j b : ℕ) → j ≡ at + i → b ≡ i + 2 → x ≡ get_or l i d → y ≡ get_or l (i + 1) d
+  pub copied_two : at + length l ≤ length row₀ → i + 1 < length l → (d x y : A) (j b : ℕ) → j ≡ at + i → b ≡ i + 2 → x ≡ get_or l i d → y ≡ get_or l (i + 1) d
       → Copied row₀ at l (set (set row j x) (j + 1) y) b
-  copied-two room h d x y j b e f p q =
+  copied_two room h d x y j b e f p q =
       let a : at + i ≡ j = sym e in
       let k : at + (i + 1) ≡ j + 1 = omega arith in
       let n : i + 1 + 1 ≡ b = omega arith in
@@ -36,8 +36,8 @@ module _ {A : Type 0} (l : List A) (k : ℕ) (x : A) (rest : List A) (e : drop k
       let z : k + 0 ≡ k = omega arith in
       ap (λ (n : ℕ). get_or l n d) (sym z) ∙ sym (get_or-drop k l 0 d) ∙ ap (λ (r : List A). get_or r 0 d) e
 
-  pub front-past : drop (k + 1) l ≡ rest
-  front-past = sym (drop-drop 1 k l) ∙ ap (drop 1) e
+  pub front_past : drop (k + 1) l ≡ rest
+  front_past = sym (drop-drop 1 k l) ∙ ap (drop 1) e
 
 -- the Lines in front of the rest of the kinds
 module _ (kinds : List ℕ) (i : ℕ) where
@@ -46,9 +46,9 @@ module _ (kinds : List ℕ) (i : ℕ) where
     unfolding run
     run_more e = rw (drop-cons kinds i 0 h, add-one i, e)
 
-    pub run-stops : (get_or kinds i 0 ≡ 1 → ⊥) → run (drop i kinds) ≡ 0
+    pub run_stops : (get_or kinds i 0 ≡ 1 → ⊥) → run (drop i kinds) ≡ 0
     unfolding run
-    run-stops n = ap run (drop-cons kinds i 0 h) ∙ go (get_or kinds i 0) n
+    run_stops n = ap run (drop-cons kinds i 0 h) ∙ go (get_or kinds i 0) n
       where
         go : (k : ℕ) → (k ≡ 1 → ⊥) → run (k ∷ drop (suc i) kinds) ≡ 0
         go zero m = refl
@@ -56,21 +56,21 @@ module _ (kinds : List ℕ) (i : ℕ) where
         go (suc (suc k)) m = refl
 
     -- the sizes of the contours that are left
-    pub sizes-begun : get_or kinds i 0 ≡ 0 → sizes (drop i kinds) ≡ suc (run (drop (i + 1) kinds)) ∷ sizes (drop (i + 1) kinds)
+    pub sizes_begun : get_or kinds i 0 ≡ 0 → sizes (drop i kinds) ≡ suc (run (drop (i + 1) kinds)) ∷ sizes (drop (i + 1) kinds)
     unfolding sizes
-    sizes-begun e = rw (drop-cons kinds i 0 h, add-one i, e)
+    sizes_begun e = rw (drop-cons kinds i 0 h, add-one i, e)
 
-    pub sizes-past : (get_or kinds i 0 ≡ 0 → ⊥) → sizes (drop i kinds) ≡ sizes (drop (i + 1) kinds)
+    pub sizes_past : (get_or kinds i 0 ≡ 0 → ⊥) → sizes (drop i kinds) ≡ sizes (drop (i + 1) kinds)
     unfolding sizes
-    sizes-past n = ap sizes (drop-cons kinds i 0 h) ∙ go (get_or kinds i 0) n ∙ rw (add-one i)
+    sizes_past n = ap sizes (drop-cons kinds i 0 h) ∙ go (get_or kinds i 0) n ∙ rw (add-one i)
       where
         go : (k : ℕ) → (k ≡ 0 → ⊥) → sizes (k ∷ drop (suc i) kinds) ≡ sizes (drop (suc i) kinds)
         go zero m = absurd (m refl)
         go (suc k) m = refl
 
-    pub sizes-counted : length (sizes (drop i kinds)) ≡ bool_byte (eqb (get_or kinds i 0) 0) + length (sizes (drop (i + 1) kinds))
+    pub sizes_counted : length (sizes (drop i kinds)) ≡ bool_byte (eqb (get_or kinds i 0) 0) + length (sizes (drop (i + 1) kinds))
     unfolding sizes
-    sizes-counted = ap (λ (l : List ℕ). length (sizes l)) (drop-cons kinds i 0 h) ∙ go (get_or kinds i 0) ∙ rw (add-one i)
+    sizes_counted = ap (λ (l : List ℕ). length (sizes l)) (drop-cons kinds i 0 h) ∙ go (get_or kinds i 0) ∙ rw (add-one i)
       where
         go : (k : ℕ) → length (sizes (k ∷ drop (suc i) kinds)) ≡ bool_byte (eqb k 0) + length (sizes (drop (suc i) kinds))
         go zero = omega arith
@@ -81,9 +81,9 @@ module _ (kinds : List ℕ) (i : ℕ) where
     unfolding run
     run_done = rw (e, drop-length kinds)
 
-    pub sizes-done : sizes (drop i kinds) ≡ []
+    pub sizes_done : sizes (drop i kinds) ≡ []
     unfolding sizes
-    sizes-done = rw (e, drop-length kinds)
+    sizes_done = rw (e, drop-length kinds)
 
 points_few : (kinds : List ℕ) → run kinds + total (sizes kinds) ≤ length kinds
 unfolding run sizes
@@ -108,9 +108,9 @@ ranging_all kinds records = record {
 }
 
 module _ {kinds : List ℕ} {records₀ records : List (List ℕ)} {k start i : ℕ} (x : Ranging kinds records₀ records k start i) (h : i < length kinds) where
-  pub ranging-past : (get_or kinds i 0 ≡ 0 → ⊥) → Ranging kinds records₀ records k start (i + 1)
-  ranging-past n =
-      let e = sizes-past kinds i h n in
+  pub ranging_past : (get_or kinds i 0 ≡ 0 → ⊥) → Ranging kinds records₀ records k start (i + 1)
+  ranging_past n =
+      let e = sizes_past kinds i h n in
       record {
         within = omega arith;
         few = subst (λ (l : List ℕ). start + total l ≤ length kinds) e x.few;
@@ -119,32 +119,32 @@ module _ {kinds : List ℕ} {records₀ records : List (List ℕ)} {k start i : 
       }
 
   module _ (e : get_or kinds i 0 ≡ 0) where
-    abbrev next-end : ℕ
-    next-end = start + suc (run (drop (i + 1) kinds))
+    abbrev next_end : ℕ
+    next_end = start + suc (run (drop (i + 1) kinds))
 
-    begins : drop k (rows (laid 0 (sizes kinds))) ≡ (start ∷ next-end ∷ []) ∷ rows (laid next-end (sizes (drop (i + 1) kinds)))
+    begins : drop k (rows (laid 0 (sizes kinds))) ≡ (start ∷ next_end ∷ []) ∷ rows (laid next_end (sizes (drop (i + 1) kinds)))
     unfolding laid
-    begins = x.rest ∙ ap (λ (l : List ℕ). rows (laid start l)) (sizes-begun kinds i h e)
+    begins = x.rest ∙ ap (λ (l : List ℕ). rows (laid start l)) (sizes_begun kinds i h e)
 
-    pub ranging-few : next-end + total (sizes (drop (i + 1) kinds)) ≤ length kinds
-    ranging-few =
+    pub ranging_few : next_end + total (sizes (drop (i + 1) kinds)) ≤ length kinds
+    ranging_few =
         let f : start + total (suc (run (drop (i + 1) kinds)) ∷ sizes (drop (i + 1) kinds)) ≤ length kinds =
-        subst (λ (l : List ℕ). start + total l ≤ length kinds) (sizes-begun kinds i h e) x.few in
+        subst (λ (l : List ℕ). start + total l ≤ length kinds) (sizes_begun kinds i h e) x.few in
         omega arith
 
-    pub ranging-within : k < length (rows (laid 0 (sizes kinds)))
-    ranging-within = front_within _ k _ _ begins
+    pub ranging_within : k < length (rows (laid 0 (sizes kinds)))
+    ranging_within = front_within _ k _ _ begins
 
-    pub ranging-more : length (rows (laid 0 (sizes kinds))) ≤ length records₀ → (end : ℕ) → end ≡ next-end
+    pub ranging_more : length (rows (laid 0 (sizes kinds))) ≤ length records₀ → (end : ℕ) → end ≡ next_end
         → Ranging kinds records₀ (set records k (start ∷ end ∷ [])) (k + 1) end (i + 1)
-    ranging-more room end q =
+    ranging_more room end q =
         let z : 0 + k ≡ k = omega arith in
         record {
           within = omega arith;
-          few = subst (λ (n : ℕ). n + total (sizes (drop (i + 1) kinds)) ≤ length kinds) (sym q) ranging-few;
+          few = subst (λ (n : ℕ). n + total (sizes (drop (i + 1) kinds)) ≤ length kinds) (sym q) ranging_few;
           copied =
               subst (λ (n : ℕ). Copied records₀ 0 (rows (laid 0 (sizes kinds))) (set records n (start ∷ end ∷ [])) (k + 1)) z
-              (copied_more records₀ 0 _ x.copied [] (start ∷ end ∷ []) (omega arith) ranging-within
+              (copied_more records₀ 0 _ x.copied [] (start ∷ end ∷ []) (omega arith) ranging_within
               (ap (λ (n : ℕ). start ∷ n ∷ []) q ∙ sym (front_is _ k _ _ begins [])));
-          rest = front-past _ k _ _ begins ∙ ap (λ (n : ℕ). rows (laid n (sizes (drop (i + 1) kinds)))) (sym q);
+          rest = front_past _ k _ _ begins ∙ ap (λ (n : ℕ). rows (laid n (sizes (drop (i + 1) kinds)))) (sym q);
         }

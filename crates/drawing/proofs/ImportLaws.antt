@@ -21,7 +21,7 @@ use Rattle.buffer.specs.declared.ranges.Span.{Span}
 use Rattle.buffer.specs.Spans.{rows, laid}
 use Rattle.buffer.specs.Sets.{joined, contour_spans}
 use Rattle.buffer.specs.Answers.{packed, leaving, enough}
-use Rattle.buffer.proofs.AnswerLaws.{stored_refused, stored-done}
+use Rattle.buffer.proofs.AnswerLaws.{stored_refused, stored_done}
 use Rattle.buffer.proofs.SetLaws.{laid-length}
 use Rattle.millimetres.specs.Scale.{units}
 use Rattle.drawing.specs.Commands.{asked, items}
@@ -155,7 +155,7 @@ module _ {kinds : List ℕ} {floats : List Float} {out : List ℤ} {records : Li
         → leaving (packed 0 (length floats / 2) n 0) o d [] ≡ outcome kinds floats out records
     import_done o d g h =
         ap₂ (λ (a b : ℕ). leaving (packed 0 a b 0) o d []) (sym (points_are (taken_sound kinds floats taken))) (judged.contours ∙ sym (spans-length kinds floats))
-        ∙ stored-done (joined (drawn kinds floats)) (contour_spans (drawn kinds floats)) [] out records [] (refusals kinds floats) enough_for refl r number o d [] z
+        ∙ stored_done (joined (drawn kinds floats)) (contour_spans (drawn kinds floats)) [] out records [] (refusals kinds floats) enough_for refl r number o d [] z
         (g ∙ ap (λ (l : List ℤ). front l out) (sym (numbers_are (taken_sound kinds floats taken))))
         (h ∙ ap (λ (l : List Span). front (rows l) records) (sym (spans_are kinds floats)))
         refl

@@ -39,11 +39,11 @@ module _ (x y : Float) (l : List Item) (e : or_else (first_of (place_faults (rec
   on_both : (on_grid x && on_grid y) ≡ true
   on_both = not-false (on_grid x && on_grid y) (clear (place_faults (record { x = x; y = y })) tt neither.0).1.0
 
-  on-first : on_grid x ≡ true
-  on-first = and_left (on_grid x) (on_grid y) on_both
+  on_first : on_grid x ≡ true
+  on_first = and_left (on_grid x) (on_grid y) on_both
 
-  on-second : on_grid y ≡ true
-  on-second = and_right (on_grid x) (on_grid y) on_both
+  on_second : on_grid y ≡ true
+  on_second = and_right (on_grid x) (on_grid y) on_both
 
 pub sound_if : (o : Bool) (kinds : List ℕ) (floats : List Float) → first_fault o (items kinds floats) ≡ 0 → length floats ≡ asked kinds → Sound o kinds floats
 unfolding first_fault first_of items item asked brought
@@ -52,11 +52,11 @@ sound_if o [] (x ∷ floats) e h = absurd (omega arith)
 sound_if o (zero ∷ kinds) [] e h = absurd (omega arith)
 sound_if o (zero ∷ kinds) (x ∷ []) e h = absurd (omega arith)
 sound_if o (zero ∷ kinds) (x ∷ y ∷ floats) e h =
-    moved (on-first x y (items kinds floats) e) (on-second x y (items kinds floats) e) (sound_if true kinds floats (neither x y (items kinds floats) e).1 (omega arith))
+    moved (on_first x y (items kinds floats) e) (on_second x y (items kinds floats) e) (sound_if true kinds floats (neither x y (items kinds floats) e).1 (omega arith))
 sound_if true (suc zero ∷ kinds) [] e h = absurd (omega arith)
 sound_if true (suc zero ∷ kinds) (x ∷ []) e h = absurd (omega arith)
 sound_if true (suc zero ∷ kinds) (x ∷ y ∷ floats) e h =
-    lined (on-first x y (items kinds floats) e) (on-second x y (items kinds floats) e) (sound_if true kinds floats (neither x y (items kinds floats) e).1 (omega arith))
+    lined (on_first x y (items kinds floats) e) (on_second x y (items kinds floats) e) (sound_if true kinds floats (neither x y (items kinds floats) e).1 (omega arith))
 sound_if false (suc zero ∷ kinds) floats e h = absurd (omega arith)
 sound_if true (suc (suc zero) ∷ kinds) floats e h = closed (sound_if false kinds floats e (omega arith))
 sound_if false (suc (suc zero) ∷ kinds) floats e h = absurd (omega arith)

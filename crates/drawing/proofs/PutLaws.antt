@@ -18,22 +18,22 @@ use Rattle.buffer.specs.Sets.{joined}
 use Rattle.rows.proofs.RowLaws.{placed_next}
 use Rattle.buffer.proofs.RowLaws.{spans-length}
 use Rattle.buffer.proofs.ListLaws.{map_at}
-use Rattle.rows.proofs.PlacedLaws.{placed-long, placed-behind, set_placed}
+use Rattle.rows.proofs.PlacedLaws.{placed_long, placed_behind, set_placed}
 use Rattle.buffer.proofs.SetLaws.{joined-append}
 use Rattle.millimetres.specs.Scale.{millimetres}
 use Rattle.drawing.specs.inside.Rows.{one, contour_kinds, set_kinds, filled}
 
 -- the floats of some points, from number `from` on
 module _ (points : List ℤ) (from n : ℕ) (h : 2 * (from + n) ≤ length points) where
-  abbrev pub some-floats : List Float
-  some-floats = map millimetres (take (2 * n) (drop (2 * from) points))
+  abbrev pub some_floats : List Float
+  some_floats = map millimetres (take (2 * n) (drop (2 * from) points))
 
-  pub some-length : length some-floats ≡ 2 * n
+  pub some-length : length some_floats ≡ 2 * n
   some-length =
       length-map (take (2 * n) (drop (2 * from) points)) millimetres
       ∙ length-take-le (2 * n) (drop (2 * from) points) (omega (arith, length-drop (2 * from) points))
 
-  pub some_at : (j k : ℕ) (d : Float) → j < 2 * n → k ≡ 2 * from + j → get_or some-floats j d ≡ millimetres (get_or points k (pos 0))
+  pub some_at : (j k : ℕ) (d : Float) → j < 2 * n → k ≡ 2 * from + j → get_or some_floats j d ≡ millimetres (get_or points k (pos 0))
   some_at j k d l e =
       map_at millimetres (take (2 * n) (drop (2 * from) points)) j d (pos 0) (omega (arith, length-take-le (2 * n) (drop (2 * from) points) (omega (arith, length-drop (2 * from) points))))
       ∙ ap millimetres (get_or-take (2 * n) (drop (2 * from) points) j (pos 0) l ∙ get_or-drop (2 * from) points j (pos 0) ∙ ap (λ (i : ℕ). get_or points i (pos 0)) (sym e))
@@ -89,16 +89,16 @@ set-length (s ∷ l) = length-append (contour_kinds (size s)) (set_kinds l) ∙ 
 
 -- the kinds of a contour that has points are written one behind the other
 module _ (row : List ℕ) (at n : ℕ) (some : n ≡ 0 → ⊥) (h : at + length (contour_kinds n) ≤ length row) where
-  pub contour-room : at + n + 1 ≤ length row
-  contour-room = go n some h
+  pub contour_room : at + n + 1 ≤ length row
+  contour_room = go n some h
     where
       go : (m : ℕ) → (m ≡ 0 → ⊥) → at + length (contour_kinds m) ≤ length row → at + m + 1 ≤ length row
       go zero z l = absurd (z refl)
       go (suc m) z l = omega (arith, contour-length (suc m))
 
-  pub contour-put : (lined : List ℕ) → lined ≡ placed (at + 1) (ones (n - 1)) (set row at 0) → set lined (at + n) 2 ≡ placed at (contour_kinds n) row
+  pub contour_put : (lined : List ℕ) → lined ≡ placed (at + 1) (ones (n - 1)) (set row at 0) → set lined (at + n) 2 ≡ placed at (contour_kinds n) row
   unfolding contour_kinds
-  contour-put lined e = go n some contour-room e
+  contour_put lined e = go n some contour_room e
     where
       go : (m : ℕ) → (m ≡ 0 → ⊥) → at + m + 1 ≤ length row → lined ≡ placed (at + 1) (ones (m - 1)) (set row at 0) → set lined (at + m) 2 ≡ placed at (contour_kinds m) row
       go zero z l i = absurd (z refl)
@@ -107,33 +107,33 @@ module _ (row : List ℕ) (at n : ℕ) (some : n ≡ 0 → ⊥) (h : at + length
           let k : length {A = ℕ} (0 ∷ ones m) ≡ suc m = ap suc (ones-length m) in
           let is : lined ≡ placed at (0 ∷ ones m) row =
           i ∙ ap₂ (λ (j : ℕ) (r : List ℕ). placed (at + 1) (ones j) r) less (set_placed row at 0 (omega arith))
-          ∙ placed-behind row at (0 ∷ []) (ones m) (at + 1) (omega arith) refl in
-          let long : length {A = ℕ} (placed at (0 ∷ ones m) row) ≡ length row = placed-long row at (0 ∷ ones m) (omega arith) in
+          ∙ placed_behind row at (0 ∷ []) (ones m) (at + 1) (omega arith) refl in
+          let long : length {A = ℕ} (placed at (0 ∷ ones m) row) ≡ length row = placed_long row at (0 ∷ ones m) (omega arith) in
           ap (λ (r : List ℕ). set r (at + suc m) 2) is
           ∙ set_placed (placed at (0 ∷ ones m) row) (at + suc m) 2 (omega arith)
-          ∙ placed-behind row at (0 ∷ ones m) (2 ∷ []) (at + suc m) (omega arith) (omega arith)
+          ∙ placed_behind row at (0 ∷ ones m) (2 ∷ []) (at + suc m) (omega arith) (omega arith)
 
 -- the kinds of the contours before number i, and of that one
 module _ (ranges : List (List ℕ)) (i : ℕ) (h : i < length ranges) where
   abbrev before : List ℕ
   before = set_kinds (take i (spans ranges))
 
-  abbrev here-size : ℕ
-  here-size = size (span (get_or ranges i []))
+  abbrev here_size : ℕ
+  here_size = size (span (get_or ranges i []))
 
-  pub kinds-more : set_kinds (take (i + 1) (spans ranges)) ≡ before ++ contour_kinds here-size
+  pub kinds_more : set_kinds (take (i + 1) (spans ranges)) ≡ before ++ contour_kinds here_size
   unfolding joined
-  kinds-more =
+  kinds_more =
       let l = spans ranges in
       let n : i < length l = omega (arith, spans-length ranges) in
       ap (λ (k : ℕ). set_kinds (take k l)) (add-one i)
       ∙ ap set_kinds (take-suc l i (span []) n ∙ ap (λ (s : Span). take i l ++ s ∷ []) (map_at span ranges i (span []) [] h))
       ∙ ap joined (map-append (λ (s : Span). contour_kinds (size s)) (take i l) (span (get_or ranges i []) ∷ []))
-      ∙ joined-append (map (λ (s : Span). contour_kinds (size s)) (take i l)) (contour_kinds here-size ∷ [])
-      ∙ ap (λ (k : List ℕ). before ++ k) (append-nil (contour_kinds here-size))
+      ∙ joined-append (map (λ (s : Span). contour_kinds (size s)) (take i l)) (contour_kinds here_size ∷ [])
+      ∙ ap (λ (k : List ℕ). before ++ k) (append-nil (contour_kinds here_size))
 
-  pub kinds-within : length before + length (contour_kinds here-size) ≤ length (set_kinds (spans ranges))
-  kinds-within =
+  pub kinds_within : length before + length (contour_kinds here_size) ≤ length (set_kinds (spans ranges))
+  kinds_within =
       let l = spans ranges in
       let all : set_kinds l ≡ set_kinds (take (i + 1) l) ++ set_kinds (drop (i + 1) l) =
       ap set_kinds (sym (take-append-drop (i + 1) l)) ∙ ap joined (map-append (λ (s : Span). contour_kinds (size s)) (take (i + 1) l) (drop (i + 1) l))
@@ -142,10 +142,10 @@ module _ (ranges : List (List ℕ)) (i : ℕ) (h : i < length ranges) where
         arith,
         ap length all,
         length-append (set_kinds (take (i + 1) l)) (set_kinds (drop (i + 1) l)),
-        ap length kinds-more,
-        length-append before (contour_kinds here-size),
+        ap length kinds_more,
+        length-append before (contour_kinds here_size),
       )
 
-  pub kinds-put : (row₀ row : List ℕ) (p : ℕ) → row ≡ front before row₀ → p ≡ length before → placed p (contour_kinds here-size) row ≡ front (set_kinds (take (i + 1) (spans ranges))) row₀
-  kinds-put row₀ row p e q =
-      ap (placed p (contour_kinds here-size)) e ∙ placed_next row₀ before (contour_kinds here-size) p q ∙ ap (λ (l : List ℕ). front l row₀) (sym kinds-more)
+  pub kinds_put : (row₀ row : List ℕ) (p : ℕ) → row ≡ front before row₀ → p ≡ length before → placed p (contour_kinds here_size) row ≡ front (set_kinds (take (i + 1) (spans ranges))) row₀
+  kinds_put row₀ row p e q =
+      ap (placed p (contour_kinds here_size)) e ∙ placed_next row₀ before (contour_kinds here_size) p q ∙ ap (λ (l : List ℕ). front l row₀) (sym kinds_more)

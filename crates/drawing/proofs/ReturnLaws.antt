@@ -13,12 +13,12 @@ use Rattle.grid.specs.Points.{points}
 use Rattle.grid.specs.Limits.{narrow, on_grid, all_on_grid}
 use Rattle.replies.specs.Ladder.{first_of}
 use Rattle.grid.specs.Domain.{count}
-use Rattle.grid.proofs.LimitLaws.{on-grid-in}
+use Rattle.grid.proofs.LimitLaws.{on_grid_in}
 use Rattle.buffer.specs.Spans.{spans, sound}
 use Rattle.buffer.specs.Sets.{joined, contours, Even}
 use Rattle.buffer.proofs.RefusalLaws.{Accepted}
 use Rattle.buffer.proofs.SetLaws.{contours_even}
-use Rattle.buffer.proofs.Theorems.{a-sound-set's-contours-laid-end-to-end-are-its-points}
+use Rattle.buffer.proofs.Theorems.{a_sound_set's_contours_laid_end_to_end_are_its_points}
 use Rattle.millimetres.specs.Scale.{units, millimetres}
 use Rattle.millimetres.proofs.Theorems.{in_undoes_out}
 use Rattle.drawing.specs.declared.command.Command.{Command}
@@ -29,7 +29,7 @@ use Rattle.drawing.specs.Faults.{place_faults, first_fault}
 use Rattle.drawing.specs.Outlines.{lines, outlines}
 use Rattle.drawing.specs.Exporting.{place, outline, commands}
 use Rattle.drawing.specs.Promises.{without_empty}
-use Rattle.drawing.proofs.FaultLaws.{fault-passes, place-sound}
+use Rattle.drawing.proofs.FaultLaws.{fault_passes, place_sound}
 
 -- commands laid in rows are read as they were
 pub read_back : (l : List Command) → items (kinds_of l) (floats_of l) ≡ map command l
@@ -52,23 +52,23 @@ module _ (x y : ℤ) (row : List ℤ) (h : all_on_grid narrow (x ∷ y ∷ row) 
   abbrev one : Point
   one = record { x = x; y = y }
 
-  first-in : In narrow x
+  first_in : In narrow x
   unfolding all_on_grid
-  first-in = on-grid-in narrow x (and_left (on_grid narrow x) _ h)
+  first_in = on_grid_in narrow x (and_left (on_grid narrow x) _ h)
 
-  second-in : In narrow y
+  second_in : In narrow y
   unfolding all_on_grid
-  second-in = on-grid-in narrow y (and_left (on_grid narrow y) _ (and_right (on_grid narrow x) _ h))
+  second_in = on_grid_in narrow y (and_left (on_grid narrow y) _ (and_right (on_grid narrow x) _ h))
 
-  others-within : all_on_grid narrow row ≡ true
+  others_within : all_on_grid narrow row ≡ true
   unfolding all_on_grid
-  others-within = and_right (on_grid narrow y) _ (and_right (on_grid narrow x) _ h)
+  others_within = and_right (on_grid narrow y) _ (and_right (on_grid narrow x) _ h)
 
-  placed-sound : 0 ≡ first_of (place_faults (place one))
-  placed-sound = place-sound (place one) (rw ((in_undoes_out x first-in).0, (in_undoes_out y second-in).0))
+  placed_sound : 0 ≡ first_of (place_faults (place one))
+  placed_sound = place_sound (place one) (rw ((in_undoes_out x first_in).0, (in_undoes_out y second_in).0))
 
-  placed-back : (l : List ℤ) → units (millimetres x) ∷ units (millimetres y) ∷ l ≡ x ∷ y ∷ l
-  placed-back l = ap₂ (λ (a b : ℤ). a ∷ b ∷ l) (in_undoes_out x first-in).1 (in_undoes_out y second-in).1
+  placed_back : (l : List ℤ) → units (millimetres x) ∷ units (millimetres y) ∷ l ≡ x ∷ y ∷ l
+  placed_back l = ap₂ (λ (a b : ℤ). a ∷ b ∷ l) (in_undoes_out x first_in).1 (in_undoes_out y second_in).1
 
 -- a contour behind its Move, with what stands behind it
 abbrev rest : List ℤ → List Command → List Item
@@ -79,13 +79,13 @@ unfolding points first_fault first_of
 rest_faultless [] l h = refl
 rest_faultless (x ∷ []) l h = refl
 rest_faultless (x ∷ y ∷ row) l h =
-    fault-passes true (command (Line (place (one x y row h)))) (rest row l) 0 (placed-sound x y row h) refl ∙ rest_faultless row l (others-within x y row h)
+    fault_passes true (command (Line (place (one x y row h)))) (rest row l) 0 (placed_sound x y row h) refl ∙ rest_faultless row l (others_within x y row h)
 
 rest_lines : (row : List ℤ) (l : List Command) → length row ≡ 2 * count row → all_on_grid narrow row ≡ true → lines (rest row l) ≡ row
 unfolding points lines
 rest_lines [] l even h = refl
 rest_lines (x ∷ []) l even h = absurd (omega arith)
-rest_lines (x ∷ y ∷ row) l even h = placed-back x y row h (lines (rest row l)) ∙ ap (λ (k : List ℤ). x ∷ y ∷ k) (rest_lines row l (omega arith) (others-within x y row h))
+rest_lines (x ∷ y ∷ row) l even h = placed_back x y row h (lines (rest row l)) ∙ ap (λ (k : List ℤ). x ∷ y ∷ k) (rest_lines row l (omega arith) (others_within x y row h))
 
 rest_passed : (row : List ℤ) (l : List Command) → outlines (rest row l) ≡ outlines (map command l)
 unfolding points outlines
@@ -112,8 +112,8 @@ faultless ([] ∷ set) h = faultless set h
 faultless ((x ∷ []) ∷ set) h = faultless set (within_behind (x ∷ []) (joined set) h)
 faultless ((x ∷ y ∷ c) ∷ set) h =
     let w = within_front (x ∷ y ∷ c) (joined set) h in
-    fault-passes false (command (Move (place (one x y c w)))) (rest c (commands set)) 0 (placed-sound x y c w) refl
-    ∙ rest_faultless c (commands set) (others-within x y c w)
+    fault_passes false (command (Move (place (one x y c w)))) (rest c (commands set)) 0 (placed_sound x y c w) refl
+    ∙ rest_faultless c (commands set) (others_within x y c w)
     ∙ faultless set (within_behind (x ∷ y ∷ c) (joined set) h)
 
 pub drawn_back : (set : List (List ℤ)) → Even set → all_on_grid narrow (joined set) ≡ true → outlines (map command (commands set)) ≡ without_empty set
@@ -124,7 +124,7 @@ drawn_back ((x ∷ []) ∷ set) even h = absurd (omega (arith, even.0))
 drawn_back ((x ∷ y ∷ c) ∷ set) even h =
     let w = within_front (x ∷ y ∷ c) (joined set) h in
     ap₂ (λ (a : List ℤ) (l : List (List ℤ)). a ∷ l)
-    (placed-back x y c w (lines (rest c (commands set))) ∙ ap (λ (k : List ℤ). x ∷ y ∷ k) (rest_lines c (commands set) (omega (arith, even.0)) (others-within x y c w)))
+    (placed_back x y c w (lines (rest c (commands set))) ∙ ap (λ (k : List ℤ). x ∷ y ∷ k) (rest_lines c (commands set) (omega (arith, even.0)) (others_within x y c w)))
     (rest_passed c (commands set) ∙ drawn_back set even.1 (within_behind (x ∷ y ∷ c) (joined set) h))
 
 -- without its empty contours a set has the same points
@@ -149,10 +149,10 @@ no_more ((z ∷ c) ∷ set) = omega (arith, no_more set)
 -- a flat set that is not refused
 module _ (p : List ℤ) (ranges : List (List ℕ)) (d : Accepted narrow p (sound (spans ranges) (count p))) where
   pub all_points : joined (contours p (spans ranges)) ≡ p
-  all_points = a-sound-set's-contours-laid-end-to-end-are-its-points p (spans ranges) d.even d.sound
+  all_points = a_sound_set's_contours_laid_end_to_end_are_its_points p (spans ranges) d.even d.sound
 
   pub all_even : Even (contours p (spans ranges))
   all_even = contours_even p 0 (spans ranges) d.even d.sound
 
-  pub set-within : all_on_grid narrow (joined (contours p (spans ranges))) ≡ true
-  set-within = ap (all_on_grid narrow) all_points ∙ d.on
+  pub set_within : all_on_grid narrow (joined (contours p (spans ranges))) ≡ true
+  set_within = ap (all_on_grid narrow) all_points ∙ d.on

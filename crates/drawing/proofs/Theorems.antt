@@ -30,7 +30,7 @@ use Rattle.drawing.specs.Importing as I
 use Rattle.drawing.specs.Exporting as E
 use Rattle.drawing.specs.Promises.{without_empty, commands_of, drawn_kinds, drawn_floats, written_kinds, written_floats}
 use Rattle.drawing.proofs.ImportLaws.{Taken, taken_past}
-use Rattle.drawing.proofs.ReturnLaws.{read_back, floats_match, faultless, drawn_back, same_points, still_even, no_more, all_points, all_even, set-within}
+use Rattle.drawing.proofs.ReturnLaws.{read_back, floats_match, faultless, drawn_back, same_points, still_even, no_more, all_points, all_even, set_within}
 
 pub commands_laid_in_rows_are_read_as_they_were : (l : List Command) → items (kinds_of l) (floats_of l) ≡ map command l
 commands_laid_in_rows_are_read_as_they_were = read_back
@@ -43,34 +43,34 @@ module _ (p : List ℤ) (ranges : List (List ℕ)) (ok : first_of (E.refusals p 
   fit : Accepted narrow p (sound (spans ranges) (count p))
   fit = accepted narrow p (sound (spans ranges) (count p)) ok
 
-  pub no-command-of-a-set-is-at-fault : first_fault false (items (drawn_kinds p ranges) (drawn_floats p ranges)) ≡ 0
-  no-command-of-a-set-is-at-fault = ap (first_fault false) (read_back (commands_of p ranges)) ∙ faultless (contours p (spans ranges)) (set-within p ranges fit)
+  pub no_command_of_a_set_is_at_fault : first_fault false (items (drawn_kinds p ranges) (drawn_floats p ranges)) ≡ 0
+  no_command_of_a_set_is_at_fault = ap (first_fault false) (read_back (commands_of p ranges)) ∙ faultless (contours p (spans ranges)) (set_within p ranges fit)
 
-  pub its-commands-draw-it-but-for-its-empty-contours : I.drawn (drawn_kinds p ranges) (drawn_floats p ranges) ≡ without_empty (contours p (spans ranges))
-  its-commands-draw-it-but-for-its-empty-contours = ap outlines (read_back (commands_of p ranges)) ∙ drawn_back (contours p (spans ranges)) (all_even p ranges fit) (set-within p ranges fit)
+  pub its_commands_draw_it_but_for_its_empty_contours : I.drawn (drawn_kinds p ranges) (drawn_floats p ranges) ≡ without_empty (contours p (spans ranges))
+  its_commands_draw_it_but_for_its_empty_contours = ap outlines (read_back (commands_of p ranges)) ∙ drawn_back (contours p (spans ranges)) (all_even p ranges fit) (set_within p ranges fit)
 
-  pub no-point-is-lost : joined (without_empty (contours p (spans ranges))) ≡ p
-  no-point-is-lost = same_points (contours p (spans ranges)) ∙ all_points p ranges fit
+  pub no_point_is_lost : joined (without_empty (contours p (spans ranges))) ≡ p
+  no_point_is_lost = same_points (contours p (spans ranges)) ∙ all_points p ranges fit
 
-  pub no-contour-is-added : length (without_empty (contours p (spans ranges))) ≤ length ranges
-  no-contour-is-added = omega (arith, no_more (contours p (spans ranges)), length-map (spans ranges) (contour p), spans-length ranges)
+  pub no_contour_is_added : length (without_empty (contours p (spans ranges))) ≤ length ranges
+  no_contour_is_added = omega (arith, no_more (contours p (spans ranges)), length-map (spans ranges) (contour p), spans-length ranges)
 
   taken : Taken (drawn_kinds p ranges) (drawn_floats p ranges)
   taken = record {
     matching = floats_match (commands_of p ranges);
-    faultless = no-command-of-a-set-is-at-fault;
-    few = rw (its-commands-draw-it-but-for-its-empty-contours, no-point-is-lost) fit.few;
+    faultless = no_command_of_a_set_is_at_fault;
+    few = rw (its_commands_draw_it_but_for_its_empty_contours, no_point_is_lost) fit.few;
   }
 
-  pub every-set-that-can-be-drawn-is-imported : (out : List ℤ) (records : List (List ℕ))
+  pub every_set_that_can_be_drawn_is_imported : (out : List ℤ) (records : List (List ℕ))
       → I.outcome (drawn_kinds p ranges) (drawn_floats p ranges) out records ≡ stored [] p (contour_spans (without_empty (contours p (spans ranges)))) [] out records []
   unfolding stored
-  every-set-that-can-be-drawn-is-imported out records =
+  every_set_that_can_be_drawn_is_imported out records =
       let set = I.drawn (drawn_kinds p ranges) (drawn_floats p ranges) in
       let l = room (enough (joined set) (contour_spans set) [] out records []) in
       ap (λ (k : ℕ). outcome k (joined set) (contour_spans set) [] out records []) (sym (first_is _ _ (taken_past _ _ taken l _ (found l _ refl))))
-      ∙ ap (λ (s : List (List ℤ)). stored [] (joined s) (contour_spans s) [] out records []) its-commands-draw-it-but-for-its-empty-contours
-      ∙ ap (λ (q : List ℤ). stored [] q (contour_spans (without_empty (contours p (spans ranges)))) [] out records []) no-point-is-lost
+      ∙ ap (λ (s : List (List ℤ)). stored [] (joined s) (contour_spans s) [] out records []) its_commands_draw_it_but_for_its_empty_contours
+      ∙ ap (λ (q : List ℤ). stored [] q (contour_spans (without_empty (contours p (spans ranges)))) [] out records []) no_point_is_lost
 
 -- the same of what an export left
 module _ (p : List ℤ) (ranges : List (List ℕ)) (kinds : List ℕ) (floats : List Float) (o : E.Outcome) (e : o ≡ E.outcome p ranges kinds floats) (done : o.answer.reply ≡ 0) where
@@ -98,7 +98,7 @@ module _ (p : List ℤ) (ranges : List (List ℕ)) (kinds : List ℕ) (floats : 
       → I.outcome (written_kinds o) (written_floats o) out records ≡ stored [] p (contour_spans (without_empty (contours p (spans ranges)))) [] out records []
   what_is_drawn_is_imported out records =
       ap₂ (λ (a : List ℕ) (b : List Float). I.outcome a b out records) kept.kinds_are kept.floats_are
-      ∙ every-set-that-can-be-drawn-is-imported p ranges kept.ok out records
+      ∙ every_set_that_can_be_drawn_is_imported p ranges kept.ok out records
 
   -- and of an import of it, into rows that have room
   module _ (out : List ℤ) (records : List (List ℕ)) (i : Outcome) (g : i ≡ I.outcome (written_kinds o) (written_floats o) out records)
@@ -122,5 +122,5 @@ module _ (p : List ℤ) (ranges : List (List ℕ)) (kinds : List ℕ) (floats : 
         let d = accepted narrow p (sound (spans ranges) (count p)) kept.ok in
         let w = written [] tt p (contour_spans back) [] out records [] i stored_is what_was_drawn_is_not_refused in
         ap₂ contours (w.points d.even) w.contours
-        ∙ ap (λ (q : List ℤ). contours q (contour_spans back)) (sym (no-point-is-lost p ranges kept.ok))
+        ∙ ap (λ (q : List ℤ). contours q (contour_spans back)) (sym (no_point_is_lost p ranges kept.ok))
         ∙ packing_then_unpacking_gives_back_every_contour back (still_even (contours p (spans ranges)) (all_even p ranges d))

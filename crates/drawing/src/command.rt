@@ -1,6 +1,6 @@
 // Places and commands.
 ghost use Rattle.std.specs.Prelude.{◌≡◌};
-ghost use Rattle.drawing.specs.Commands.{brought as brought-of};
+ghost use Rattle.drawing.specs.Commands.{brought as brought_of};
 ghost use Rattle.drawing.specs.Exporting.{place as place_at};
 
 use grid::Point;
@@ -27,7 +27,7 @@ pub enum Command {
 
 // How many floats a command of a kind brings.
 pub fn brought(kind: u8) -> usize
-    ensures { result ≡ brought-of kind }
+    ensures { result ≡ brought_of kind }
 {
     if kind < CLOSE { 2 } else { 0 }
 }

@@ -50,30 +50,30 @@ module _ {rule : Rule} {p : List ℤ} {cs ss : List (List ℕ)} {row₀ : List �
     unfolding own
     forward = omega (arith, begins, first_forward at (length cs) own (spans (drop (suc i) ss)) here)
 
-    later-sound : sound_from to (spans (drop (suc i) ss)) (length cs) ≡ true
+    later_sound : sound_from to (spans (drop (suc i) ss)) (length cs) ≡ true
     unfolding own
-    later-sound = others_sound at (length cs) own (spans (drop (suc i) ss)) here
+    later_sound = others_sound at (length cs) own (spans (drop (suc i) ss)) here
 
     pub ends : to ≤ length cs
-    ends = rises to (length cs) (spans (drop (suc i) ss)) later-sound
+    ends = rises to (length cs) (spans (drop (suc i) ss)) later_sound
 
-    pub ends-in-row : to ≤ length row
-    ends-in-row = omega (arith, ends, x.long)
+    pub ends_in_row : to ≤ length row
+    ends_in_row = omega (arith, ends, x.long)
 
-    own-named : Named p cs → Named p (mid_of at (to - at) cs)
-    own-named n = record {
+    own_named : Named p cs → Named p (mid_of at (to - at) cs)
+    own_named n = record {
       domain = n.domain;
       names = λ j l.
           let m = mid_len at to cs ends in
           names_moved p cs (mid_of at (to - at) cs) (at + j) j (get_or-take (to - at) (drop at cs) j [] (omega arith) ∙ get_or-drop at cs j []) l (n.names (at + j) (omega (arith, ends)));
     }
 
-    pub own-tellable : {next₀ prev₀ mark₀ : List ℕ} → Tellable p cs next₀ prev₀ mark₀ row₀ → (next prev mark : List ℕ) → length next ≡ length next₀ → length prev ≡ length prev₀ → length mark ≡ length mark₀
+    pub own_tellable : {next₀ prev₀ mark₀ : List ℕ} → Tellable p cs next₀ prev₀ mark₀ row₀ → (next prev mark : List ℕ) → length next ≡ length next₀ → length prev ≡ length prev₀ → length mark ≡ length mark₀
         → Tellable p (mid_of at (to - at) cs) next prev mark (mid_of at (to - at) row)
-    own-tellable g next prev mark e f m = record {
-      named = own-named g.named;
+    own_tellable g next prev mark e f m = record {
+      named = own_named g.named;
       scratch = record { in_next = omega (arith, g.scratch.in_next); in_prev = omega (arith, g.scratch.in_prev); in_mark = omega (arith, g.scratch.in_mark) };
-      long = mid_len at to row ends-in-row ∙ sym (mid_len at to cs ends);
+      long = mid_len at to row ends_in_row ∙ sym (mid_len at to cs ends);
     }
 
     next_is : shapes p (spans cs) (spans (drop i ss)) ≡ contours p (spans (mid_of at (to - at) cs)) ∷ shapes p (spans cs) (spans (drop (suc i) ss))
@@ -82,18 +82,18 @@ module _ {rule : Rule} {p : List ℤ} {cs ss : List (List ℕ)} {row₀ : List �
         ∙ ap (λ (a : ℕ). take (to - a) (drop a (contours p (spans cs))) ∷ shapes p (spans cs) (spans (drop (suc i) ss))) (sym begins)
         ∙ ap (λ (c : List (List ℤ)). c ∷ shapes p (spans cs) (spans (drop (suc i) ss))) (sym (shape_part p cs at (to - at)))
 
-    pub telling-more : (new : List ℕ) → length new ≡ length (mid_of at (to - at) row) → new ≡ shape_fates rule (contours p (spans (mid_of at (to - at) cs)))
+    pub telling_more : (new : List ℕ) → length new ≡ length (mid_of at (to - at) row) → new ≡ shape_fates rule (contours p (spans (mid_of at (to - at) cs)))
         → Telling rule p cs ss row₀ to (put_mid at (to - at) row new) (i + 1)
     unfolding fates
-    telling-more new n e =
-        let m = mid_len at to row ends-in-row in
-        let a = length-take-le at row (omega (arith, forward, ends-in-row)) in
+    telling_more new n e =
+        let m = mid_len at to row ends_in_row in
+        let a = length-take-le at row (omega (arith, forward, ends_in_row)) in
         let b = length-append (take at row) new in
         let rest = fates rule (shapes p (spans cs) (spans (drop (suc i) ss))) in
         record {
           high = omega arith;
           long = same_len_mid at (to - at) row new n ∙ x.long;
-          sound = rw (add-one i) later-sound;
+          sound = rw (add-one i) later_sound;
           is = rw (add-one i)
               (ap (λ (l : List ℕ). l ++ rest) (ap (take to) (sym (append_assoc (take at row) new (drop (to - at) (drop at row)))) ∙ take_at (take at row ++ new) (drop (to - at) (drop at row)) to (omega (arith, forward)))
               ∙ append_assoc (take at row) new rest
@@ -102,9 +102,9 @@ module _ {rule : Rule} {p : List ℤ} {cs ss : List (List ℕ)} {row₀ : List �
               ∙ x.is);
         }
 
-  pub telling-all : length ss ≤ i → row ≡ fates rule (shapes p (spans cs) (spans ss))
+  pub telling_all : length ss ≤ i → row ≡ fates rule (shapes p (spans cs) (spans ss))
   unfolding fates
-  telling-all h =
+  telling_all h =
       let z = drop_of_length-le ss {i = i} h in
       let e : at ≡ length cs = ends_at at (length cs) (ap (λ (l : List (List ℕ)). sound_from at (spans l) (length cs)) (sym z) ∙ x.sound) in
       sym (append-nil row)

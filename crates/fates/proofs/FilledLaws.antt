@@ -14,9 +14,9 @@ use Rattle.buffer.specs.Sets.{contour, contours}
 use Rattle.sets.specs.Fates.{fate}
 use Rattle.sets.specs.inside.Contour.{Scratch}
 use Rattle.sets.specs.inside.Shape.{Named}
-use Rattle.buffer.proofs.PartLaws.{part-long}
-use Rattle.sets.proofs.BehindLaws.{named-contour}
-use Rattle.sets.proofs.PartLaws.{next-part, no_part}
+use Rattle.buffer.proofs.PartLaws.{part_long}
+use Rattle.sets.proofs.BehindLaws.{named_contour}
+use Rattle.sets.proofs.PartLaws.{next_part, no_part}
 use Rattle.fates.specs.Fates.{told, later, shape_fates}
 use Rattle.fates.specs.inside.Telling.{Walkable}
 
@@ -39,15 +39,15 @@ module _ {f : List ℤ → ℕ} {p : List ℤ} {ranges : List (List ℕ)} {row�
         ∙ ap (λ (l : List ℕ). l ++ rest) (take-suc-set row i v (omega (arith, x.long)))
         ∙ append_assoc (take i row) (v ∷ []) rest
         ∙ ap (λ (n : ℕ). take i row ++ n ∷ rest) e
-        ∙ ap (λ (l : List (List ℤ)). take i row ++ map f l) (sym (next-part p ranges i h))
+        ∙ ap (λ (l : List (List ℤ)). take i row ++ map f l) (sym (next_part p ranges i h))
         ∙ x.is;
   }
     where
       rest : List ℕ
       rest = map f (drop (i + 1) (contours p (spans ranges)))
 
-  pub filled-all : length ranges ≤ i → row ≡ take 1 row₀ ++ map f (drop 1 (contours p (spans ranges)))
-  filled-all h =
+  pub filled_all : length ranges ≤ i → row ≡ take 1 row₀ ++ map f (drop 1 (contours p (spans ranges)))
+  filled_all h =
       sym (append-nil row)
       ∙ ap (λ (l : List ℕ). l ++ []) (sym (take_all i row (omega (arith, x.long))))
       ∙ ap (λ (l : List (List ℤ)). take i row ++ map f l) (sym (no_part p ranges i h))
@@ -58,9 +58,9 @@ pub named_walkable : (p : List ℤ) (ranges : List (List ℕ)) (k : ℕ) → Nam
     → (next prev mark : List ℕ) → Scratch (count p) next prev mark → Walkable c next prev mark
 named_walkable p ranges k n h c e next prev mark s =
     let own = n.names k h in
-    let few : count (contour p (span (get_or ranges k []))) ≤ count p = omega (arith, part-long p ranges k n.domain own, own.fits, n.domain.even) in
+    let few : count (contour p (span (get_or ranges k []))) ≤ count p = omega (arith, part_long p ranges k n.domain own, own.fits, n.domain.even) in
     rw e (record {
-      contour = named-contour p ranges n k h;
+      contour = named_contour p ranges n k h;
       scratch = record { in_next = omega (arith, s.in_next); in_prev = omega (arith, s.in_prev); in_mark = omega (arith, s.in_mark) };
     })
 

@@ -39,9 +39,9 @@ module _ (p : List ℤ) (cs ss : List (List ℕ)) (l : Lent) where
   abbrev pub rungs : List Rung
   rungs = refusals p cs ss ++ lacking p cs l
 
-  pub first-refusal : (asked r : ℕ) → asked ≡ first_of (refusals p cs ss)
+  pub first_refusal : (asked r : ℕ) → asked ≡ first_of (refusals p cs ss)
       → r ≡ first_of (so_far asked ++ (scratch (count p) (length l.next) (length l.prev) (length l.mark) ++ room (leb (length cs) (length l.fates)))) → r ≡ first_of rungs
-  first-refusal asked r e g = so_far_then (refusals p cs ss) (lacking p cs l) tt asked r e g
+  first_refusal asked r e g = so_far_then (refusals p cs ss) (lacking p cs l) tt asked r e g
 
   pub refused : (rule : Rule) (r : ℕ) → r ≡ first_of rungs → (r ≡ 0 → ⊥) → (a : Counted) → a ≡ counted r 0 → leaving a l ≡ fates_outcome rule p cs ss l
   unfolding fates_outcome
@@ -55,17 +55,17 @@ module _ (p : List ℤ) (cs ss : List (List ℕ)) (l : Lent) where
     taken : Accepted limit p (sound (spans cs) (count p) && sound (spans ss) (length cs))
     taken = accepted limit p _ parts.0
 
-    pub scratch-fits : Scratch (count p) l.next l.prev l.mark
-    scratch-fits =
+    pub scratch_fits : Scratch (count p) l.next l.prev l.mark
+    scratch_fits =
         let c = clear (lacking p cs l) tt parts.1 in
         record { in_next = ltb-false _ _ c.0; in_prev = ltb-false _ _ c.1.0; in_mark = ltb-false _ _ c.1.1.0 }
 
-    pub fates-fit : length cs ≤ length l.fates
-    fates-fit = leb-true _ _ (not-false _ (clear (lacking p cs l) tt parts.1).1.1.1.0)
+    pub fates_fit : length cs ≤ length l.fates
+    fates_fit = leb-true _ _ (not-false _ (clear (lacking p cs l) tt parts.1).1.1.1.0)
 
-    pub each-tellable : Each p cs ss (take (count p) l.next) (take (count p) l.prev) (take (count p) l.mark) (take (length cs) l.fates)
-    each-tellable =
-        let s = scratch-fits in
+    pub each_tellable : Each p cs ss (take (count p) l.next) (take (count p) l.prev) (take (count p) l.mark) (take (length cs) l.fates)
+    each_tellable =
+        let s = scratch_fits in
         record {
           tellable = record {
             named = accepted_named p cs _ taken (and_left (sound (spans cs) (count p)) _ taken.sound);
@@ -74,7 +74,7 @@ module _ (p : List ℤ) (cs ss : List (List ℕ)) (l : Lent) where
               in_prev = omega (arith, length-take-le (count p) l.prev s.in_prev);
               in_mark = omega (arith, length-take-le (count p) l.mark s.in_mark);
             };
-            long = length-take-le (length cs) l.fates fates-fit;
+            long = length-take-le (length cs) l.fates fates_fit;
           };
           sound = and_right (sound (spans cs) (count p)) _ taken.sound;
         }
@@ -86,8 +86,8 @@ module _ (p : List ℤ) (cs ss : List (List ℕ)) (l : Lent) where
         ≡ fates_outcome rule p cs ss l
     unfolding fates_outcome
     all_told rule next' prev' mark' fates' e n y a f =
-        let s = scratch-fits in
-        let long : length cs ≡ length fates' = sym (n ∙ length-take-le (length cs) l.fates fates-fit) in
+        let s = scratch_fits in
+        let long : length cs ≡ length fates' = sym (n ∙ length-take-le (length cs) l.fates fates_fit) in
         same_leaving f
         (zeroed_back (count p) l.next next' s.in_next y.next-zero)
         (zeroed_back (count p) l.prev prev' s.in_prev y.prev-zero)

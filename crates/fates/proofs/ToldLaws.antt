@@ -13,11 +13,11 @@ use Rattle.ring.specs.Rule.{goes}
 use Rattle.ring.specs.inside.Rows.{Ended}
 use Rattle.clean.specs.declared.cleaning.Cleaned.{Cleaned}
 use Rattle.clean.specs.Verdicts.{passes}
-use Rattle.clean.proofs.OutcomeLaws.{settled-kept, settled-fallen}
+use Rattle.clean.proofs.OutcomeLaws.{settled_kept, settled_fallen}
 use Rattle.sets.specs.Fates.{Fate, fate}
 use Rattle.sets.specs.Fates.Fate.{stays, gone}
 use Rattle.sets.specs.inside.Contour.{answer_of}
-use Rattle.sets.proofs.FateLaws.{fated-few, fated-copied, fated-walked}
+use Rattle.sets.proofs.FateLaws.{fated_few, fated_copied, fated_walked}
 use Rattle.fates.specs.Fates.{kept, collapsed, behind, told, later}
 
 -- by the reply that the contour's cleaning has
@@ -30,19 +30,19 @@ told_collapsed (stays d t) r e z = let y : ◌≡◌ {A = ℕ} 0 7 = sym (ap (λ
 told_collapsed (gone t) r e z = refl
 
 module _ (rule : Rule) (c : List ℤ) where
-  pub few-collapse : {n : ℕ} → Contour c n → n < 3 → collapsed ≡ told (fate rule c)
-  few-collapse k h = told_collapsed (fate rule c) _ (fated-few rule c [] k h).answer refl
+  pub few_collapse : {n : ℕ} → Contour c n → n < 3 → collapsed ≡ told (fate rule c)
+  few_collapse k h = told_collapsed (fate rule c) _ (fated_few rule c [] k h).answer refl
 
   module _ (b : Bool) (e : b ≡ passes rule (points c)) where
-    pub passing-is-kept : b ≡ true → kept ≡ told (fate rule c)
-    passing-is-kept t = told_kept (fate rule c) _ (fated-copied rule c [] b e t _ refl).answer refl
+    pub passing_is_kept : b ≡ true → kept ≡ told (fate rule c)
+    passing_is_kept t = told_kept (fate rule c) _ (fated_copied rule c [] b e t _ refl).answer refl
 
     module _ (f : b ≡ false) {n : ℕ} (k : Contour c n) (w : Ending) (mark prev : List ℕ) (d : Ended (goes rule c) n mark prev w) where
-      pub walked-is-kept : w.kept ≡ true → kept ≡ told (fate rule c)
-      walked-is-kept t = told_kept (fate rule c) _ (fated-walked rule c [] b e f _ _ (settled-kept rule c [] k w mark prev d t _ _ _ refl refl refl)).answer refl
+      pub walked_is_kept : w.kept ≡ true → kept ≡ told (fate rule c)
+      walked_is_kept t = told_kept (fate rule c) _ (fated_walked rule c [] b e f _ _ (settled_kept rule c [] k w mark prev d t _ _ _ refl refl refl)).answer refl
 
-      pub walked-collapses : w.kept ≡ false → collapsed ≡ told (fate rule c)
-      walked-collapses t = told_collapsed (fate rule c) _ (fated-walked rule c [] b e f _ _ (settled-fallen rule c [] k w mark prev d t)).answer refl
+      pub walked_collapses : w.kept ≡ false → collapsed ≡ told (fate rule c)
+      walked_collapses t = told_collapsed (fate rule c) _ (fated_walked rule c [] b e f _ _ (settled_fallen rule c [] k w mark prev d t)).answer refl
 
 -- a later contour, by its outline
 pub later_behind : (rule : Rule) (o : ℕ) (c : List ℤ) → (o ≡ kept → ⊥) → behind ≡ later rule o c

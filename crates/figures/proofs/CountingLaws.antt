@@ -11,11 +11,11 @@ use Rattle.ring.specs.declared.Rule.{Rule}
 use Rattle.clean.specs.Outcome.{walked}
 use Rattle.buffer.specs.Spans.{span, spans}
 use Rattle.buffer.specs.Sets.{contour, contours, pieces}
-use Rattle.buffer.proofs.PartLaws.{contours_at, part-long}
+use Rattle.buffer.proofs.PartLaws.{contours_at, part_long}
 use Rattle.sets.specs.inside.Contour.{Cleanable}
 use Rattle.sets.specs.inside.Shape.{Named}
 use Rattle.sets.specs.Promises as S
-use Rattle.sets.proofs.BehindLaws.{named-contour, all_named}
+use Rattle.sets.proofs.BehindLaws.{named_contour, all_named}
 use Rattle.figures.specs.declared.answer.Figures.{Figures}
 use Rattle.figures.specs.Entries.{Entry, contour_entry}
 use Rattle.figures.specs.Batch.{figures_of}
@@ -24,7 +24,7 @@ use Rattle.figures.specs.Adding.{written, outputs}
 use Rattle.figures.specs.Promises.{Contours}
 use Rattle.figures.specs.inside.Adding.{Joinable, Counts, Countable, CountsAll}
 use Rattle.figures.proofs.BatchLaws.{counted_is, figures-append}
-use Rattle.figures.proofs.LimitLaws.{AllSmall, all_numbered, small-take, small-contour, small_contours, figures_possible}
+use Rattle.figures.proofs.LimitLaws.{AllSmall, all_numbered, small-take, small_contour, small_contours, figures_possible}
 use Rattle.figures.proofs.LimitLaws.AllSmall.{nothing, and}
 
 outputs-append : (rule : Rule) (a b : List (List ℤ)) (out : List ℤ) → outputs rule (a ++ b) out ≡ outputs rule b (outputs rule a out)
@@ -47,12 +47,12 @@ module _ (rule : Rule) (p : List ℤ) (ranges : List (List ℕ)) (out₀ : List 
   abbrev es : List Entry
   es = map (contour_entry rule) cs
 
-  contours-many : length cs ≡ length ranges
-  contours-many = length-map (spans ranges) (contour p) ∙ length-map ranges span
+  contours_many : length cs ≡ length ranges
+  contours_many = length-map (spans ranges) (contour p) ∙ length-map ranges span
 
   -- there is an entry for each range
-  pub entries-many : length es ≡ length ranges
-  entries-many = length-map cs (contour_entry rule) ∙ contours-many
+  pub entries_many : length es ≡ length ranges
+  entries_many = length-map cs (contour_entry rule) ∙ contours_many
 
   -- the first i contours are counted
   pub record Counting (g : Figures) (out : List ℤ) (i : ℕ) : Type 0 where
@@ -75,23 +75,23 @@ module _ (rule : Rule) (p : List ℤ) (ranges : List (List ℕ)) (out₀ : List 
         c = contour p (span (get_or ranges i []))
 
         contour_more : take (i + 1) cs ≡ take i cs ++ c ∷ []
-        contour_more = ap (λ (n : ℕ). take n cs) (add-one i) ∙ take-suc cs i [] (omega (arith, contours-many)) ∙ ap (λ (x : List ℤ). take i cs ++ x ∷ []) (contours_at p ranges i h)
+        contour_more = ap (λ (n : ℕ). take n cs) (add-one i) ∙ take-suc cs i [] (omega (arith, contours_many)) ∙ ap (λ (x : List ℤ). take i cs ++ x ∷ []) (contours_at p ranges i h)
 
         entry_more : take (i + 1) es ≡ take i es ++ contour_entry rule c ∷ []
         entry_more =
-            ap (λ (n : ℕ). take n es) (add-one i) ∙ take-suc es i (contour_entry rule []) (omega (arith, entries-many))
+            ap (λ (n : ℕ). take n es) (add-one i) ∙ take-suc es i (contour_entry rule []) (omega (arith, entries_many))
             ∙ ap (λ (x : Entry). take i es ++ x ∷ []) (get_or-map (contour_entry rule) cs i [] ∙ ap (contour_entry rule) (contours_at p ranges i h))
 
         short : length c ≤ length p
-        short = let n = k.named.names i h in omega (arith, part-long p ranges i k.named.domain n, n.fits)
+        short = let n = k.named.names i h in omega (arith, part_long p ranges i k.named.domain n, n.fits)
 
         one_small : AllSmall (contour_entry rule c ∷ [])
-        one_small = and (small-contour rule (named-contour p ranges k.named i h)) nothing
+        one_small = and (small_contour rule (named_contour p ranges k.named i h)) nothing
 
         pub counting_cleanable : (next' prev' mark' : List ℕ) → length next' ≡ length next → length prev' ≡ length prev → length mark' ≡ length mark → length out ≡ length out₀
             → Cleanable c next' prev' mark' out
         counting_cleanable next' prev' mark' a b d e =
-            let own = named-contour p ranges k.named i h in
+            let own = named_contour p ranges k.named i h in
             let all = k.named.domain.even in
             record {
               contour = own;
@@ -109,7 +109,7 @@ module _ (rule : Rule) (p : List ℤ) (ranges : List (List ℕ)) (out₀ : List 
 
           pub counting_joinable : Joinable g more
           counting_joinable =
-              let n : length (take i es) ≡ i = length-take-le i es (omega (arith, entries-many)) in
+              let n : length (take i es) ≡ i = length-take-le i es (omega (arith, entries_many)) in
               rw (v.is, o.figures_are)
               (record {
                 few = omega (arith, counted_is (all_numbered (small-take i all_small)), counted_is (all_numbered one_small), k.few);
@@ -129,6 +129,6 @@ module _ (rule : Rule) (p : List ℤ) (ranges : List (List ℕ)) (out₀ : List 
 
       pub counting_all : length ranges ≤ i → CountsAll rule p ranges out₀ g out
       counting_all h = record {
-        figures_are = v.is ∙ ap figures_of (take_all i es (omega (arith, entries-many)));
-        output = v.output ∙ ap (λ (l : List (List ℤ)). outputs rule l out₀) (take_all i cs (omega (arith, contours-many)));
+        figures_are = v.is ∙ ap figures_of (take_all i es (omega (arith, entries_many)));
+        output = v.output ∙ ap (λ (l : List (List ℤ)). outputs rule l out₀) (take_all i cs (omega (arith, contours_many)));
       }

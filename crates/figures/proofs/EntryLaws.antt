@@ -17,7 +17,7 @@ use Rattle.ring.specs.Walk.{End}
 use Rattle.ring.specs.Walk.End.{kept, collapsed}
 use Rattle.ring.specs.Rule.{goes}
 use Rattle.ring.proofs.Listed.{rising_few}
-use Rattle.ring.proofs.Theorems.{kept-rising, kept-at-least-three}
+use Rattle.ring.proofs.Theorems.{kept_rising, kept_at_least_three}
 use Rattle.clean.specs.declared.cleaning.Cleaned.{Cleaned}
 use Rattle.clean.specs.Outcome.{walked, lent, finished}
 use Rattle.clean.specs.inside.Settling.{Settled}
@@ -43,15 +43,15 @@ module _ (rule : Rule) (c out : List ℤ) (r : Cleaned) (exit : List ℤ) (d : S
   abbrev many : ℕ
   many = (walked rule c).tally.decisions
 
-  output-is : exit ≡ written c end out
-  output-is = d.output ∙ go end
+  output_is : exit ≡ written c end out
+  output_is = d.output ∙ go end
     where
       go : (w : End) → (finished c w (walked rule c).tally (lent [] [] [] out)).rows.out ≡ written c w out
       go (kept s) = refl
       go collapsed = refl
 
-  pub counts-fallen : (r.reply ≡ 0 → ⊥) → (g : Figures) → g ≡ figures_of (entry 7 (count c) 0 r.decisions (pos 0) ∷ []) → Counts rule c out g exit
-  counts-fallen n g h = record { figures_are = h ∙ ap (λ (x : Entry). figures_of (x ∷ [])) (go end refl); output = output-is }
+  pub counts_fallen : (r.reply ≡ 0 → ⊥) → (g : Figures) → g ≡ figures_of (entry 7 (count c) 0 r.decisions (pos 0) ∷ []) → Counts rule c out g exit
+  counts_fallen n g h = record { figures_are = h ∙ ap (λ (x : Entry). figures_of (x ∷ [])) (go end refl); output = output_is }
     where
       go : (w : End) → end ≡ w → entry 7 (count c) 0 r.decisions (pos 0) ≡ walk_entry c end many
       go (kept s) e = absurd (n (ap (λ (a : Cleaned). a.reply) d.answer ∙ rw e))
@@ -59,21 +59,21 @@ module _ (rule : Rule) (c out : List ℤ) (r : Cleaned) (exit : List ℤ) (d : S
 
   module _ (z : r.reply ≡ 0) where
     -- what is kept has three points or more
-    pub not-empty : count c ≡ 0 → ⊥
-    not-empty none = go end refl
+    pub not_empty : count c ≡ 0 → ⊥
+    not_empty none = go end refl
       where
         go : (w : End) → end ≡ w → ⊥
         go (kept s) e =
-            let big = kept-at-least-three (goes rule c) (count c) e in
-            let within = rising_few 0 (count c) s (kept-rising (goes rule c) (count c) e) in
+            let big = kept_at_least_three (goes rule c) (count c) e in
+            let within = rising_few 0 (count c) s (kept_rising (goes rule c) (count c) e) in
             omega arith
         go collapsed e = let y : ◌≡◌ {A = ℕ} 7 0 = sym (ap (λ (a : Cleaned). a.reply) d.answer ∙ rw e) ∙ z in omega arith
 
-    pub area-asked : Contour c (count c) → first_of (refusals c) ≡ 0
-    area-asked k = sym (refused_none c (contour_clear c k) not-empty)
+    pub area_asked : Contour c (count c) → first_of (refusals c) ≡ 0
+    area_asked k = sym (refused_none c (contour_clear c k) not_empty)
 
-    pub counts-kept : (a : ℤ) → a ≡ reported (points c) → (g : Figures) → g ≡ figures_of (entry 0 (count c) r.points r.decisions a ∷ []) → Counts rule c out g exit
-    counts-kept a is g h = record { figures_are = h ∙ ap (λ (x : Entry). figures_of (x ∷ [])) (go end refl); output = output-is }
+    pub counts_kept : (a : ℤ) → a ≡ reported (points c) → (g : Figures) → g ≡ figures_of (entry 0 (count c) r.points r.decisions a ∷ []) → Counts rule c out g exit
+    counts_kept a is g h = record { figures_are = h ∙ ap (λ (x : Entry). figures_of (x ∷ [])) (go end refl); output = output_is }
       where
         go : (w : End) → end ≡ w → entry 0 (count c) r.points r.decisions a ≡ walk_entry c end many
         go (kept s) e = rw (d.answer, e, is)

@@ -77,23 +77,23 @@ module _ (z : ℤ) (f : SFits w64 z) where
     abbrev rest : ℕ
     rest = nat_abs (to_z w64 (of_z w64 (negsuc 0 -ℤ held)))
 
-    rest-mag : rest ≡ mag z
-    rest-mag = ap nat_abs (rest_is w64 z f t)
+    rest_mag : rest ≡ mag z
+    rest_mag = ap nat_abs (rest_is w64 z f t)
 
-    pub part-fits : SFits w64 (pos (rest / 2 ^ 32))
-    part-fits = record { sfits = omega (arith, rest-mag, f.sfits) }
+    pub part_fits : SFits w64 (pos (rest / 2 ^ 32))
+    part_fits = record { sfits = omega (arith, rest_mag, f.sfits) }
 
     turned : negsuc 0 -ℤ to_z w64 (rest / 2 ^ 32) ≡ negsuc (mag z / 2 ^ 32)
-    turned = ap (λ (y : ℤ). negsuc 0 -ℤ y) (to_z_pos w64 {n = rest / 2 ^ 32} part-fits.sfits) ∙ less (rest / 2 ^ 32) ∙ ap (λ (n : ℕ). negsuc (n / 2 ^ 32)) rest-mag
+    turned = ap (λ (y : ℤ). negsuc 0 -ℤ y) (to_z_pos w64 {n = rest / 2 ^ 32} part_fits.sfits) ∙ less (rest / 2 ^ 32) ∙ ap (λ (n : ℕ). negsuc (n / 2 ^ 32)) rest_mag
 
-    pub turned-fits : SFits w64 (negsuc 0 -ℤ to_z w64 (rest / 2 ^ 32))
-    turned-fits = subst (SFits w64) (sym turned) (sfits_of {z = negsuc (mag z / 2 ^ 32)} (omega (arith, f.sfits)))
+    pub turned_fits : SFits w64 (negsuc 0 -ℤ to_z w64 (rest / 2 ^ 32))
+    turned_fits = subst (SFits w64) (sym turned) (sfits_of {z = negsuc (mag z / 2 ^ 32)} (omega (arith, f.sfits)))
 
-    pub turned-high : to_z w64 (of_z w64 (negsuc 0 -ℤ to_z w64 (rest / 2 ^ 32))) ≡ high z
-    turned-high = to_z-of_z turned-fits ∙ turned ∙ sym (below_high z negative)
+    pub turned_high : to_z w64 (of_z w64 (negsuc 0 -ℤ to_z w64 (rest / 2 ^ 32))) ≡ high z
+    turned_high = to_z-of_z turned_fits ∙ turned ∙ sym (below_high z negative)
 
-    pub turned-low : 4294967295 - rest % 2 ^ 32 ≡ low z
-    turned-low = ap (λ (n : ℕ). 4294967295 - n % 2 ^ 32) rest-mag ∙ below_low z negative
+    pub turned_low : 4294967295 - rest % 2 ^ 32 ≡ low z
+    turned_low = ap (λ (n : ℕ). 4294967295 - n % 2 ^ 32) rest_mag ∙ below_low z negative
 
   module _ (t : lt_z held (pos 0) ≡ false) where
     not_negative : lt_z z (pos 0) ≡ false
@@ -105,8 +105,8 @@ module _ (z : ℤ) (f : SFits w64 z) where
     pub plain_fits : SFits w64 (pos (nat_abs held / 2 ^ 32))
     plain_fits = record { sfits = omega (arith, size_is, (size_fits w64 z f).fits) }
 
-    pub plain-high : to_z w64 (nat_abs held / 2 ^ 32) ≡ high z
-    plain-high = to_z_pos w64 {n = nat_abs held / 2 ^ 32} plain_fits.sfits ∙ ap (λ (n : ℕ). pos (n / 2 ^ 32)) size_is ∙ above_high z not_negative
+    pub plain_high : to_z w64 (nat_abs held / 2 ^ 32) ≡ high z
+    plain_high = to_z_pos w64 {n = nat_abs held / 2 ^ 32} plain_fits.sfits ∙ ap (λ (n : ℕ). pos (n / 2 ^ 32)) size_is ∙ above_high z not_negative
 
-    pub plain-low : nat_abs held % 2 ^ 32 ≡ low z
-    plain-low = ap (λ (n : ℕ). n % 2 ^ 32) size_is ∙ above_low z not_negative
+    pub plain_low : nat_abs held % 2 ^ 32 ≡ low z
+    plain_low = ap (λ (n : ℕ). n % 2 ^ 32) size_is ∙ above_low z not_negative

@@ -21,7 +21,7 @@ use Rattle.ring.specs.Walk.{End}
 use Rattle.ring.specs.Walk.End.{kept, collapsed}
 use Rattle.ring.specs.Rule.{goes}
 use Rattle.ring.proofs.Listed.{rising_few}
-use Rattle.ring.proofs.Theorems.{ends-in-4n-9, kept-rising}
+use Rattle.ring.proofs.Theorems.{ends_in_4n_9, kept_rising}
 use Rattle.clean.specs.Outcome.{walked}
 use Rattle.figures.specs.Halves.{high}
 use Rattle.figures.specs.Entries.{Entry, Found, walk_entry, contour_entry, refused-set, entries_by, entries, all_entries}
@@ -60,15 +60,15 @@ reach_more n a b h k = record {
 }
 
 module _ (n : ℕ) (few : n ≤ most_counted) where
-  high-above : (z : ℤ) → Reach n z → le_z (neg_ℤ (pos most_high)) (high z) ≡ true
+  high_above : (z : ℤ) → Reach n z → le_z (neg_ℤ (pos most_high)) (high z) ≡ true
   unfolding high above below
-  high-above (pos m) r = refl
-  high-above (negsuc m) r = le-leb (m / 2 ^ 32) (most_high - 1) (omega (arith, le_means (:neg (num (n * 2 ^ 63))) (at (negsuc m)) r.low))
+  high_above (pos m) r = refl
+  high_above (negsuc m) r = le-leb (m / 2 ^ 32) (most_high - 1) (omega (arith, le_means (:neg (num (n * 2 ^ 63))) (at (negsuc m)) r.low))
 
-  high-below : (z : ℤ) → Reach n z → le_z (high z) (pos (most_high - 1)) ≡ true
+  high_below : (z : ℤ) → Reach n z → le_z (high z) (pos (most_high - 1)) ≡ true
   unfolding high above below
-  high-below (pos m) r = le-leb (m / 2 ^ 32) (most_high - 1) (omega (arith, le_means (at (pos m)) (num (n * (2 ^ 63 - 1))) r.high))
-  high-below (negsuc m) r = refl
+  high_below (pos m) r = le-leb (m / 2 ^ 32) (most_high - 1) (omega (arith, le_means (at (pos m)) (num (n * (2 ^ 63 - 1))) r.high))
+  high_below (negsuc m) r = refl
 
 -- an entry adds no more than a contour of the domain can
 pub record Small (e : Entry) : Type 0 where
@@ -111,7 +111,7 @@ figures_possible {l} s w =
     let p : sum_of (λ e. e.before) l ≤ most_points = omega (arith, sum_small (λ e. e.before) 65536 (λ e x. x.before) s) in
     let q : sum_of (λ e. e.after) l ≤ most_points = omega (arith, sum_small (λ e. e.after) 65536 (λ e x. x.after) s) in
     let r : sum_of (λ e. e.decisions) l ≤ most_decisions = omega (arith, sum_small (λ e. e.decisions) (4 * 65536 - 9) (λ e x. x.decisions) s) in
-    rw (le-leb _ _ p, le-leb _ _ q, le-leb _ _ r, high-above (length l) w (areas l) (areas_small s), high-below (length l) w (areas l) (areas_small s))
+    rw (le-leb _ _ p, le-leb _ _ q, le-leb _ _ r, high_above (length l) w (areas l) (areas_small s), high_below (length l) w (areas l) (areas_small s))
 
 -- the entry of a contour of the domain
 module _ (rule : Rule) {c : List ℤ} {n : ℕ} (k : Contour c n) where
@@ -119,15 +119,15 @@ module _ (rule : Rule) {c : List ℤ} {n : ℕ} (k : Contour c n) where
   unfolding most
   few_points = omega (arith, k.even, k.few)
 
-  pub small-contour : Small (contour_entry rule c)
-  small-contour = go (walked rule c).end refl (ends-in-4n-9 (goes rule c) (count c))
+  pub small_contour : Small (contour_entry rule c)
+  small_contour = go (walked rule c).end refl (ends_in_4n_9 (goes rule c) (count c))
     where
       go : (w : End) → (walked rule c).end ≡ w → (walked rule c).tally.decisions ≤ 4 * count c - 9 → Small (walk_entry c w (walked rule c).tally.decisions)
       go (kept s) e b =
           record {
             number = omega arith;
             before = few_points;
-            after = omega (arith, few_points, rising_few 0 (count c) s (kept-rising (goes rule c) (count c) e));
+            after = omega (arith, few_points, rising_few 0 (count c) s (kept_rising (goes rule c) (count c) e));
             decisions = omega (arith, few_points);
             area = reach_one (reported (points c)) (reported_is_an_i64 (points c)).sfits;
           }
@@ -139,7 +139,7 @@ small_refused k h = and {e = refused-set k} (record { number = h; before = omega
 
 pub small_contours : (rule : Rule) (cs : List (List ℤ)) → Contours cs → AllSmall (map (contour_entry rule) cs)
 small_contours rule [] k = nothing
-small_contours rule (c ∷ cs) k = and (small-contour rule k.0) (small_contours rule cs k.1)
+small_contours rule (c ∷ cs) k = and (small_contour rule k.0) (small_contours rule cs k.1)
 
 small-set : (k : ℕ) (rule : Rule) (cs : List (List ℤ)) → RealBy k cs → AllSmall (entries_by k rule cs)
 small-set zero rule cs r = small_contours rule cs r

@@ -35,7 +35,7 @@ use Rattle.figures.proofs.BatchLaws.{counted_is}
 use Rattle.figures.proofs.PossibleLaws.{fits_means}
 use Rattle.figures.proofs.SumLaws.{over_not, over_is}
 use Rattle.figures.proofs.LimitLaws.{all_numbered, small_refused, figures_possible}
-use Rattle.figures.proofs.CountingLaws.{all_contours, entries-many, all_small}
+use Rattle.figures.proofs.CountingLaws.{all_contours, entries_many, all_small}
 
 -- a refused set can be added where one more fits
 pub refused_joinable : (f : Figures) (k : ℕ) → k < numbers → fits f 1 ≡ true → (g : Figures) → g ≡ figures_of (refused-set k ∷ []) → Joinable f g
@@ -50,19 +50,19 @@ module _ (p : List ℤ) (ranges : List (List ℕ)) (l : Lent) where
   abbrev pub rungs : List Rung
   rungs = set_refusals p ranges l
 
-  pub first-refusal : (asked r : ℕ) → asked ≡ first_of (refusals p ranges)
+  pub first_refusal : (asked r : ℕ) → asked ≡ first_of (refusals p ranges)
       → r ≡ first_of (so_far asked ++ (scratch (count p) (length l.next) (length l.prev) (length l.mark) ++ room (leb (length p) (length l.out)))) → r ≡ first_of rungs
-  first-refusal asked r e g = so_far_then (refusals p ranges) (lacking p l) tt asked r e g
+  first_refusal asked r e g = so_far_then (refusals p ranges) (lacking p l) tt asked r e g
 
   -- it has a reply number
-  pub refusal-small : first_of rungs < numbers
-  refusal-small = let h : first_of rungs ≤ 21 = first_within 21 rungs refl in omega arith
+  pub refusal_small : first_of rungs < numbers
+  refusal_small = let h : first_of rungs ≤ 21 = first_within 21 rungs refl in omega arith
 
   module _ (f : Figures) (rule : Rule) where
-    pub added-refused : (r : ℕ) → r ≡ first_of rungs → (r ≡ 0 → ⊥) → (a : Added) → a ≡ answered (first_of (over (fits f 1))) f (sum f (figures_of (refused-set r ∷ []))) → leaving a l ≡ add_outcome f rule p ranges l
+    pub added_refused : (r : ℕ) → r ≡ first_of rungs → (r ≡ 0 → ⊥) → (a : Added) → a ≡ answered (first_of (over (fits f 1))) f (sum f (figures_of (refused-set r ∷ []))) → leaving a l ≡ add_outcome f rule p ranges l
     unfolding add_outcome
-    added-refused zero e n a h = absurd (n refl)
-    added-refused (suc k) e n a h = rw (← e) (ap (λ (b : Added). leaving b l) h ∙ go (first_of (over (fits f 1))))
+    added_refused zero e n a h = absurd (n refl)
+    added_refused (suc k) e n a h = rw (← e) (ap (λ (b : Added). leaving b l) h ∙ go (first_of (over (fits f 1))))
       where
         go : (r : ℕ) → leaving (answered r f (sum f (figures_of (refused-set (suc k) ∷ [])))) l ≡ outcome r f (sum f (figures_of (refused-set (suc k) ∷ []))) l l
         go zero = refl
@@ -72,44 +72,44 @@ module _ (p : List ℤ) (ranges : List (List ℕ)) (l : Lent) where
     parts : (first_of (refusals p ranges) ≡ 0) × (first_of (lacking p l) ≡ 0)
     parts = cleared (refusals p ranges) (lacking p l) tt z
 
-    pub set-named : Named p ranges
-    set-named = let a = accepted limit p (sound (spans ranges) (count p)) parts.0 in accepted_named p ranges _ a a.sound
+    pub set_named : Named p ranges
+    set_named = let a = accepted limit p (sound (spans ranges) (count p)) parts.0 in accepted_named p ranges _ a a.sound
 
-    pub scratch-fits : Scratch (count p) l.next l.prev l.mark
-    scratch-fits =
+    pub scratch_fits : Scratch (count p) l.next l.prev l.mark
+    scratch_fits =
         let c = clear (lacking p l) tt parts.1 in
         record { in_next = ltb-false _ _ c.0; in_prev = ltb-false _ _ c.1.0; in_mark = ltb-false _ _ c.1.1.0 }
 
-    pub output-fits : length p ≤ length l.out
-    output-fits = leb-true _ _ (not-false _ (clear (lacking p l) tt parts.1).1.1.1.0)
+    pub output_fits : length p ≤ length l.out
+    output_fits = leb-true _ _ (not-false _ (clear (lacking p l) tt parts.1).1.1.1.0)
 
     module _ (f : Figures) (rule : Rule) where
       many : fits f (length (entries (found rule p ranges l))) ≡ fits f (length ranges)
-      many = rw z (ap (fits f) (entries-many rule p ranges l.out))
+      many = rw z (ap (fits f) (entries_many rule p ranges l.out))
 
-      pub added-over : fits f (length ranges) ≡ false → leaving (added 21 f) l ≡ add_outcome f rule p ranges l
+      pub added_over : fits f (length ranges) ≡ false → leaving (added 21 f) l ≡ add_outcome f rule p ranges l
       unfolding add_outcome
-      added-over e = rw (over_is _ (many ∙ e))
+      added_over e = rw (over_is _ (many ∙ e))
 
       module _ (e : fits f (length ranges) ≡ true) where
         pub countable : Countable p ranges (take (count p) l.next) (take (count p) l.prev) (take (count p) l.mark) l.out
         countable =
-            let s = scratch-fits in
+            let s = scratch_fits in
             record {
-              named = set-named;
+              named = set_named;
               few = omega (arith, (fits_means f (length ranges) e).0);
               scratch = record {
                 in_next = omega (arith, length-take-le (count p) l.next s.in_next);
                 in_prev = omega (arith, length-take-le (count p) l.prev s.in_prev);
                 in_mark = omega (arith, length-take-le (count p) l.mark s.in_mark);
               };
-              room = output-fits;
+              room = output_fits;
             }
 
-        pub all-joinable : (g : Figures) (exit : List ℤ) → CountsAll rule p ranges l.out g exit → Joinable f g
-        all-joinable g exit a =
+        pub all_joinable : (g : Figures) (exit : List ℤ) → CountsAll rule p ranges l.out g exit → Joinable f g
+        all_joinable g exit a =
             let s = all_small rule p ranges l.out countable in
-            let n = entries-many rule p ranges l.out in
+            let n = entries_many rule p ranges l.out in
             rw a.figures_are
             (record {
               few = omega (arith, counted_is (all_numbered s), n, (fits_means f (length ranges) e).0);
@@ -117,13 +117,13 @@ module _ (p : List ℤ) (ranges : List (List ℕ)) (l : Lent) where
               second = figures_possible s (omega (arith, n, countable.few));
             })
 
-        pub all-added : (g s : Figures) (next' prev' mark' : List ℕ) (exit : List ℤ) → CountsAll rule p ranges l.out g exit → s ≡ sum f g
+        pub all_added : (g s : Figures) (next' prev' mark' : List ℕ) (exit : List ℤ) → CountsAll rule p ranges l.out g exit → s ≡ sum f g
             → Zeroed (take (count p) l.next) (take (count p) l.prev) (take (count p) l.mark) next' prev' mark'
             → leaving (added 0 s) (lent (next' ++ drop (count p) l.next) (prev' ++ drop (count p) l.prev) (mark' ++ drop (count p) l.mark) exit)
             ≡ add_outcome f rule p ranges l
         unfolding add_outcome
-        all-added g s next' prev' mark' exit a i y =
-            let x = scratch-fits in
+        all_added g s next' prev' mark' exit a i y =
+            let x = scratch_fits in
             same_leaving (ap (added 0) (i ∙ ap (sum f) a.figures_are))
             (zeroed_back (count p) l.next next' x.in_next y.next-zero)
             (zeroed_back (count p) l.prev prev' x.in_prev y.prev-zero)
@@ -132,9 +132,9 @@ module _ (p : List ℤ) (ranges : List (List ℕ)) (l : Lent) where
             ∙ rw (over_not _ (many ∙ e), z)
 
   -- what a call finds is real
-  pub found-is-real : (rule : Rule) → RealBy (found rule p ranges l).refusal (contours p (spans ranges))
-  found-is-real rule = go (first_of rungs) refl
+  pub found_is_real : (rule : Rule) → RealBy (found rule p ranges l).refusal (contours p (spans ranges))
+  found_is_real rule = go (first_of rungs) refl
     where
       go : (r : ℕ) → first_of rungs ≡ r → RealBy r (contours p (spans ranges))
-      go zero e = all_contours p ranges (set-named e)
-      go (suc k) e = rw e at refusal-small
+      go zero e = all_contours p ranges (set_named e)
+      go (suc k) e = rw e at refusal_small

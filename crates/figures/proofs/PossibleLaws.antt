@@ -14,12 +14,12 @@ use Rattle.figures.specs.Joining.{most_counted, most_points, most_decisions, mos
 
 module _ (f : Figures) where
   -- the last two tests
-  abbrev pub high-tests : Bool
-  high-tests = le_z (neg_ℤ (pos most_high)) f.high && le_z f.high (pos (most_high - 1))
+  abbrev pub high_tests : Bool
+  high_tests = le_z (neg_ℤ (pos most_high)) f.high && le_z f.high (pos (most_high - 1))
 
-  pub not-before : most_points < f.before → false ≡ possible f
+  pub not_before : most_points < f.before → false ≡ possible f
   unfolding possible
-  not-before h = rw (lt-leb f.before most_points h)
+  not_before h = rw (lt-leb f.before most_points h)
 
   module _ (p : f.before ≤ most_points) where
     pub not_after : most_points < f.after → false ≡ possible f
@@ -27,11 +27,11 @@ module _ (f : Figures) where
     not_after h = rw (le-leb f.before most_points p, lt-leb f.after most_points h)
 
     module _ (q : f.after ≤ most_points) where
-      pub not-decisions : most_decisions < f.decisions → false ≡ possible f
+      pub not_decisions : most_decisions < f.decisions → false ≡ possible f
       unfolding possible
-      not-decisions h = rw (le-leb f.before most_points p, le-leb f.after most_points q, lt-leb f.decisions most_decisions h)
+      not_decisions h = rw (le-leb f.before most_points p, le-leb f.after most_points q, lt-leb f.decisions most_decisions h)
 
-      pub by_high : f.decisions ≤ most_decisions → possible f ≡ high-tests
+      pub by_high : f.decisions ≤ most_decisions → possible f ≡ high_tests
       unfolding possible
       by_high r = rw (le-leb f.before most_points p, le-leb f.after most_points q, le-leb f.decisions most_decisions r)
 

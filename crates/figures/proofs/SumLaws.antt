@@ -47,19 +47,19 @@ abbrev held : ℤ → ℤ
 held z = to_z w64 (of_z w64 z)
 
 module _ {a b : ℤ} {n : ℕ} (ha : In most_high a) (hb : In most_high b) (small : n < 2 ^ 34) where
-  both-in : In (most_high + most_high) (held a +ℤ held b)
-  both-in = in_add (back_in w64 ha tt) (back_in w64 hb tt)
+  both_in : In (most_high + most_high) (held a +ℤ held b)
+  both_in = in_add (back_in w64 ha tt) (back_in w64 hb tt)
 
-  carry-in : In (2 ^ 34) (to_z w64 n)
-  carry-in = in_eq (to_z_pos w64 {n = n} (omega arith)) (in_pos (omega arith))
+  carry_in : In (2 ^ 34) (to_z w64 n)
+  carry_in = in_eq (to_z_pos w64 {n = n} (omega arith)) (in_pos (omega arith))
 
-  pub carry-fits : SFits w64 (held (held a +ℤ held b) +ℤ to_z w64 n)
-  carry-fits = in_fits (in_add (back_in w64 both-in tt) carry-in) tt
+  pub carry_fits : SFits w64 (held (held a +ℤ held b) +ℤ to_z w64 n)
+  carry_fits = in_fits (in_add (back_in w64 both_in tt) carry_in) tt
 
-  pub carry-is : held (held (held a +ℤ held b) +ℤ to_z w64 n) ≡ a +ℤ b +ℤ pos n
-  carry-is =
-      back w64 (in_add (back_in w64 both-in tt) carry-in) tt
-      ∙ ap₂ ◌+ℤ◌ (back w64 both-in tt ∙ ap₂ ◌+ℤ◌ (back w64 ha tt) (back w64 hb tt)) (to_z_pos w64 {n = n} (omega arith))
+  pub carry_is : held (held (held a +ℤ held b) +ℤ to_z w64 n) ≡ a +ℤ b +ℤ pos n
+  carry_is =
+      back w64 (in_add (back_in w64 both_in tt) carry_in) tt
+      ∙ ap₂ ◌+ℤ◌ (back w64 both_in tt ∙ ap₂ ◌+ℤ◌ (back w64 ha tt) (back w64 hb tt)) (to_z_pos w64 {n = n} (omega arith))
 
 pub highs_fit : {a b : ℤ} → In most_high a → In most_high b → SFits w64 (held a +ℤ held b)
 highs_fit ha hb = in_fits (in_add (back_in w64 ha tt) (back_in w64 hb tt)) tt
@@ -75,26 +75,26 @@ over_is b e = rw e
 
 -- by that, the figures are others, or as they were
 module _ (b : Bool) (f : Figures) where
-  pub answered-over : (others : Figures) → b ≡ false → added 21 f ≡ answered (first_of (over b)) f others
-  answered-over others e = sym (ap (λ (k : ℕ). answered k f others) (over_is b e))
+  pub answered_over : (others : Figures) → b ≡ false → added 21 f ≡ answered (first_of (over b)) f others
+  answered_over others e = sym (ap (λ (k : ℕ). answered k f others) (over_is b e))
 
-  pub answered-done : (s others : Figures) → b ≡ true → s ≡ others → added 0 s ≡ answered (first_of (over b)) f others
-  answered-done s others e i = ap (added 0) i ∙ sym (ap (λ (k : ℕ). answered k f others) (over_not b e))
+  pub answered_done : (s others : Figures) → b ≡ true → s ≡ others → added 0 s ≡ answered (first_of (over b)) f others
+  answered_done s others e i = ap (added 0) i ∙ sym (ap (λ (k : ℕ). answered k f others) (over_not b e))
 
 -- how figures are joined, by the two tests
 module _ (f g : Figures) where
-  pub joined-full : fits f (in_all g) ≡ false → added 21 f ≡ joined_figures f g
+  pub joined_full : fits f (in_all g) ≡ false → added 21 f ≡ joined_figures f g
   unfolding joined_figures
-  joined-full e = answered-over (fits f (in_all g) && possible g) f (sum f g) (rw e)
+  joined_full e = answered_over (fits f (in_all g) && possible g) f (sum f g) (rw e)
 
   module _ (t : fits f (in_all g) ≡ true) where
-    pub joined-never : possible g ≡ false → added 21 f ≡ joined_figures f g
+    pub joined_never : possible g ≡ false → added 21 f ≡ joined_figures f g
     unfolding joined_figures
-    joined-never e = answered-over (fits f (in_all g) && possible g) f (sum f g) (rw (t, e))
+    joined_never e = answered_over (fits f (in_all g) && possible g) f (sum f g) (rw (t, e))
 
-    pub joined-done : (s : Figures) → possible g ≡ true → s ≡ sum f g → added 0 s ≡ joined_figures f g
+    pub joined_done : (s : Figures) → possible g ≡ true → s ≡ sum f g → added 0 s ≡ joined_figures f g
     unfolding joined_figures
-    joined-done s e i = answered-done (fits f (in_all g) && possible g) f s (sum f g) (rw (t, e)) i
+    joined_done s e i = answered_done (fits f (in_all g) && possible g) f s (sum f g) (rw (t, e)) i
 
     pub joinable : possible g ≡ true → Joinable f g
     joinable e = record { few = (fits_means f (in_all g) t).0; first = (fits_means f (in_all g) t).1; second = e }

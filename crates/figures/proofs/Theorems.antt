@@ -25,7 +25,7 @@ use Rattle.figures.proofs.BatchLaws.{counted_is, area_is, figures-append, entrie
 use Rattle.figures.proofs.TotalLaws.{added_either_way}
 use Rattle.figures.proofs.SumLaws.{over_not, over_is}
 use Rattle.figures.proofs.LimitLaws.{all_numbered, small_entries, set_counts, entries_count, figures_possible}
-use Rattle.figures.proofs.OutcomeLaws.{found-is-real}
+use Rattle.figures.proofs.OutcomeLaws.{found_is_real}
 
 -- the totals of real sets add up to their contours and refused sets
 pub the_totals_add_up_to_the_contours_and_refused_sets : (l : List Found) → Real l → in_all (batch_figures l) ≡ contours_and_refused_sets l
@@ -45,9 +45,9 @@ module _ (l : List Found) (r : Real l) (more : ℕ) where
   unfolding fits
   fit h = rw (le-leb (in_all (batch_figures l) + more) most_counted (omega (arith, the_totals_add_up_to_the_contours_and_refused_sets l r)), real_figures_are_never_told_damaged l r (omega arith))
 
-  do-not-fit : most_counted < contours_and_refused_sets l + more → fits (batch_figures l) more ≡ false
+  do_not_fit : most_counted < contours_and_refused_sets l + more → fits (batch_figures l) more ≡ false
   unfolding fits
-  do-not-fit h = rw (lt-leb (in_all (batch_figures l) + more) most_counted (omega (arith, the_totals_add_up_to_the_contours_and_refused_sets l r)))
+  do_not_fit h = rw (lt-leb (in_all (batch_figures l) + more) most_counted (omega (arith, the_totals_add_up_to_the_contours_and_refused_sets l r)))
 
 -- Two batches of real sets.
 module _ (a b : List Found) (r : Real a) (s : Real b) where
@@ -69,14 +69,14 @@ module _ (a b : List Found) (r : Real a) (s : Real b) where
   unfolding joined_figures
   past-the-limit-joining-is-21 h =
       let t : (fits (batch_figures a) (in_all (batch_figures b)) && possible (batch_figures b)) ≡ false =
-      rw (do-not-fit a r (in_all (batch_figures b)) (omega (arith, many))) in
+      rw (do_not_fit a r (in_all (batch_figures b)) (omega (arith, many))) in
       rw (over_is _ t)
 
 -- Any figures, real or not.
 module _ (f g : Figures) where
-  pub sums-do-not-care-for-order : sum f g ≡ sum g f
+  pub sums_do_not_care_for_order : sum f g ≡ sum g f
   unfolding sum
-  sums-do-not-care-for-order =
+  sums_do_not_care_for_order =
       let z : area-sum f +ℤ area-sum g ≡ area-sum g +ℤ area-sum f = +ℤ_comm (area-sum f) (area-sum g) in
       let b : f.before + g.before ≡ g.before + f.before = omega arith in
       let a : f.after + g.after ≡ g.after + f.after = omega arith in
@@ -97,12 +97,12 @@ module _ (f g : Figures) where
       go false x y = refl
 
   -- either way the reply is the same, and where it is 0 so are the figures
-  pub joining-does-not-care-for-order : ((joined_figures f g).reply ≡ (joined_figures g f).reply) × ((joined_figures f g).reply ≡ 0 → (joined_figures f g).figures ≡ (joined_figures g f).figures)
+  pub joining_does_not_care_for_order : ((joined_figures f g).reply ≡ (joined_figures g f).reply) × ((joined_figures f g).reply ≡ 0 → (joined_figures f g).figures ≡ (joined_figures g f).figures)
   unfolding joined_figures
-  joining-does-not-care-for-order = go (fits f (in_all g) && possible g) (fits g (in_all f) && possible f) same_refusals
+  joining_does_not_care_for_order = go (fits f (in_all g) && possible g) (fits g (in_all f) && possible f) same_refusals
     where
       at_last : (m n : ℕ) → m ≡ n → ((answered m f (sum f g)).reply ≡ (answered n g (sum g f)).reply) × ((answered m f (sum f g)).reply ≡ 0 → (answered m f (sum f g)).figures ≡ (answered n g (sum g f)).figures)
-      at_last zero zero e = (refl, λ z. sums-do-not-care-for-order)
+      at_last zero zero e = (refl, λ z. sums_do_not_care_for_order)
       at_last zero (suc n) e = absurd (omega arith)
       at_last (suc m) zero e = absurd (omega arith)
       at_last (suc m) (suc n) e = (e, λ z. absurd (omega arith))
@@ -111,9 +111,9 @@ module _ (f g : Figures) where
       go x y e = at_last (first_of (over x)) (first_of (over y)) (ap (λ (b : Bool). first_of (over b)) e)
 
   -- 21 leaves the first figures as they were
-  pub a-refused-joining-answers-the-first-figures : ((joined_figures f g).reply ≡ 0 → ⊥) → joined_figures f g ≡ added 21 f
+  pub a_refused_joining_answers_the_first_figures : ((joined_figures f g).reply ≡ 0 → ⊥) → joined_figures f g ≡ added 21 f
   unfolding joined_figures
-  a-refused-joining-answers-the-first-figures n = go (fits f (in_all g) && possible g) refl
+  a_refused_joining_answers_the_first_figures n = go (fits f (in_all g) && possible g) refl
     where
       go : (b : Bool) → (fits f (in_all g) && possible g) ≡ b → answered (first_of (joining_refusals f g)) f (sum f g) ≡ added 21 f
       go true e = absurd (n (rw (over_not _ e)))
@@ -122,9 +122,9 @@ module _ (f g : Figures) where
 -- A call that adds a set; o is what the contract allows.
 module _ (f : Figures) (rule : Rule) (p : List ℤ) (ranges : List (List ℕ)) (l : Lent) (o : Outcome) (is : o ≡ add_outcome f rule p ranges l) where
   -- a refusal, which is 21, leaves the figures and every row as they were
-  pub a-refusal-leaves-figures-and-rows-as-they-were : (o.answer.reply ≡ 0 → ⊥) → o ≡ leaving (added 21 f) l
+  pub a_refusal_leaves_figures_and_rows_as_they_were : (o.answer.reply ≡ 0 → ⊥) → o ≡ leaving (added 21 f) l
   unfolding add_outcome
-  a-refusal-leaves-figures-and-rows-as-they-were n = is ∙ go (fits f (length (entries (found rule p ranges l)))) refl
+  a_refusal_leaves_figures_and_rows_as_they_were n = is ∙ go (fits f (length (entries (found rule p ranges l)))) refl
     where
       go : (b : Bool) → fits f (length (entries (found rule p ranges l))) ≡ b → add_outcome f rule p ranges l ≡ leaving (added 21 f) l
       go true e = absurd (n (ap (λ (w : Outcome). w.answer.reply) is ∙ rw (over_not _ e)))
@@ -135,8 +135,8 @@ module _ (a : List Found) (r : Real a) (c : Call) where
   abbrev one : Found
   one = found_by c
 
-  abbrev came-to : Outcome
-  came-to = add_outcome (batch_figures a) c.rule c.points c.ranges c.rows
+  abbrev came_to : Outcome
+  came_to = add_outcome (batch_figures a) c.rule c.points c.ranges c.rows
 
   counted_by : length (entries one) ≡ counts_by one.refusal one.contours
   counted_by = set_counts one.refusal one.rule one.contours
@@ -148,19 +148,19 @@ module _ (a : List Found) (r : Real a) (c : Call) where
   -- one set more gives the figures of one set more
   pub adding-a-set-gives-the-figures-of-one-set-more :
       contours_and_refused_sets a + counts_by one.refusal one.contours ≤ most_counted
-      → came-to ≡ leaving (added 0 (batch_figures (a ++ one ∷ []))) (used one.refusal c.rule (contours c.points (spans c.ranges)) (count c.points) c.rows)
+      → came_to ≡ leaving (added 0 (batch_figures (a ++ one ∷ []))) (used one.refusal c.rule (contours c.points (spans c.ranges)) (count c.points) c.rows)
   unfolding add_outcome
   adding-a-set-gives-the-figures-of-one-set-more h =
       rw (over_not _ (fit a r (length (entries one)) (omega (arith, counted_by))))
       (ap (λ (f : Figures). leaving (added 0 f) (used one.refusal c.rule (contours c.points (spans c.ranges)) (count c.points) c.rows)) all_of)
 
   -- and past the limit the answer is 21, and all is as it was
-  pub past-the-limit-adding-is-21 : most_counted < contours_and_refused_sets a + counts_by one.refusal one.contours → came-to ≡ leaving (added 21 (batch_figures a)) c.rows
+  pub past_the_limit_adding_is_21 : most_counted < contours_and_refused_sets a + counts_by one.refusal one.contours → came_to ≡ leaving (added 21 (batch_figures a)) c.rows
   unfolding add_outcome
-  past-the-limit-adding-is-21 h = rw (over_is _ (do-not-fit a r (length (entries one)) (omega (arith, counted_by))))
+  past_the_limit_adding_is_21 h = rw (over_is _ (do_not_fit a r (length (entries one)) (omega (arith, counted_by))))
 
 real_more : (a : List Found) (c : Call) → Real a → Real (a ++ found_by c ∷ [])
-real_more [] c r = (found-is-real c.points c.ranges c.rows c.rule, tt)
+real_more [] c r = (found_is_real c.points c.ranges c.rows c.rule, tt)
 real_more (s ∷ a) c r = (r.0, real_more a c r.1)
 
 counts_more : (a b : List Found) → contours_and_refused_sets (a ++ b) ≡ contours_and_refused_sets a + contours_and_refused_sets b

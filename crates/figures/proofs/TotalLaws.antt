@@ -65,12 +65,12 @@ module _ (a b : List ℕ) (e : length a ≡ length b) where
       ap (λ (r : List ℕ). take i x ++ r) (ap (λ (k : ℕ). drop k a) h ∙ drop-length a) ∙ append-nil (take i x) ∙ ap (λ (k : ℕ). take k x) l ∙ take-length x
 
   -- from i on the first row is as it was
-  pub so-far-at : (i : ℕ) → i < length a → get_or (so_far a b i) i 0 ≡ get_or a i 0
-  so-far-at i h =
+  pub so_far_at : (i : ℕ) → i < length a → get_or (so_far a b i) i 0 ≡ get_or a i 0
+  so_far_at i h =
       let x = added_up a b in
       rw (drop-cons a i 0 h) (get_or_at (take i x) (get_or a i 0) (drop (suc i) a) 0 i (length-take-le i x (omega (arith, added-length a b e))))
 
-  pub so-far-length : (i : ℕ) → i ≤ length a → length (so_far a b i) ≡ length a
-  so-far-length i h =
+  pub so_far_length : (i : ℕ) → i ≤ length a → length (so_far a b i) ≡ length a
+  so_far_length i h =
       let x = added_up a b in
       omega (arith, length-append (take i x) (drop i a), length-take-le i x (omega (arith, added-length a b e)), length-drop i a)

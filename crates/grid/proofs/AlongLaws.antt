@@ -10,15 +10,15 @@ use Rattle.grid.specs.Domain.{Contour}
 use Rattle.grid.specs.inside.Edges.{Short}
 use Rattle.grid.specs.inside.Rows.{FirstOther}
 use Rattle.grid.proofs.PointLaws.{at_on}
-use Rattle.grid.proofs.RowLaws.{points-more, points-done}
-use Rattle.grid.proofs.CornerLaws.{same_is, differing_skip, differing_keep, last_kept, last-from, distinct-is}
+use Rattle.grid.proofs.RowLaws.{points_more, points_done}
+use Rattle.grid.proofs.CornerLaws.{same_is, differing_skip, differing_keep, last_kept, last_from, distinct_is}
 use Rattle.grid.proofs.AroundLaws.{Tally}
-use Rattle.grid.proofs.EdgeLaws.{corner_short, same-before}
+use Rattle.grid.proofs.EdgeLaws.{corner_short, same_before}
 
 module _ (row : List ℤ) where
   -- the contour without equal neighbours
-  abbrev pub distinct-points : List Point
-  distinct-points = distinct_neighbours (points row)
+  abbrev pub distinct_points : List Point
+  distinct_points = distinct_neighbours (points row)
 
   -- kept points were met up to position i - 1, the last of them b, to which one edge leads from the one before it, a
   pub record Along (n : ℕ) (a b : Point) (to : Edge) (kept i : ℕ) : Type 0 where
@@ -28,7 +28,7 @@ module _ (row : List ℤ) where
     pub a_on : on limit a ≡ true
     pub here : b ≡ at row (i - 1)
     pub to_is : to ≡ between a b
-    pub counted : length distinct-points ≡ kept + length (differing b (drop i (points row)))
+    pub counted : length distinct_points ≡ kept + length (differing b (drop i (points row)))
 
   module _ {n : ℕ} (c : Contour row n) where
     -- the points before the first other are skipped
@@ -36,18 +36,18 @@ module _ (row : List ℤ) where
     skipped first x zero h = refl
     skipped first x (suc i) h =
         let l : i < n = omega (arith, x.within) in
-        skipped first x i (omega arith) ∙ ap (differing (at row (n - 1))) (points-more c i l)
+        skipped first x i (omega arith) ∙ ap (differing (at row (n - 1))) (points_more c i l)
         ∙ differing_skip (at row (n - 1)) (at row i) (drop (i + 1) (points row)) (x.equal i (omega arith))
         ∙ ap (λ (k : ℕ). differing (at row (n - 1)) (drop k (points row))) (add-one i)
 
-    pub none_distinct : FirstOther row n n → 0 < n → distinct-points ≡ []
+    pub none_distinct : FirstOther row n n → 0 < n → distinct_points ≡ []
     unfolding differing
-    none_distinct x h = distinct-is c h ∙ skipped n x n (omega arith) ∙ ap (differing (at row (n - 1))) (points-done c n refl)
+    none_distinct x h = distinct_is c h ∙ skipped n x n (omega arith) ∙ ap (differing (at row (n - 1))) (points_done c n refl)
 
     module _ (first : ℕ) (x : FirstOther row n first) (h : first < n) where
-      starts_with : distinct-points ≡ at row first ∷ differing (at row first) (drop (first + 1) (points row))
+      starts_with : distinct_points ≡ at row first ∷ differing (at row first) (drop (first + 1) (points row))
       starts_with =
-          distinct-is c (omega arith) ∙ skipped first x first (omega arith) ∙ ap (differing (at row (n - 1))) (points-more c first h)
+          distinct_is c (omega arith) ∙ skipped first x first (omega arith) ∙ ap (differing (at row (n - 1))) (points_more c first h)
           ∙ differing_keep (at row (n - 1)) (at row first) (drop (first + 1) (points row)) (x.differs h)
 
       pub along_start : (closing : Edge) → closing ≡ between (at row (n - 1)) (at row first) → Along n (at row (n - 1)) (at row first) closing 1 (first + 1)
@@ -61,14 +61,14 @@ module _ (row : List ℤ) where
         counted = ap length starts_with ∙ omega arith;
       }
 
-      pub tally_start : (t : Corner → Bool) → Tally t false distinct-points (at row first) (at row (n - 1)) (at row first) (differing (at row first) (drop (first + 1) (points row)))
+      pub tally_start : (t : Corner → Bool) → Tally t false distinct_points (at row first) (at row (n - 1)) (at row first) (differing (at row first) (drop (first + 1) (points row)))
       unfolding corners
       tally_start t = record {
         is =
             let o = at row first in
             let rest = drop (first + 1) (points row) in
             let e : first + suc (n - suc first) ≡ n = omega arith in
-            ap (some t) (ap corners starts_with ∙ ap (λ (p : Point). corners_from o p o (differing o rest)) (last_kept o rest ∙ last-from c (n - suc first) first e));
+            ap (some t) (ap corners starts_with ∙ ap (λ (p : Point). corners_from o p o (differing o rest)) (last_kept o rest ∙ last_from c (n - suc first) first e));
       }
 
     module _ {a b : Point} {to : Edge} {kept i : ℕ} (w : Along n a b to kept i) where
@@ -85,11 +85,11 @@ module _ (row : List ℤ) where
 
       module _ (l : i < n) {from : Edge} (e : from ≡ between (at row (i - 1)) (at row i)) where
         moves : {t : Bool} → still from ≡ t → same (at row i) b ≡ t
-        moves f = same-before b (at row i) ∙ ap still (sym (next_from i e)) ∙ f
+        moves f = same_before b (at row i) ∙ ap still (sym (next_from i e)) ∙ f
 
         -- where it is still, nothing is left of its point
         pub next_skipped : still from ≡ true → differing b (drop i (points row)) ≡ differing b (drop (i + 1) (points row))
-        next_skipped f = ap (differing b) (points-more c i l) ∙ differing_skip b (at row i) (drop (i + 1) (points row)) (moves f)
+        next_skipped f = ap (differing b) (points_more c i l) ∙ differing_skip b (at row i) (drop (i + 1) (points row)) (moves f)
 
         pub along_skipped : still from ≡ true → Along n a b to kept (i + 1)
         along_skipped f = record {
@@ -104,7 +104,7 @@ module _ (row : List ℤ) where
 
         -- where it is not, its point is the next that is left
         pub next_kept : still from ≡ false → differing b (drop i (points row)) ≡ at row i ∷ differing (at row i) (drop (i + 1) (points row))
-        next_kept f = ap (differing b) (points-more c i l) ∙ differing_keep b (at row i) (drop (i + 1) (points row)) (moves f)
+        next_kept f = ap (differing b) (points_more c i l) ∙ differing_keep b (at row i) (drop (i + 1) (points row)) (moves f)
 
         pub along_kept : still from ≡ false → Along n b (at row i) from (kept + 1) (i + 1)
         along_kept f = record {
@@ -127,7 +127,7 @@ module _ (row : List ℤ) where
 
         pub along_none : differing b (drop i (points row)) ≡ []
         unfolding differing
-        along_none = ap (differing b) (points-done c i at_last)
+        along_none = ap (differing b) (points_done c i at_last)
 
-        pub along_count : length distinct-points ≡ kept
+        pub along_count : length distinct_points ≡ kept
         along_count = w.counted ∙ ap (λ (p : List Point). kept + length p) along_none ∙ omega arith

@@ -46,18 +46,18 @@ module _ (u v w z : Edge) where
     zx : z.dx ≡ pos 0
     zx = eq_z_true z.dx (pos 0) h
 
-    third-opposite : w.dx ≡ neg_ℤ u.dx
-    third-opposite = opposite u.dx v.dx w.dx z.dx c.back_x vx zx
+    third_opposite : w.dx ≡ neg_ℤ u.dx
+    third_opposite = opposite u.dx v.dx w.dx z.dx c.back_x vx zx
 
-    fourth-opposite : z.dy ≡ neg_ℤ v.dy
-    fourth-opposite = opposite v.dy w.dy z.dy u.dy (turned ∙ c.back_y) wy uy
+    fourth_opposite : z.dy ≡ neg_ℤ v.dy
+    fourth_opposite = opposite v.dy w.dy z.dy u.dy (turned ∙ c.back_y) wy uy
       where
         turned : v.dy +ℤ w.dy +ℤ z.dy +ℤ u.dy ≡ u.dy +ℤ v.dy +ℤ w.dy +ℤ z.dy
         turned = ring (# 1 :+ # 2 :+ # 3 :+ # 0) (# 0 :+ # 1 :+ # 2 :+ # 3) (u.dy ∷ v.dy ∷ w.dy ∷ z.dy ∷ []) refl
 
     -- whether none of them is still, the first two tell
     first_two : (not (along_y u) && not (along_x v)) ≡ none_still u v w z
-    first_two = rw (e, f, g, h, third-opposite, fourth-opposite, neg_none u.dx, neg_none v.dy) (both (along_y u) (along_x v))
+    first_two = rw (e, f, g, h, third_opposite, fourth_opposite, neg_none u.dx, neg_none v.dy) (both (along_y u) (along_x v))
       where
         both : (a b : Bool) → (not a && not b) ≡ ((not (a && true) && not (true && b)) && (not (a && true) && not (true && b)))
         both true b = refl
@@ -72,15 +72,15 @@ module _ (u v w z : Edge) where
     unfolding cross two
     crosses = (
       rw (uy, vx) (ring (# 0 :* # 1 :- num (pos 0) :* num (pos 0)) (# 0 :* # 1) two refl),
-      rw (vx, wy, third-opposite) (ring (num (pos 0) :* num (pos 0) :- # 1 :* :neg (# 0)) (# 0 :* # 1) two refl),
-      rw (wy, zx, third-opposite, fourth-opposite) (ring (:neg (# 0) :* :neg (# 1) :- num (pos 0) :* num (pos 0)) (# 0 :* # 1) two refl),
-      rw (zx, uy, fourth-opposite) (ring (num (pos 0) :* num (pos 0) :- :neg (# 1) :* # 0) (# 0 :* # 1) two refl),
+      rw (vx, wy, third_opposite) (ring (num (pos 0) :* num (pos 0) :- # 1 :* :neg (# 0)) (# 0 :* # 1) two refl),
+      rw (wy, zx, third_opposite, fourth_opposite) (ring (:neg (# 0) :* :neg (# 1) :- num (pos 0) :* num (pos 0)) (# 0 :* # 1) two refl),
+      rw (zx, uy, fourth_opposite) (ring (num (pos 0) :* num (pos 0) :- :neg (# 1) :* # 0) (# 0 :* # 1) two refl),
     )
 
   -- so six tests tell
-  pub six-tests : Closed u v w z → (((((along_x u && along_y v) && along_x w) && along_y z) && not (along_y u)) && not (along_x v)) ≡ by_turns u v w z
+  pub six_tests : Closed u v w z → (((((along_x u && along_y v) && along_x w) && along_y z) && not (along_y u)) && not (along_x v)) ≡ by_turns u v w z
   unfolding by_turns
-  six-tests c = go (along_x u) (along_y v) (along_x w) (along_y z) refl refl refl refl
+  six_tests c = go (along_x u) (along_y v) (along_x w) (along_y z) refl refl refl refl
     where
       go : (i j k l : Bool) → along_x u ≡ i → along_y v ≡ j → along_x w ≡ k → along_y z ≡ l
           → (((((i && j) && k) && l) && not (along_y u)) && not (along_x v)) ≡ (i && (j && (k && (l && none_still u v w z))))

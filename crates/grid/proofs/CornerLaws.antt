@@ -14,7 +14,7 @@ use Rattle.grid.specs.Neighbours.{preceding, following}
 use Rattle.grid.specs.Corners.{last, differing, distinct_neighbours, Corner, corner_in, corners_from, corners, some, turn_at}
 use Rattle.grid.specs.Domain.{Contour}
 use Rattle.rows.proofs.RowLaws.{any_default}
-use Rattle.grid.proofs.RowLaws.{points-more, points-done}
+use Rattle.grid.proofs.RowLaws.{points_more, points_done}
 
 pub same_is : (a b : Point) → same a b ≡ true → a ≡ b
 same_is a b e =
@@ -41,18 +41,18 @@ last_kept a (b ∷ l) = go (same b a) refl (last_kept a l) (last_kept b l)
     go false e skipped kept = rw (differing_keep a b l e) kept
 
 module _ {row : List ℤ} {n : ℕ} (c : Contour row n) where
-  pub last-from : (k i : ℕ) → i + suc k ≡ n → last (at row i) (drop (i + 1) (points row)) ≡ at row (n - 1)
+  pub last_from : (k i : ℕ) → i + suc k ≡ n → last (at row i) (drop (i + 1) (points row)) ≡ at row (n - 1)
   unfolding last
-  last-from zero i e =
+  last_from zero i e =
       let f : i ≡ n - 1 = omega arith in
-      rw (points-done c (i + 1) (omega arith)) (ap (at row) f)
-  last-from (suc k) i e = rw (points-more c (i + 1) (omega arith)) (last-from k (i + 1) (omega arith))
+      rw (points_done c (i + 1) (omega arith)) (ap (at row) f)
+  last_from (suc k) i e = rw (points_more c (i + 1) (omega arith)) (last_from k (i + 1) (omega arith))
 
-  pub distinct-is : 0 < n → distinct_neighbours (points row) ≡ differing (at row (n - 1)) (points row)
+  pub distinct_is : 0 < n → distinct_neighbours (points row) ≡ differing (at row (n - 1)) (points row)
   unfolding distinct_neighbours
-  distinct-is h =
-      let e = points-more c 0 h in
-      ap distinct_neighbours e ∙ ap (λ (l : Point). differing l (at row 0 ∷ drop 1 (points row))) (last-from (n - 1) 0 (omega arith)) ∙ ap (differing (at row (n - 1))) (sym e)
+  distinct_is h =
+      let e = points_more c 0 h in
+      ap distinct_neighbours e ∙ ap (λ (l : Point). differing l (at row 0 ∷ drop 1 (points row))) (last_from (n - 1) 0 (omega arith)) ∙ ap (differing (at row (n - 1))) (sym e)
 
 -- two points or fewer turn nowhere
 flat : (a b : Point) → turn (between a b) (between b a) ≡ pos 0
@@ -92,21 +92,21 @@ module _ (t : Corner → Bool) where
   none_from o a b (c ∷ l) e zero h = or_left _ _ e
   none_from o a b (c ∷ l) e (suc j) h = none_from o b c l (or_right (t (from_at o a b (c ∷ l) 0)) (some t (corners_from o b c l)) e) j (omega arith)
 
-  from-none : (o a b : Point) (l : List Point) → ((j : ℕ) → j < suc (length l) → t (from_at o a b l j) ≡ false) → some t (corners_from o a b l) ≡ false
+  from_none : (o a b : Point) (l : List Point) → ((j : ℕ) → j < suc (length l) → t (from_at o a b l j) ≡ false) → some t (corners_from o a b l) ≡ false
   unfolding corners_from some
-  from-none o a b [] f = rw (f 0 (omega arith))
-  from-none o a b (c ∷ l) f = rw (f 0 (omega arith)) (from-none o b c l (λ j h. f (suc j) (omega arith)))
+  from_none o a b [] f = rw (f 0 (omega arith))
+  from_none o a b (c ∷ l) f = rw (f 0 (omega arith)) (from_none o b c l (λ j h. f (suc j) (omega arith)))
 
   -- no corner passes the test, one by one
-  pub no-corner : (l : List Point) → some t (corners l) ≡ false → (j : ℕ) → j < length l → t (corner_in l j) ≡ false
+  pub no_corner : (l : List Point) → some t (corners l) ≡ false → (j : ℕ) → j < length l → t (corner_in l j) ≡ false
   unfolding corners
-  no-corner [] e j h = absurd (omega arith)
-  no-corner (o ∷ l) e j h = ap t (sym (in_from o l j)) ∙ none_from o (last o l) o l e j h
+  no_corner [] e j h = absurd (omega arith)
+  no_corner (o ∷ l) e j h = ap t (sym (in_from o l j)) ∙ none_from o (last o l) o l e j h
 
-  pub corner-none : (l : List Point) → ((j : ℕ) → j < length l → t (corner_in l j) ≡ false) → some t (corners l) ≡ false
+  pub corner_none : (l : List Point) → ((j : ℕ) → j < length l → t (corner_in l j) ≡ false) → some t (corners l) ≡ false
   unfolding corners some
-  corner-none [] f = refl
-  corner-none (o ∷ l) f = from-none o (last o l) o l (λ j h. ap t (in_from o l j) ∙ f j h)
+  corner_none [] f = refl
+  corner_none (o ∷ l) f = from_none o (last o l) o l (λ j h. ap t (in_from o l j) ∙ f j h)
 
 -- a list in which each point differs from the one before it loses none
 differs_all : (a : Point) (l : List Point) → ((j : ℕ) → j < length l → same (get_or l j origin) (get_or (a ∷ l) j origin) ≡ false) → differing a l ≡ l

@@ -14,7 +14,7 @@ use Rattle.grid.specs.Limits.{limit}
 use Rattle.grid.specs.Points.{on, same}
 use Rattle.grid.specs.Edges.{between, still, cross, dot, aligned}
 use Rattle.grid.specs.inside.Edges.{Short}
-use Rattle.grid.proofs.PointLaws.{x-on, y-on, gap-in}
+use Rattle.grid.proofs.PointLaws.{x_on, y_on, gap_in}
 
 -- the largest products of edges
 products : (bound : ℕ) → 2 * bound * (2 * bound) + 2 * bound * (2 * bound) ≡ 8 * (bound * bound)
@@ -25,25 +25,25 @@ products bound =
 
 -- the edges from a to b and from c to d, points of a grid
 module _ (bound : ℕ) (a b c d : Point) (p : on bound a ≡ true) (q : on bound b ≡ true) (r : on bound c ≡ true) (s : on bound d ≡ true) where
-  pub edges-short : Short bound (between a b) (between c d)
-  edges-short = record {
-    ux_in = gap-in bound a.x b.x (x-on bound a p) (x-on bound b q);
-    uy_in = gap-in bound a.y b.y (y-on bound a p) (y-on bound b q);
-    vx_in = gap-in bound c.x d.x (x-on bound c r) (x-on bound d s);
-    vy_in = gap-in bound c.y d.y (y-on bound c r) (y-on bound d s);
+  pub edges_short : Short bound (between a b) (between c d)
+  edges_short = record {
+    ux_in = gap_in bound a.x b.x (x_on bound a p) (x_on bound b q);
+    uy_in = gap_in bound a.y b.y (y_on bound a p) (y_on bound b q);
+    vx_in = gap_in bound c.x d.x (x_on bound c r) (x_on bound d s);
+    vy_in = gap_in bound c.y d.y (y_on bound c r) (y_on bound d s);
   }
 
   -- their cross and their dot lie within 8 times the bound squared
-  pub cross-within : In (8 * (bound * bound)) (cross (between a b) (between c d))
+  pub cross_within : In (8 * (bound * bound)) (cross (between a b) (between c d))
   unfolding cross
-  cross-within =
-      let w = edges-short in
+  cross_within =
+      let w = edges_short in
       subst (λ (n : ℕ). In n (cross (between a b) (between c d))) (products bound) (in_sub (in_mul w.ux_in w.vy_in) (in_mul w.uy_in w.vx_in))
 
-  pub dot-within : In (8 * (bound * bound)) (dot (between a b) (between c d))
+  pub dot_within : In (8 * (bound * bound)) (dot (between a b) (between c d))
   unfolding dot
-  dot-within =
-      let w = edges-short in
+  dot_within =
+      let w = edges_short in
       subst (λ (n : ℕ). In n (dot (between a b) (between c d))) (products bound) (in_add (in_mul w.ux_in w.vx_in) (in_mul w.uy_in w.vy_in))
 
 -- which fits 64 bits, on either grid
@@ -53,7 +53,7 @@ products_fit bound h = omega (arith, mul-le-mul h h)
 
 -- the two edges of a corner
 pub corner_short : (bound : ℕ) (a b c : Point) → on bound a ≡ true → on bound b ≡ true → on bound c ≡ true → Short bound (between a b) (between b c)
-corner_short bound a b c p q r = edges-short bound a b b c p q q r
+corner_short bound a b c p q r = edges_short bound a b b c p q q r
 
 -- equal numbers, whichever of them comes first
 eq_z_swap : (x y : ℤ) → eq_z x y ≡ eq_z y x
@@ -80,11 +80,11 @@ eq_z_difference x y = go (eq_z x y) (eq_z (x -ℤ y) (pos 0)) refl refl
 
 -- an edge is still where it leads to the same point
 module _ (a b : Point) where
-  pub same-before : same b a ≡ still (between a b)
-  same-before = ap₂ ◌&&◌ (eq_z_difference b.x a.x) (eq_z_difference b.y a.y)
+  pub same_before : same b a ≡ still (between a b)
+  same_before = ap₂ ◌&&◌ (eq_z_difference b.x a.x) (eq_z_difference b.y a.y)
 
   pub same_after : same a b ≡ still (between a b)
-  same_after = ap₂ ◌&&◌ (eq_z_swap a.x b.x) (eq_z_swap a.y b.y) ∙ same-before
+  same_after = ap₂ ◌&&◌ (eq_z_swap a.x b.x) (eq_z_swap a.y b.y) ∙ same_before
 
 -- it goes nowhere
 still_none : (u : Edge) → still u ≡ true → (u.dx ≡ pos 0) × (u.dy ≡ pos 0)
@@ -99,24 +99,24 @@ unless true p h n = absurd (true≢false (sym (h refl) ∙ n))
 
 module _ (u v : Edge) where
   -- and has cross 0 with every edge
-  pub still-to : still u ≡ true → cross u v ≡ pos 0
+  pub still_to : still u ≡ true → cross u v ≡ pos 0
   unfolding cross
-  still-to e =
+  still_to e =
       ap₂ (λ (x y : ℤ). x *ℤ v.dy -ℤ y *ℤ v.dx) (still_none u e).0 (still_none u e).1
       ∙ ring (num (pos 0) :* # 1 :- num (pos 0) :* # 0) (num (pos 0)) (v.dx ∷ v.dy ∷ []) refl
 
-  pub still-from : still v ≡ true → cross u v ≡ pos 0
+  pub still_from : still v ≡ true → cross u v ≡ pos 0
   unfolding cross
-  still-from e =
+  still_from e =
       ap₂ (λ (x y : ℤ). u.dx *ℤ y -ℤ u.dy *ℤ x) (still_none v e).0 (still_none v e).1
       ∙ ring (# 0 :* num (pos 0) :- # 1 :* num (pos 0)) (num (pos 0)) (u.dx ∷ u.dy ∷ []) refl
 
-  cross-none : cross u v ≡ pos 0 → aligned u v ≡ true
-  cross-none e = ap (λ (z : ℤ). eq_z z (pos 0)) e ∙ eq_z_same (pos 0)
+  cross_none : cross u v ≡ pos 0 → aligned u v ≡ true
+  cross_none e = ap (λ (z : ℤ). eq_z z (pos 0)) e ∙ eq_z_same (pos 0)
 
   -- so where the way turns, neither edge is still
-  pub moving-before : aligned u v ≡ false → still u ≡ false
-  moving-before = unless (still u) (aligned u v) (λ e. cross-none (still-to e))
+  pub moving_before : aligned u v ≡ false → still u ≡ false
+  moving_before = unless (still u) (aligned u v) (λ e. cross_none (still_to e))
 
   pub moving : aligned u v ≡ false → still v ≡ false
-  moving = unless (still v) (aligned u v) (λ e. cross-none (still-from e))
+  moving = unless (still v) (aligned u v) (λ e. cross_none (still_from e))

@@ -90,68 +90,68 @@ set_off_beyond bound z h f =
     signed_less (2 * bound) (raised (2147483648 + bound) z) (omega arith) (omega arith) ∙ ap (ltb (2 * bound)) back ∙ raised_beyond bound z h f
 
 module _ (bound : ℕ) where
-  pub on-grid-in : (z : ℤ) → on_grid bound z ≡ true → In bound z
+  pub on_grid_in : (z : ℤ) → on_grid bound z ≡ true → In bound z
   unfolding on_grid
-  on-grid-in z e =
+  on_grid_in z e =
       let first : Bool = le_z (neg_ℤ (pos bound)) z in
       tests_in z bound (and_left first (le_z z (pos bound)) e) (and_right first (le_z z (pos bound)) e)
 
   -- also past the row's end, where the 0 that is read is on the grid
-  pub all-on-grid-at : (row : List ℤ) (i : ℕ) → all_on_grid bound row ≡ true → on_grid bound (get_or row i (pos 0)) ≡ true
+  pub all_on_grid_at : (row : List ℤ) (i : ℕ) → all_on_grid bound row ≡ true → on_grid bound (get_or row i (pos 0)) ≡ true
   unfolding all_on_grid
-  all-on-grid-at [] i e = on_grid_size bound (pos 0) ∙ leb-zero bound
-  all-on-grid-at (z ∷ row) zero e = and_left (on_grid bound z) (all_on_grid bound row) e
-  all-on-grid-at (z ∷ row) (suc i) e = all-on-grid-at row i (and_right (on_grid bound z) (all_on_grid bound row) e)
+  all_on_grid_at [] i e = on_grid_size bound (pos 0) ∙ leb-zero bound
+  all_on_grid_at (z ∷ row) zero e = and_left (on_grid bound z) (all_on_grid bound row) e
+  all_on_grid_at (z ∷ row) (suc i) e = all_on_grid_at row i (and_right (on_grid bound z) (all_on_grid bound row) e)
 
   -- a row read from its front: what is left, with its first number and with none
-  pub all-on-grid-more : (row : List ℤ) (i : ℕ) → i < length row
+  pub all_on_grid_more : (row : List ℤ) (i : ℕ) → i < length row
       → all_on_grid bound (drop i row) ≡ (on_grid bound (get_or row i (pos 0)) && all_on_grid bound (drop (i + 1) row))
   unfolding all_on_grid
-  all-on-grid-more row i h = rw (drop-cons row i (pos 0) h, add-one i)
+  all_on_grid_more row i h = rw (drop-cons row i (pos 0) h, add-one i)
 
-  pub all-on-grid-none : (row : List ℤ) (i : ℕ) → i ≡ length row → all_on_grid bound (drop i row) ≡ true
+  pub all_on_grid_none : (row : List ℤ) (i : ℕ) → i ≡ length row → all_on_grid bound (drop i row) ≡ true
   unfolding all_on_grid
-  all-on-grid-none row i e = rw (e, drop-length row)
+  all_on_grid_none row i e = rw (e, drop-length row)
 
   -- two rows end to end are on the grid where both are
-  pub on-joined : (p q : List ℤ) → all_on_grid bound (p ++ q) ≡ (all_on_grid bound p && all_on_grid bound q)
+  pub on_joined : (p q : List ℤ) → all_on_grid bound (p ++ q) ≡ (all_on_grid bound p && all_on_grid bound q)
   unfolding all_on_grid
-  on-joined [] q = refl
-  on-joined (z ∷ p) q =
-      ap (λ (t : Bool). on_grid bound z && t) (on-joined p q) ∙ sym (and_assoc (on_grid bound z) (all_on_grid bound p) (all_on_grid bound q))
+  on_joined [] q = refl
+  on_joined (z ∷ p) q =
+      ap (λ (t : Bool). on_grid bound z && t) (on_joined p q) ∙ sym (and_assoc (on_grid bound z) (all_on_grid bound p) (all_on_grid bound q))
 
   -- a part of a row on the grid is on the grid
-  pub on-dropped : (n : ℕ) (row : List ℤ) → all_on_grid bound row ≡ true → all_on_grid bound (drop n row) ≡ true
+  pub on_dropped : (n : ℕ) (row : List ℤ) → all_on_grid bound row ≡ true → all_on_grid bound (drop n row) ≡ true
   unfolding all_on_grid
-  on-dropped zero row e = e
-  on-dropped (suc n) [] e = e
-  on-dropped (suc n) (z ∷ row) e = on-dropped n row (and_right (on_grid bound z) (all_on_grid bound row) e)
+  on_dropped zero row e = e
+  on_dropped (suc n) [] e = e
+  on_dropped (suc n) (z ∷ row) e = on_dropped n row (and_right (on_grid bound z) (all_on_grid bound row) e)
 
-  pub on-taken : (n : ℕ) (row : List ℤ) → all_on_grid bound row ≡ true → all_on_grid bound (take n row) ≡ true
+  pub on_taken : (n : ℕ) (row : List ℤ) → all_on_grid bound row ≡ true → all_on_grid bound (take n row) ≡ true
   unfolding all_on_grid
-  on-taken zero row e = refl
-  on-taken (suc n) [] e = e
-  on-taken (suc n) (z ∷ row) e =
-      rw (and_left (on_grid bound z) (all_on_grid bound row) e) (on-taken n row (and_right (on_grid bound z) (all_on_grid bound row) e))
+  on_taken zero row e = refl
+  on_taken (suc n) [] e = e
+  on_taken (suc n) (z ∷ row) e =
+      rw (and_left (on_grid bound z) (all_on_grid bound row) e) (on_taken n row (and_right (on_grid bound z) (all_on_grid bound row) e))
 
   -- a row is on the grid exactly where its front is, and its end from there on or before
-  pub on-parts : (k j m : ℕ) (row : List ℤ) → j ≤ k → length row ≤ j + m
+  pub on_parts : (k j m : ℕ) (row : List ℤ) → j ≤ k → length row ≤ j + m
       → (all_on_grid bound (take k row) && all_on_grid bound (take m (drop j row))) ≡ all_on_grid bound row
   unfolding all_on_grid
-  on-parts k zero m row h l = go (all_on_grid bound row) refl
+  on_parts k zero m row h l = go (all_on_grid bound row) refl
     where
       whole : take m row ≡ row
       whole = take_all m row (omega arith)
 
       go : (t : Bool) → all_on_grid bound row ≡ t → (all_on_grid bound (take k row) && all_on_grid bound (take m row)) ≡ all_on_grid bound row
-      go true e = rw (on-taken k row e, whole)
+      go true e = rw (on_taken k row e, whole)
       go false e = rw (whole, e) (and-false (all_on_grid bound (take k row)))
-  on-parts zero (suc j) m row h l = absurd (omega arith)
-  on-parts (suc k) (suc j) m [] h l = none m
+  on_parts zero (suc j) m row h l = absurd (omega arith)
+  on_parts (suc k) (suc j) m [] h l = none m
     where
       none : (m : ℕ) → all_on_grid bound (take m []) ≡ true
       none zero = refl
       none (suc m) = refl
-  on-parts (suc k) (suc j) m (z ∷ row) h l =
+  on_parts (suc k) (suc j) m (z ∷ row) h l =
       and_assoc (on_grid bound z) (all_on_grid bound (take k row)) _
-      ∙ ap (λ (t : Bool). on_grid bound z && t) (on-parts k j m row (omega arith) (omega arith))
+      ∙ ap (λ (t : Bool). on_grid bound z && t) (on_parts k j m row (omega arith) (omega arith))

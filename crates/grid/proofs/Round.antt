@@ -37,13 +37,13 @@ module _ {X : Type 0} (op : X → X → X) (none : X) where
   closed f (o ∷ l) = along f (last o l) (o ∷ l)
 
   -- edges that give the same each give the same together
-  along-alike : (f g : Point → Point → X) → ((a b : Point) → f a b ≡ g a b) → (a : Point) (l : List Point) → along f a l ≡ along g a l
-  along-alike f g e a [] = refl
-  along-alike f g e a (b ∷ l) = ap₂ op (e a b) (along-alike f g e b l)
+  along_alike : (f g : Point → Point → X) → ((a b : Point) → f a b ≡ g a b) → (a : Point) (l : List Point) → along f a l ≡ along g a l
+  along_alike f g e a [] = refl
+  along_alike f g e a (b ∷ l) = ap₂ op (e a b) (along_alike f g e b l)
 
-  pub closed-alike : (f g : Point → Point → X) → ((a b : Point) → f a b ≡ g a b) → (l : List Point) → closed f l ≡ closed g l
-  closed-alike f g e [] = refl
-  closed-alike f g e (o ∷ l) = along-alike f g e (last o l) (o ∷ l)
+  pub closed_alike : (f g : Point → Point → X) → ((a b : Point) → f a b ≡ g a b) → (l : List Point) → closed f l ≡ closed g l
+  closed_alike f g e [] = refl
+  closed_alike f g e (o ∷ l) = along_alike f g e (last o l) (o ∷ l)
 
   -- and so do those between other points
   module _ (f h : Point → Point → X) (g : Point → Point) (e : (a b : Point) → f (g a) (g b) ≡ h a b) where
@@ -56,18 +56,18 @@ module _ {X : Type 0} (op : X → X → X) (none : X) where
     closed-map (o ∷ l) = ap (λ (z : Point). along f z (map g (o ∷ l))) (last-map g o l) ∙ along-map (last o l) (o ∷ l)
 
   module _ (f : Point → Point → X) (regroup : (s t u : X) → op (op s t) u ≡ op s (op t u)) (swap : (s t : X) → op s t ≡ op t s) (nothing : (s : X) → op none s ≡ s) where
-    along-joined : (a : Point) (l m : List Point) → along f a (l ++ m) ≡ op (along f a l) (along f (last a l) m)
+    along_joined : (a : Point) (l m : List Point) → along f a (l ++ m) ≡ op (along f a l) (along f (last a l) m)
     unfolding last
-    along-joined a [] m = sym (nothing _)
-    along-joined a (b ∷ l) m = ap (op (f a b)) (along-joined b l m) ∙ sym (regroup (f a b) (along f b l) (along f (last b l) m))
+    along_joined a [] m = sym (nothing _)
+    along_joined a (b ∷ l) m = ap (op (f a b)) (along_joined b l m) ∙ sym (regroup (f a b) (along f b l) (along f (last b l) m))
 
     -- two parts, each from the other's end
-    closed-joined : (o q : Point) (l m : List Point) → closed f ((o ∷ l) ++ q ∷ m) ≡ op (along f (last q m) (o ∷ l)) (along f (last o l) (q ∷ m))
+    closed_joined : (o q : Point) (l m : List Point) → closed f ((o ∷ l) ++ q ∷ m) ≡ op (along f (last q m) (o ∷ l)) (along f (last o l) (q ∷ m))
     unfolding last
-    closed-joined o q l m = ap (λ (z : Point). along f z ((o ∷ l) ++ q ∷ m)) (last_joined o q l m) ∙ along-joined (last q m) (o ∷ l) (q ∷ m)
+    closed_joined o q l m = ap (λ (z : Point). along f z ((o ∷ l) ++ q ∷ m)) (last_joined o q l m) ∙ along_joined (last q m) (o ∷ l) (q ∷ m)
 
-    pub moved-start : AnyStart (closed f)
-    moved-start = any_start (closed f) (λ o q l m. closed-joined q o m l ∙ swap _ _ ∙ sym (closed-joined o q l m))
+    pub moved_start : AnyStart (closed f)
+    moved_start = any_start (closed f) (λ o q l m. closed_joined q o m l ∙ swap _ _ ∙ sym (closed_joined o q l m))
 
     -- the edges the other way
     abbrev back : Point → Point → X
@@ -79,17 +79,17 @@ module _ {X : Type 0} (op : X → X → X) (none : X) where
     way_back y a [] = refl
     way_back y a (b ∷ l) =
         ap (λ (w : List Point). along f y (w ++ a ∷ [])) (reverse-cons b l)
-        ∙ along-joined y (reverse l ++ b ∷ []) (a ∷ [])
+        ∙ along_joined y (reverse l ++ b ∷ []) (a ∷ [])
         ∙ ap₂ op (way_back y b l) (ap (λ (z : Point). op (f z a) none) (last_joined y b (reverse l) []) ∙ swap (f b a) none ∙ nothing (f b a))
         ∙ regroup (f y (last b l)) (along back b l) (f b a)
         ∙ ap (op (f y (last b l))) (swap (along back b l) (f b a))
 
     -- a contour that ends with z
-    closed-end : (l : List Point) (z : Point) → closed f (l ++ z ∷ []) ≡ along f z (l ++ z ∷ [])
+    closed_end : (l : List Point) (z : Point) → closed f (l ++ z ∷ []) ≡ along f z (l ++ z ∷ [])
     unfolding last
-    closed-end [] z = refl
-    closed-end (o ∷ l) z = ap (λ (y : Point). along f y ((o ∷ l) ++ z ∷ [])) (last_joined o z l [])
+    closed_end [] z = refl
+    closed_end (o ∷ l) z = ap (λ (y : Point). along f y ((o ∷ l) ++ z ∷ [])) (last_joined o z l [])
 
     pub turned_round : (l : List Point) → closed f (reverse l) ≡ closed back l
     turned_round [] = refl
-    turned_round (o ∷ l) = ap (closed f) (reverse-cons o l) ∙ closed-end (reverse l) o ∙ way_back o o l
+    turned_round (o ∷ l) = ap (closed f) (reverse-cons o l) ∙ closed_end (reverse l) o ∙ way_back o o l

@@ -27,13 +27,13 @@ module _ {row : List ℤ} {n : ℕ} (c : Contour row n) where
   pub points-length : length (points row) ≡ n
   points-length = omega (arith, points_count row, c.even)
 
-  pub points-here : (i : ℕ) → i < n → get_or (points row) i origin ≡ at row i
-  points-here i h = points_at row i (omega (arith, c.even))
+  pub points_here : (i : ℕ) → i < n → get_or (points row) i origin ≡ at row i
+  points_here i h = points_at row i (omega (arith, c.even))
 
-  pub points-more : (i : ℕ) → i < n → drop i (points row) ≡ at row i ∷ drop (i + 1) (points row)
-  points-more i h =
+  pub points_more : (i : ℕ) → i < n → drop i (points row) ≡ at row i ∷ drop (i + 1) (points row)
+  points_more i h =
       let l : i < length (points row) = omega (arith, points-length) in
-      drop-cons (points row) i origin l ∙ rw (points-here i h, add-one i)
+      drop-cons (points row) i origin l ∙ rw (points_here i h, add-one i)
 
-  pub points-done : (i : ℕ) → i ≡ n → drop i (points row) ≡ []
-  points-done i e = ap (λ (k : ℕ). drop k (points row)) (e ∙ sym points-length) ∙ drop-length (points row)
+  pub points_done : (i : ℕ) → i ≡ n → drop i (points row) ≡ []
+  points_done i e = ap (λ (k : ℕ). drop k (points row)) (e ∙ sym points-length) ∙ drop-length (points row)

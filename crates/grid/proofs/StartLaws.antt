@@ -11,7 +11,7 @@ use Rattle.grid.specs.Corners.{last, differing, distinct_neighbours, Corner, cor
 use Rattle.grid.specs.Area.{around, exact}
 use Rattle.grid.proofs.AroundLaws.{corner}
 use Rattle.grid.proofs.CornerLaws.{same_is, differing_skip, differing_keep}
-use Rattle.grid.proofs.Round.{last_joined, AnyStart, any_start, along, closed, closed-alike, moved-start, turned_round}
+use Rattle.grid.proofs.Round.{last_joined, AnyStart, any_start, along, closed, closed_alike, moved_start, turned_round}
 
 pub length_any_start : AnyStart length
 length_any_start l m = omega (arith, length-append m l, length-append l m)
@@ -29,17 +29,17 @@ some_joined t (k ∷ ks) js = ap (λ (u : Bool). t k || u) (some_joined t ks js)
 
 -- whether some corner passes a test
 module _ (t : Corner → Bool) where
-  some-parts : (o q : Point) (l m : List Point) → some t (corners ((o ∷ l) ++ q ∷ m)) ≡ (some t (corners_from q (last q m) o l) || some t (corners_from o (last o l) q m))
+  some_parts : (o q : Point) (l m : List Point) → some t (corners ((o ∷ l) ++ q ∷ m)) ≡ (some t (corners_from q (last q m) o l) || some t (corners_from o (last o l) q m))
   unfolding corners
-  some-parts o q l m =
+  some_parts o q l m =
       ap (λ (z : Point). some t (corners_from o z o (l ++ q ∷ m))) (last_joined o q l m)
       ∙ ap (some t) (corners_joined o q (last q m) o l m)
       ∙ some_joined t (corners_from q (last q m) o l) (corners_from o (last o l) q m)
 
-  pub some-any-start : AnyStart (λ l. some t (corners l))
-  some-any-start = any_start
+  pub some_any_start : AnyStart (λ l. some t (corners l))
+  some_any_start = any_start
       (λ l. some t (corners l))
-      (λ o q l m. some-parts q o m l ∙ or_comm (some t (corners_from o (last o l) q m)) (some t (corners_from q (last q m) o l)) ∙ sym (some-parts o q l m))
+      (λ o q l m. some_parts q o m l ∙ or_comm (some t (corners_from o (last o l) q m)) (some t (corners_from q (last q m) o l)) ∙ sym (some_parts o q l m))
 
 differing_joined : (a : Point) (l m : List Point) → differing a (l ++ m) ≡ differing a l ++ differing (last a l) m
 unfolding differing last
@@ -81,7 +81,7 @@ exact_closed [] = refl
 exact_closed (o ∷ l) = around_along o o l ∙ +ℤ_comm (along ◌+ℤ◌ (pos 0) term o l) (term (last o l) o)
 
 pub exact_any_start : AnyStart exact
-exact_any_start l m = exact_closed (m ++ l) ∙ moved-start ◌+ℤ◌ (pos 0) term +ℤ_assoc +ℤ_comm +ℤ_idl l m ∙ sym (exact_closed (l ++ m))
+exact_any_start l m = exact_closed (m ++ l) ∙ moved_start ◌+ℤ◌ (pos 0) term +ℤ_assoc +ℤ_comm +ℤ_idl l m ∙ sym (exact_closed (l ++ m))
 
 -- the other way each edge adds as much below 0, and so do all
 term_back : (a b : Point) → term b a ≡ neg_ℤ (term a b)
@@ -95,7 +95,7 @@ along_negated a (b ∷ l) = ap (λ (z : ℤ). neg_ℤ (term a b) +ℤ z) (along_
 pub exact_reversed : (l : List Point) → exact (reverse l) ≡ neg_ℤ (exact l)
 exact_reversed l =
     exact_closed (reverse l) ∙ turned_round ◌+ℤ◌ (pos 0) term +ℤ_assoc +ℤ_comm +ℤ_idl l
-    ∙ closed-alike ◌+ℤ◌ (pos 0) (λ a b. term b a) (λ a b. neg_ℤ (term a b)) term_back l ∙ negated l ∙ ap neg_ℤ (sym (exact_closed l))
+    ∙ closed_alike ◌+ℤ◌ (pos 0) (λ a b. term b a) (λ a b. neg_ℤ (term a b)) term_back l ∙ negated l ∙ ap neg_ℤ (sym (exact_closed l))
   where
     negated : (l : List Point) → closed ◌+ℤ◌ (pos 0) (λ a b. neg_ℤ (term a b)) l ≡ neg_ℤ (closed ◌+ℤ◌ (pos 0) term l)
     negated [] = refl

@@ -5,7 +5,7 @@ pub mod boxes;
 ghost use Rattle.std.specs.Prelude.{◌≡◌, ◌+◌, ◌*◌, ◌<◌, true, length, ◌-ℤ◌};
 ghost use Rattle.grid.specs.Limits.{limit, on_grid, all_on_grid};
 ghost use Rattle.grid.specs.Points.{at, on, same as same_point};
-ghost use Rattle.grid.specs.Edges.{between as between-of, cross as cross-of, dot as dot-of, sign as sign_of, turn as turn-of, turns_left as turns-left-of, aligned as aligned-of, backward as backward-of, reverses as reverses-of};
+ghost use Rattle.grid.specs.Edges.{between as between_of, cross as cross_of, dot as dot_of, sign as sign_of, turn as turn_of, turns_left as turns_left_of, aligned as aligned_of, backward as backward_of, reverses as reverses_of};
 ghost use Rattle.grid.specs.Domain.{Contour};
 ghost use Rattle.grid.specs.inside.Edges.{Short};
 ghost use Rattle.grid.specs.inside.Rows.{FirstOther};
@@ -40,7 +40,7 @@ fn gap(from: i32, to: i32) -> i64
 // The edge from a to b.
 pub fn between(a: Point, b: Point) -> Edge
     requires { (on limit a ≡ true) × (on limit b ≡ true) }
-    ensures { result ≡ between-of a b }
+    ensures { result ≡ between_of a b }
 {
     Edge {
         dx: gap(a.x, b.x),
@@ -53,7 +53,7 @@ pub fn edge_at(points: &[i32], a: usize, b: usize) -> Edge
     requires { (all_on_grid limit points.now ≡ true)
         × (2 * a + 1 < length points.now)
         × (2 * b + 1 < length points.now) }
-    ensures { result ≡ between-of (at points.now a) (at points.now b) }
+    ensures { result ≡ between_of (at points.now a) (at points.now b) }
 {
     between(point_at(points, a), point_at(points, b))
 }
@@ -61,7 +61,7 @@ pub fn edge_at(points: &[i32], a: usize, b: usize) -> Edge
 // The cross of two edges: every turn is told by it.
 fn cross(u: Edge, v: Edge) -> i64
     requires { Short limit u v }
-    ensures { result ≡ cross-of u v }
+    ensures { result ≡ cross_of u v }
 {
     u.dx * v.dy - u.dy * v.dx
 }
@@ -69,7 +69,7 @@ fn cross(u: Edge, v: Edge) -> i64
 // Their dot, which tells straight on from back.
 fn dot(u: Edge, v: Edge) -> i64
     requires { Short limit u v }
-    ensures { result ≡ dot-of u v }
+    ensures { result ≡ dot_of u v }
 {
     u.dx * v.dx + u.dy * v.dy
 }
@@ -90,7 +90,7 @@ fn sign(z: i64) -> i32
 // How the way turns from one edge to the next: 1 left, 0 straight on or back, -1 right.
 pub fn turn(u: Edge, v: Edge) -> i32
     requires { Short limit u v }
-    ensures { result ≡ turn-of u v }
+    ensures { result ≡ turn_of u v }
 {
     sign(cross(u, v))
 }
@@ -98,7 +98,7 @@ pub fn turn(u: Edge, v: Edge) -> i32
 // Whether it turns left.
 pub fn turns_left(u: Edge, v: Edge) -> bool
     requires { Short limit u v }
-    ensures { result ≡ turns-left-of u v }
+    ensures { result ≡ turns_left_of u v }
 {
     0 < cross(u, v)
 }
@@ -106,7 +106,7 @@ pub fn turns_left(u: Edge, v: Edge) -> bool
 // Whether two edges have cross 0.
 pub fn aligned(u: Edge, v: Edge) -> bool
     requires { Short limit u v }
-    ensures { result ≡ aligned-of u v }
+    ensures { result ≡ aligned_of u v }
 {
     cross(u, v) == 0
 }
@@ -114,7 +114,7 @@ pub fn aligned(u: Edge, v: Edge) -> bool
 // Whether they have a dot below 0.
 pub fn backward(u: Edge, v: Edge) -> bool
     requires { Short limit u v }
-    ensures { result ≡ backward-of u v }
+    ensures { result ≡ backward_of u v }
 {
     dot(u, v) < 0
 }
@@ -122,7 +122,7 @@ pub fn backward(u: Edge, v: Edge) -> bool
 // Whether they have cross 0 and a dot below 0.
 pub fn reverses(u: Edge, v: Edge) -> bool
     requires { Short limit u v }
-    ensures { result ≡ reverses-of u v }
+    ensures { result ≡ reverses_of u v }
 {
     if aligned(u, v) { backward(u, v) } else { false }
 }

@@ -6,9 +6,9 @@ pub mod inner;
 ghost use Rattle.std.specs.Prelude.{◌≡◌};
 ghost use Rattle.grid.specs.Limits.{limit};
 ghost use Rattle.grid.specs.Points.{on};
-ghost use Rattle.grid.specs.Edges.{still as still-of};
+ghost use Rattle.grid.specs.Edges.{still as still_of};
 ghost use Rattle.replies.specs.Ladder.{first_of};
-ghost use Rattle.grid.specs.Domain.{domain as domain-of};
+ghost use Rattle.grid.specs.Domain.{domain as domain_of};
 
 // The largest coordinate, either side of 0.
 pub const LIMIT: u32 = 1_073_741_823;
@@ -41,14 +41,14 @@ pub fn point_on_grid(p: Point) -> bool
 
 // What every call asks of a row of coordinates: 0, or the number of its first refusal.
 pub fn domain(points: &[i32]) -> u32
-    ensures { result ≡ first_of (domain-of limit points.now) }
+    ensures { result ≡ first_of (domain_of limit points.now) }
 {
     inner::bounds::domain(LIMIT, points)
 }
 
 // Whether an edge leads from a point to the same point.
 pub fn still(u: Edge) -> bool
-    ensures { result ≡ still-of u }
+    ensures { result ≡ still_of u }
 {
     u.dx == 0 && u.dy == 0
 }

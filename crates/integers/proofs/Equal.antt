@@ -33,14 +33,14 @@ ne_eq_z a b n = go (eq_z a b) refl
     go false e = e
 
 module _ (w : Width) {a b : ℤ} (f : SFits w a) (g : SFits w b) where
-  pub bits-eq : of_z w a ≡ of_z w b → a ≡ b
-  bits-eq e = sym (to_z-of_z f) ∙ ap (to_z w) e ∙ to_z-of_z g
+  pub bits_eq : of_z w a ≡ of_z w b → a ≡ b
+  bits_eq e = sym (to_z-of_z f) ∙ ap (to_z w) e ∙ to_z-of_z g
 
-  pub bits-eqb : eqb (of_z w a) (of_z w b) ≡ eq_z a b
-  bits-eqb = go (eqb (of_z w a) (of_z w b)) refl
+  pub bits_eqb : eqb (of_z w a) (of_z w b) ≡ eq_z a b
+  bits_eqb = go (eqb (of_z w a) (of_z w b)) refl
     where
       go : (t : Bool) → eqb (of_z w a) (of_z w b) ≡ t → eqb (of_z w a) (of_z w b) ≡ eq_z a b
-      go true e = e ∙ sym (eq_eq_z a b (bits-eq (eqb-true (of_z w a) (of_z w b) e)))
+      go true e = e ∙ sym (eq_eq_z a b (bits_eq (eqb-true (of_z w a) (of_z w b) e)))
       go false e = e ∙ sym (ne_eq_z a b (λ h. eqb-false (of_z w a) (of_z w b) e (ap (of_z w) h)))
 
 -- a product is not 0 where neither number is

@@ -54,36 +54,36 @@ module _ (w : Width) (z : ℤ) (f : SFits w z) where
     rest : negsuc 0 -ℤ to_z w (of_z w z) ≡ pos (mag z)
     rest = ap (λ (x : ℤ). negsuc 0 -ℤ x) (to_z-of_z f) ∙ up z (sign t)
 
-    pub rest-fits : SFits w (negsuc 0 -ℤ to_z w (of_z w z))
-    rest-fits = subst (SFits w) (sym rest) (record { sfits = f.sfits })
+    pub rest_fits : SFits w (negsuc 0 -ℤ to_z w (of_z w z))
+    rest_fits = subst (SFits w) (sym rest) (record { sfits = f.sfits })
 
     pub rest_is : to_z w (of_z w (negsuc 0 -ℤ to_z w (of_z w z))) ≡ pos (mag z)
-    rest_is = to_z-of_z rest-fits ∙ rest
+    rest_is = to_z-of_z rest_fits ∙ rest
 
-    pub rest-cast : T (non_neg (to_z w (of_z w (negsuc 0 -ℤ to_z w (of_z w z))))) × Fits w (nat_abs (to_z w (of_z w (negsuc 0 -ℤ to_z w (of_z w z)))))
-    rest-cast = subst (λ (x : ℤ). T (non_neg x) × Fits w (nat_abs x)) (sym rest_is) (tt, record { fits = omega (arith, f.sfits, pow-bits w) })
+    pub rest_cast : T (non_neg (to_z w (of_z w (negsuc 0 -ℤ to_z w (of_z w z))))) × Fits w (nat_abs (to_z w (of_z w (negsuc 0 -ℤ to_z w (of_z w z)))))
+    rest_cast = subst (λ (x : ℤ). T (non_neg x) × Fits w (nat_abs x)) (sym rest_is) (tt, record { fits = omega (arith, f.sfits, pow-bits w) })
 
-    pub rest-bits : (top : ℕ) → suc top ≡ 2 ^ bits w → top - nat_abs (to_z w (of_z w (negsuc 0 -ℤ to_z w (of_z w z)))) ≡ of_z w z
-    rest-bits top e = ap (λ (x : ℤ). top - nat_abs x) rest_is ∙ over z (sign t)
+    pub rest_bits : (top : ℕ) → suc top ≡ 2 ^ bits w → top - nat_abs (to_z w (of_z w (negsuc 0 -ℤ to_z w (of_z w z)))) ≡ of_z w z
+    rest_bits top e = ap (λ (x : ℤ). top - nat_abs x) rest_is ∙ over z (sign t)
       where
         over : (y : ℤ) → lt_z y (pos 0) ≡ true → top - mag y ≡ of_z w y
         over (pos n) u = let h : n < 0 = ltb-true n 0 u in absurd (omega arith)
         over (negsuc k) u = omega (arith, e)
 
-    pub rest-size : nat_abs (to_z w (of_z w (negsuc 0 -ℤ to_z w (of_z w z)))) + 1 ≡ nat_abs z
-    rest-size = ap (λ (x : ℤ). nat_abs x + 1) rest_is ∙ size z (sign t)
+    pub rest_size : nat_abs (to_z w (of_z w (negsuc 0 -ℤ to_z w (of_z w z)))) + 1 ≡ nat_abs z
+    rest_size = ap (λ (x : ℤ). nat_abs x + 1) rest_is ∙ size z (sign t)
 
   module _ (t : lt_z (to_z w (of_z w z)) (pos 0) ≡ false) where
     plain : (y : ℤ) → SFits w y → lt_z y (pos 0) ≡ false → T (non_neg y) × Fits w (nat_abs y)
     plain (pos n) g e = (tt, record { fits = omega (arith, g.sfits, pow-bits w) })
     plain (negsuc n) g e = absurd (subst T e tt)
 
-    pub plain-bits : nat_abs (to_z w (of_z w z)) ≡ of_z w z
-    plain-bits = ap nat_abs (to_z-of_z f) ∙ same z (sign t)
+    pub plain_bits : nat_abs (to_z w (of_z w z)) ≡ of_z w z
+    plain_bits = ap nat_abs (to_z-of_z f) ∙ same z (sign t)
       where
         same : (y : ℤ) → lt_z y (pos 0) ≡ false → nat_abs y ≡ of_z w y
         same (pos n) u = refl
         same (negsuc k) u = absurd (subst T u tt)
 
-    pub plain-cast : T (non_neg (to_z w (of_z w z))) × Fits w (nat_abs (to_z w (of_z w z)))
-    plain-cast = subst (λ (x : ℤ). T (non_neg x) × Fits w (nat_abs x)) (sym (to_z-of_z f)) (plain z f (sign t))
+    pub plain_cast : T (non_neg (to_z w (of_z w z))) × Fits w (nat_abs (to_z w (of_z w z)))
+    plain_cast = subst (λ (x : ℤ). T (non_neg x) × Fits w (nat_abs x)) (sym (to_z-of_z f)) (plain z f (sign t))

@@ -78,15 +78,15 @@ unfolding digit
 no_digit_10 = omega arith
 
 module _ (s : State) (z : ℤ) (small : nat_abs z ≤ largest) (roomy : s.lines.reader.numbers < most_numbers) where
-  then-space : step (state_at s (Number (is_below z) (nat_abs z))) 32 ≡ state_at (push s z) Space
+  then_space : step (state_at s (Number (is_below z) (nat_abs z))) 32 ≡ state_at (push s z) Space
   unfolding step behind
-  then-space =
+  then_space =
       number_taken (is_below z) (nat_abs z) (state_at s (Number (is_below z) (nat_abs z))) 32 no_digit_32 small roomy
       ∙ ap (λ (y : ℤ). state_at (push s y) Space) (value_back z)
 
-  then-end : Endable (counted s.lines.reader) → step (state_at s (Number (is_below z) (nat_abs z))) 10 ≡ finish (push s z)
+  then_end : Endable (counted s.lines.reader) → step (state_at s (Number (is_below z) (nat_abs z))) 10 ≡ finish (push s z)
   unfolding step behind
-  then-end x =
+  then_end x =
       number_taken (is_below z) (nat_abs z) (state_at s (Number (is_below z) (nat_abs z))) 10 no_digit_10 small roomy
       ∙ ap (λ (l : Lines). record { points = s.points ++ (value (is_below z) (nat_abs z) ∷ []); lines = l })
       (ended_well (record { reader = counted (state_at s (Number (is_below z) (nat_abs z))).lines.reader; contours = s.lines.contours; shapes = s.lines.shapes })
@@ -101,10 +101,10 @@ Small = Each (λ (z : ℤ). nat_abs z ≤ largest)
 numbers_run : (s : State) (z : ℤ) (c : List ℤ) → Small (z ∷ c) → s.lines.reader.numbers + length (z ∷ c) ≤ most_numbers → Endable (push_all s (z ∷ c)).lines.reader
     → run (state_at s (Number (is_below z) (nat_abs z))) (numbers c ++ line_end) ≡ finish (push_all s (z ∷ c))
 unfolding run numbers push_all
-numbers_run s z [] h n x = then-end s z h.0 (omega arith) x
+numbers_run s z [] h n x = then_end s z h.0 (omega arith) x
 numbers_run s z (y ∷ c) h n x =
     ap (run (state_at s (Number (is_below z) (nat_abs z)))) (ap (λ (l : List ℕ). 32 ∷ l) (append_assoc (signed y) (numbers c) line_end))
-    ∙ ap (λ (t : State). run t (signed y ++ (numbers c ++ line_end))) (then-space s z h.0 (omega arith))
+    ∙ ap (λ (t : State). run t (signed y ++ (numbers c ++ line_end))) (then_space s z h.0 (omega arith))
     ∙ run-append (state_at (push s z) Space) (signed y) (numbers c ++ line_end)
     ∙ ap (λ (t : State). run t (numbers c ++ line_end)) (run_signed (push s z) y h.1.0)
     ∙ numbers_run (push s z) y c h.1 (omega arith) x

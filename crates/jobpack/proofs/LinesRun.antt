@@ -135,13 +135,13 @@ module _ (s : State) (c : List ℤ) (l : List Entry) (e : s.lines.reader.numbers
   next_start : (s.lines.reader.numbers + length c) / 2 ≡ s.lines.reader.start + count c
   next_start = omega arith
 
-  points-more : (p : List ℤ) → p ≡ (s.points ++ c) ++ joined (contours_of l) → p ≡ s.points ++ (c ++ joined (contours_of l))
-  points-more p h = h ∙ append_assoc s.points c (joined (contours_of l))
+  points_more : (p : List ℤ) → p ≡ (s.points ++ c) ++ joined (contours_of l) → p ≡ s.points ++ (c ++ joined (contours_of l))
+  points_more p h = h ∙ append_assoc s.points c (joined (contours_of l))
 
-  contours-more : (q : List (List ℕ)) → q ≡ (s.lines.contours ++ ((s.lines.reader.start ∷ ((s.lines.reader.numbers + length c) / 2) ∷ []) ∷ [])) ++ rows (laid ((s.lines.reader.numbers + length c) / 2) (map count (contours_of l)))
+  contours_more : (q : List (List ℕ)) → q ≡ (s.lines.contours ++ ((s.lines.reader.start ∷ ((s.lines.reader.numbers + length c) / 2) ∷ []) ∷ [])) ++ rows (laid ((s.lines.reader.numbers + length c) / 2) (map count (contours_of l)))
       → q ≡ s.lines.contours ++ rows (laid s.lines.reader.start (count c ∷ map count (contours_of l)))
   unfolding laid
-  contours-more q h =
+  contours_more q h =
       h ∙ append_assoc s.lines.contours _ _
       ∙ ap (λ (k : ℕ). s.lines.contours ++ ((s.lines.reader.start ∷ k ∷ []) ∷ rows (laid k (map count (contours_of l))))) next_start
 
@@ -166,8 +166,8 @@ open_run s done (a ∷ l) o g = go (λ t d x y. open_run t d l x y) a.begins a.p
         subst (λ (t : State). Brought s done (entry false c ∷ l) t) (sym (one_line s false c l h o.even (λ z. omega (arith, o.number)) o.fewer))
         (record {
           place = x.place;
-          points = points-more s c l o.even h.even.0 _ x.points;
-          contours = contours-more s c l o.even h.even.0 _ x.contours;
+          points = points_more s c l o.even h.even.0 _ x.points;
+          contours = contours_more s c l o.even h.even.0 _ x.contours;
           shapes = x.shapes ∙ ap (λ (k : ℕ). done ++ rows (record { start = r.first; end = k } ∷ laid k (map length (gathered l).shapes))) n;
         })
     go others true c h =
@@ -178,8 +178,8 @@ open_run s done (a ∷ l) o g = go (λ t d x y. open_run t d l x y) a.begins a.p
         subst (λ (t : State). Brought s done (entry true c ∷ l) t) (sym (one_line s true c l h o.even (λ w. absurd (true_false w)) o.fewer))
         (record {
           place = x.place;
-          points = points-more s c l o.even h.even.0 _ x.points;
-          contours = contours-more s c l o.even h.even.0 _ x.contours;
+          points = points_more s c l o.even h.even.0 _ x.points;
+          contours = contours_more s c l o.even h.even.0 _ x.contours;
           shapes = x.shapes ∙ ap (λ (p : List (List ℕ)). p ++ ranges r.contours (r.contours + 1) (gathered l)) o.last ∙ append_assoc done _ _
               ∙ ap₂ (λ (i j : ℕ). done ++ ((r.first ∷ i ∷ []) ∷ (i ∷ j ∷ []) ∷ rows (laid j (map length (gathered l).shapes)))) z n;
         })
@@ -209,6 +209,6 @@ all_run (a ∷ l) h few short even small =
         (record {
           place = x.place;
           points = x.points;
-          contours = contours-more nothing c l (omega arith) g.even.0 _ x.contours;
+          contours = contours_more nothing c l (omega arith) g.even.0 _ x.contours;
           shapes = x.shapes ∙ ap (λ (k : ℕ). (0 ∷ k ∷ []) ∷ rows (laid k (map length (gathered l).shapes))) n;
         })

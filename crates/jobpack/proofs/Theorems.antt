@@ -8,9 +8,9 @@ use lib.ListN.{length}
 use lib.IntN.{ℤ, nat_abs}
 use borrow.Author.Tests.{leb-true, le-ltb}
 use Rattle.integers.proofs.Logic.{and_left, and_right}
-use Rattle.replies.proofs.OneOutcome.{Determined, by-its-definition, three}
+use Rattle.replies.proofs.OneOutcome.{Determined, by_its_definition, three}
 use Rattle.grid.specs.Limits.{limit, most, on_grid, all_on_grid}
-use Rattle.grid.proofs.LimitLaws.{on_grid_size, all_on_wider, on-joined}
+use Rattle.grid.proofs.LimitLaws.{on_grid_size, all_on_wider, on_joined}
 use Rattle.replies.specs.Ladder.{first_of}
 use Rattle.bits.specs.Bits.{Bytes}
 use Rattle.buffer.specs.Spans.{rows}
@@ -21,8 +21,8 @@ use Rattle.setfile.specs.Reading.{refusals}
 use Rattle.setfile.specs.Promises.{Each, points_of}
 use Rattle.setfile.proofs.SizeLaws.{promised_few}
 use Rattle.setfile.proofs.HoldLaws.{bound_within, first_started}
-use Rattle.setfile.proofs.EditionsLaws.{what-is-read-can-be-carried}
-use Rattle.setfile.proofs.Theorems.{whole, the-set-that-is-read-can-be-carried, the-set-that-is-read-can-be-written, every-file-that-is-read-is-written-the-same}
+use Rattle.setfile.proofs.EditionsLaws.{what_is_read_can_be_carried}
+use Rattle.setfile.proofs.Theorems.{whole, the_set_that_is_read_can_be_carried, the_set_that_is_read_can_be_written, every_file_that_is_read_is_written_the_same}
 use Rattle.report.specs.Text.{places, decimal}
 use Rattle.report.proofs.JobLaws.{job_sized}
 use Rattle.jobtext.specs.Text.{lines, head, text, dumped}
@@ -60,7 +60,7 @@ all_small : (l : List (List ℤ)) → all_on_grid limit (joined l) ≡ true → 
 unfolding joined
 all_small [] e = tt
 all_small (c ∷ l) e =
-    let o = sym (on-joined limit c (joined l)) ∙ e in
+    let o = sym (on_joined limit c (joined l)) ∙ e in
     (small_numbers c (and_left (all_on_grid limit c) (all_on_grid limit (joined l)) o), all_small l (and_right (all_on_grid limit c) (all_on_grid limit (joined l)) o))
 
 -- the text of a job, read
@@ -81,13 +81,13 @@ unfolding most
 packing_undoes_dumping f h ok =
     let s : Bool = is_second f in
     let l : List Entry = read_contours (parsed f) in
-    let r = (the-set-that-is-read-can-be-carried f h ok).regular in
+    let r = (the_set_that_is_read_can_be_carried f h ok).regular in
     let on = all_on_wider (bound s) limit (points_of f) (bound_within s) r.on in
-    let started = first_started s l 0 (what-is-read-can-be-carried f h l (whole f h ok)).all in
+    let started = first_started s l 0 (what_is_read_can_be_carried f h l (whole f h ok)).all in
     let set = all_run l started (omega (arith, (job_sized f).few, promised_few f)) (omega (arith, r.even, r.within)) (job_sized f).even (all_small (contours_of l) on) in
     let short : length (text s l) ≤ longest = omega (arith, dumped_short f h, ap length (dumped_done f ok)) in
     ap packed (dumped_done f ok) ∙ read_text s l short set
-    ∙ ap₂ written (the-set-that-is-read-can-be-written f h ok) (every-file-that-is-read-is-written-the-same f h ok)
+    ∙ ap₂ written (the_set_that_is_read_can_be_written f h ok) (every_file_that_is_read_is_written_the_same f h ok)
 
 -- so no two files have one text
 pub no_two_files_have_one_text : (f g : List ℕ) → Bytes f → Bytes g → first_of (refusals f) ≡ 0 → first_of (refusals g) ≡ 0 → dumped f ≡ dumped g → f ≡ g
@@ -96,4 +96,4 @@ no_two_files_have_one_text f g hf hg f-ok g-ok e =
 
 -- any two outcomes that the contract of `pack` allows are identical: both lengths, and both rows
 pub a_text_is_packed_in_one_way : Determined pack·contract.Learnt (λ κs r e. three e (λ text out words. leaving r out.now words.now))
-a_text_is_packed_in_one_way = by-its-definition (λ κs a. three a (λ text out words. packing text.now out.now words.now)) (λ κs a r e h. h)
+a_text_is_packed_in_one_way = by_its_definition (λ κs a. three a (λ text out words. packing text.now out.now words.now)) (λ κs a r e h. h)

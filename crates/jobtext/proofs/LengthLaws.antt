@@ -10,7 +10,7 @@ use lib.IntN.ℤ.{pos, negsuc}
 use borrow.Author.Tests.{leb-true}
 use Rattle.integers.proofs.Logic.{and_left, and_right}
 use Rattle.grid.specs.Limits.{limit, most, on_grid, all_on_grid}
-use Rattle.grid.proofs.LimitLaws.{on_grid_size, all_on_wider, on-joined}
+use Rattle.grid.proofs.LimitLaws.{on_grid_size, all_on_wider, on_joined}
 use Rattle.replies.specs.Ladder.{first_of}
 use Rattle.bits.specs.Bits.{Bytes}
 use Rattle.buffer.specs.Sets.{joined}
@@ -20,7 +20,7 @@ use Rattle.setfile.specs.Reading.{refusals}
 use Rattle.setfile.specs.Promises.{points_of}
 use Rattle.setfile.proofs.SizeLaws.{promised_few}
 use Rattle.setfile.proofs.HoldLaws.{bound_within}
-use Rattle.setfile.proofs.Theorems.{the-set-that-is-read-can-be-carried}
+use Rattle.setfile.proofs.Theorems.{the_set_that_is_read_can_be_carried}
 use Rattle.report.specs.Text.{places, decimal, signed, line_end}
 use Rattle.report.proofs.TextLaws.{decimal-length, decimal_short}
 use Rattle.report.proofs.JobLaws.{job_sized}
@@ -54,7 +54,7 @@ pub lines_short : (l : List Entry) → all_on_grid limit (joined (contours_of l)
 unfolding lines joined
 lines_short [] e = omega arith
 lines_short (a ∷ l) e =
-    let o = sym (on-joined limit a.points (joined (contours_of l))) ∙ e in
+    let o = sym (on_joined limit a.points (joined (contours_of l))) ∙ e in
     omega (
       arith,
       length-append (line a) (lines l),
@@ -79,7 +79,7 @@ dumped_short f h = go (first_of (refusals f)) refl
     go : (k : ℕ) → first_of (refusals f) ≡ k → length (dumped f) ≤ 1597444
     go (suc k) e = rw (dumped_refused f (suc k) (sym e) (λ z. omega arith)) (simp length-append (omega (arith, decimal_short (suc k))))
     go zero e =
-        let r = (the-set-that-is-read-can-be-carried f h e).regular in
+        let r = (the_set_that_is_read_can_be_carried f h e).regular in
         let found : List Entry = read_contours (parsed f) in
         let on = all_on_wider (bound (is_second f)) limit (points_of f) (bound_within (is_second f)) r.on in
         rw (dumped_done f e)

@@ -32,19 +32,19 @@ spelling_none at c text h = record { going = going_none at text (numbers c ∷ [
 
 module _ {at : ℕ} {c : List ℤ} {text₀ : List ℕ} {behind : ℕ} {text : List ℕ} {i : ℕ} (x : Spelling at c text₀ behind text i) where
   module _ (z : ℤ) (e : z ≡ get_or c i (pos 0)) (h : i < length c) where
-    spelling-next : Going at (numbers c) text₀ behind text (spaced z ∷ numbers (drop (i + 1) c) ∷ [])
+    spelling_next : Going at (numbers c) text₀ behind text (spaced z ∷ numbers (drop (i + 1) c) ∷ [])
     unfolding joined numbers
-    spelling-next = going_same _ (rw (drop-cons c i (pos 0) h, add-one i, e) (simp append_assoc)) x.going
+    spelling_next = going_same _ (rw (drop-cons c i (pos 0) h, add-one i, e) (simp append_assoc)) x.going
 
-    pub spelling-room : behind + length (spaced z) ≤ length text
-    spelling-room = going_room spelling-next
+    pub spelling_room : behind + length (spaced z) ≤ length text
+    spelling_room = going_room spelling_next
 
-    pub spelling-more : {r : ℕ} {exit : List ℕ} → Put behind (spaced z) text r exit → Spelling at c text₀ r exit (i + 1)
-    spelling-more p = record { going = going_more spelling-next p }
+    pub spelling_more : {r : ℕ} {exit : List ℕ} → Put behind (spaced z) text r exit → Spelling at c text₀ r exit (i + 1)
+    spelling_more p = record { going = going_more spelling_next p }
 
-  pub spelling-all : length c ≤ i → Put at (numbers c) text₀ behind text
+  pub spelling_all : length c ≤ i → Put at (numbers c) text₀ behind text
   unfolding joined numbers
-  spelling-all h = going_all (going_same [] (rw (drop_of_length-le c {i = i} h)) x.going)
+  spelling_all h = going_all (going_same [] (rw (drop_of_length-le c {i = i} h)) x.going)
 
 -- behind i of a file's n contours, from bit at on, the lines of the rest are due
 pub record Lining (s : Bool) (f : List ℕ) (n from : ℕ) (text₀ : List ℕ) (behind : ℕ) (text : List ℕ) (i at : ℕ) : Type 0 where
@@ -68,35 +68,35 @@ module _ {s : Bool} {f : List ℕ} {n from : ℕ} {text₀ : List ℕ} {behind :
     coming = next x.due h
 
     -- the contour that is met is all there, and on the grid
-    pub lining-there : Whole s f at
-    lining-there = coming.all_there
+    pub lining_there : Whole s f at
+    lining_there = coming.all_there
 
-    pub lining-on : all_on_grid (bound s) (contour_at s f at) ≡ true
-    lining-on = coming.on
+    pub lining_on : all_on_grid (bound s) (contour_at s f at) ≡ true
+    lining_on = coming.on
 
     module _ (head : Header) (e : head ≡ header_in s (from_bit f at)) where
-      lining-next : Going from (lines (contained f)) text₀ behind text (line (entry head.begins (contour_at s f at)) ∷ lines coming.rest ∷ [])
+      lining_next : Going from (lines (contained f)) text₀ behind text (line (entry head.begins (contour_at s f at)) ∷ lines coming.rest ∷ [])
       unfolding joined lines
-      lining-next =
+      lining_next =
           going_same _
           (append-nil (lines x.rest) ∙ ap lines (coming.is ∙ ap (λ (a : Entry). a ∷ coming.rest) (front_is s (from_bit f at) ∙ ap (λ (b : Header). entry b.begins (contour_at s f at)) (sym e)))
           ∙ ap (λ (l : List ℕ). line (entry head.begins (contour_at s f at)) ++ l) (sym (append-nil (lines coming.rest))))
           x.going
 
-      pub lining-room : behind + length (line (entry head.begins (contour_at s f at))) ≤ length text
-      lining-room = going_room lining-next
+      pub lining_room : behind + length (line (entry head.begins (contour_at s f at))) ≤ length text
+      lining_room = going_room lining_next
 
-      pub lining-more : {r : ℕ} {exit : List ℕ} → Put behind (line (entry head.begins (contour_at s f at))) text r exit → (z : ℕ) → z ≡ size_of s head
+      pub lining_more : {r : ℕ} {exit : List ℕ} → Put behind (line (entry head.begins (contour_at s f at))) text r exit → (z : ℕ) → z ≡ size_of s head
           → Lining s f n from text₀ r exit (i + 1) (at + z)
-      lining-more q z g = record {
+      lining_more q z g = record {
         high = omega arith;
         rest = coming.rest;
         due = subst (λ (y : ℕ). Rest s f n (i + 1) (at + y) coming.rest) (size_is s (from_bit f at) ∙ ap (size_of s) (sym e) ∙ sym g) coming.due;
-        going = going_more lining-next q;
+        going = going_more lining_next q;
       }
 
-  pub lining-all : n ≤ i → Put from (lines (contained f)) text₀ behind text
+  pub lining_all : n ≤ i → Put from (lines (contained f)) text₀ behind text
   unfolding joined lines
-  lining-all h =
+  lining_all h =
       let e : x.rest ≡ [] = done x.due (omega (arith, x.high)) in
       going_all (going_same [] (rw e) x.going)

@@ -2,7 +2,7 @@
 #![tactic(auto)]
 
 ghost use Rattle.std.specs.Prelude.{◌≤◌, length};
-ghost use Rattle.report.specs.Listing.{listing as listing-of};
+ghost use Rattle.report.specs.Listing.{listing as listing_of};
 
 use report::inner::listing;
 use report::{SHORT, TEXT};
@@ -13,7 +13,7 @@ const BYTES: usize = 65537;
 
 // Writes the listing of a file, by a row that has room for it.
 fn print(rt: &HostRuntime, bytes: &[u8], text: &mut [u8]) -> io::Result<()>
-    requires { length (listing-of bytes.now) ≤ length text.old }
+    requires { length (listing_of bytes.now) ≤ length text.old }
 {
     let length = listing::list(bytes, text);
     rt.stdout().write_all(&text[..length])
@@ -21,7 +21,7 @@ fn print(rt: &HostRuntime, bytes: &[u8], text: &mut [u8]) -> io::Result<()>
 
 // A row for few contours: it takes less to clear.
 fn short(rt: &HostRuntime, bytes: &[u8]) -> io::Result<()>
-    requires { length (listing-of bytes.now) ≤ 22537 }
+    requires { length (listing_of bytes.now) ≤ 22537 }
 {
     let mut text = [0u8; SHORT];
     print(rt, bytes, &mut text)
@@ -29,7 +29,7 @@ fn short(rt: &HostRuntime, bytes: &[u8]) -> io::Result<()>
 
 // A row for any file.
 fn long(rt: &HostRuntime, bytes: &[u8]) -> io::Result<()>
-    requires { length (listing-of bytes.now) ≤ 184312 }
+    requires { length (listing_of bytes.now) ≤ 184312 }
 {
     let mut text = [0u8; TEXT];
     print(rt, bytes, &mut text)

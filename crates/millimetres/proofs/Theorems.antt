@@ -13,9 +13,9 @@ use Rattle.millimetres.proofs.ExactLaws.{exact_from_zero, exact_below_zero}
 
 -- A float in units.
 module _ (s : Bool) (m : ℕ) (e : ℤ) where
-  pub the-units-have-the-float's-sign : units (fin s m e) ≡ signed s (size (fin s m e))
+  pub the_units_have_the_float's_sign : units (fin s m e) ≡ signed s (size (fin s m e))
   unfolding units size
-  the-units-have-the-float's-sign = refl
+  the_units_have_the_float's_sign = refl
 
   pub never-more-than-half-a-unit-off :
       (2 * (size (fin s m e) * down e) ≤ 2 * (scale * (m * up e)) + down e) × (2 * (scale * (m * up e)) ≤ 2 * (size (fin s m e) * down e) + down e)
@@ -24,18 +24,18 @@ module _ (s : Bool) (m : ℕ) (e : ℤ) where
       let h = near_is (scale * (m * up e)) (down e) (down_pos e) in
       (h.0, omega (arith, h.1))
 
-  pub halves-go-away-from-zero : (n : ℕ) → 2 * (scale * (m * up e)) ≡ 2 * (n * down e) + down e → size (fin s m e) ≡ suc n
+  pub halves_go_away_from_zero : (n : ℕ) → 2 * (scale * (m * up e)) ≡ 2 * (n * down e) + down e → size (fin s m e) ≡ suc n
   unfolding size
-  halves-go-away-from-zero n h = near_half (scale * (m * up e)) (down e) n (down_pos e) h
+  halves_go_away_from_zero n h = near_half (scale * (m * up e)) (down e) n (down_pos e) h
 
-  pub no-other-number-is-as-near : (n : ℕ) → 2 * (n * down e) < 2 * (scale * (m * up e)) + down e → 2 * (scale * (m * up e)) < 2 * (n * down e) + down e
+  pub no_other_number_is_as_near : (n : ℕ) → 2 * (n * down e) < 2 * (scale * (m * up e)) + down e → 2 * (scale * (m * up e)) < 2 * (n * down e) + down e
       → size (fin s m e) ≡ n
   unfolding size
-  no-other-number-is-as-near n lo hi = near_only (scale * (m * up e)) (down e) n (down_pos e) (omega arith) hi
+  no_other_number_is_as_near n lo hi = near_only (scale * (m * up e)) (down e) n (down_pos e) (omega arith) hi
 
-  pub less-than-half-a-unit-is-nought : 2 * (scale * (m * up e)) < down e → units (fin s m e) ≡ pos 0
-  less-than-half-a-unit-is-nought h =
-      the-units-have-the-float's-sign ∙ ap (signed s) (no-other-number-is-as-near 0 (omega (arith, zero-mul (down e))) (omega (arith, zero-mul (down e)))) ∙ no_sign s
+  pub less_than_half_a_unit_is_nought : 2 * (scale * (m * up e)) < down e → units (fin s m e) ≡ pos 0
+  less_than_half_a_unit_is_nought h =
+      the_units_have_the_float's_sign ∙ ap (signed s) (no_other_number_is_as_near 0 (omega (arith, zero-mul (down e))) (omega (arith, zero-mul (down e)))) ∙ no_sign s
     where
       no_sign : (t : Bool) → signed t 0 ≡ pos 0
       no_sign true = refl

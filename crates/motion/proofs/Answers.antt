@@ -16,11 +16,11 @@ use Rattle.grid.specs.Domain.{count, domain}
 use Rattle.grid.proofs.DomainLaws.{in_domain}
 use Rattle.replies.proofs.LadderLaws.{front_clear}
 use Rattle.area.specs.Answers.{empty, refusals as area_refusals}
-use Rattle.path.specs.Contains.{refusals as asked-refusals}
+use Rattle.path.specs.Contains.{refusals as asked_refusals}
 use Rattle.turned.specs.Starts.{started_at}
 use Rattle.turned.proofs.StartedLaws.{started-length}
 use Rattle.motion.specs.Moves.{shifted, reversed, StillOn}
-use Rattle.motion.proofs.Rows.{shifted-length, reversed-length, reversed_on, started-on}
+use Rattle.motion.proofs.Rows.{shifted-length, reversed-length, reversed_on, started_on}
 
 -- a row has as many numbers as another, and lies on the grid where that one does
 pub record Alike (row other : List ℤ) : Type 0 where
@@ -34,7 +34,7 @@ pub reversed_alike : (row : List ℤ) → Alike (reversed row) row
 reversed_alike row = record { long = reversed-length row; on = reversed_on limit row }
 
 pub started_alike : (k : ℕ) (row : List ℤ) → Alike (started_at k row) row
-started_alike k row = record { long = started-length k row; on = started-on k row limit }
+started_alike k row = record { long = started-length k row; on = started_on k row limit }
 
 -- an answer by the number of the first refusal, which leaves the rest open
 pub by_refusal : {X Y : Type 0} (tell : ℕ → X → Y) → ((k : ℕ) (a b : X) → tell (suc k) a ≡ tell (suc k) b)
@@ -48,9 +48,9 @@ module _ {row other : List ℤ} (x : Alike row other) where
   Even = length other ≡ 2 * count other
 
   -- what is asked of a contour
-  pub verdict-alike : (f : List Point → Bool) → (Even → f (points row) ≡ f (points other))
+  pub verdict_alike : (f : List Point → Bool) → (Even → f (points row) ≡ f (points other))
       → verdict (first_of (domain limit row)) (f (points row)) ≡ verdict (first_of (domain limit other)) (f (points other))
-  verdict-alike f e = by_refusal
+  verdict_alike f e = by_refusal
       verdict (λ k a b. refl)
       (first_of (domain limit row)) (first_of (domain limit other)) (rw (x.long, x.on))
       (f (points row)) (f (points other))
@@ -58,19 +58,19 @@ module _ {row other : List ℤ} (x : Alike row other) where
 
   module _ {X Y : Type 0} (tell : ℕ → X → Y) (rest : (k : ℕ) (a b : X) → tell (suc k) a ≡ tell (suc k) b) where
     -- what is told by the reported area, from the exact one
-    pub area-alike : (f : ℤ → X) → (Even → exact (points row) ≡ exact (points other))
+    pub area_alike : (f : ℤ → X) → (Even → exact (points row) ≡ exact (points other))
         → tell (first_of (area_refusals row)) (f (reported (points row))) ≡ tell (first_of (area_refusals other)) (f (reported (points other)))
-    area-alike f e = by_refusal
+    area_alike f e = by_refusal
         tell rest
         (first_of (area_refusals row)) (first_of (area_refusals other)) (rw (x.long, x.on))
         (f (reported (points row))) (f (reported (points other)))
         (λ z. ap (λ (v : ℤ). f (wrapped v)) (e (in_domain other (front_clear (domain limit other) (empty other) z)).even))
 
     -- what is asked of a contour and a point, of p beside the one row and of q beside the other
-    pub asked-alike : (p q : Point) → on limit p ≡ on limit q → (f : Point → List Point → X) → (Even → f p (points row) ≡ f q (points other))
-        → tell (first_of (asked-refusals p row)) (f p (points row)) ≡ tell (first_of (asked-refusals q other)) (f q (points other))
-    asked-alike p q same f e = by_refusal
+    pub asked_alike : (p q : Point) → on limit p ≡ on limit q → (f : Point → List Point → X) → (Even → f p (points row) ≡ f q (points other))
+        → tell (first_of (asked_refusals p row)) (f p (points row)) ≡ tell (first_of (asked_refusals q other)) (f q (points other))
+    asked_alike p q same f e = by_refusal
         tell rest
-        (first_of (asked-refusals p row)) (first_of (asked-refusals q other)) (rw (x.long, x.on, same))
+        (first_of (asked_refusals p row)) (first_of (asked_refusals q other)) (rw (x.long, x.on, same))
         (f p (points row)) (f q (points other))
         (λ z. e (in_domain other (front_clear (domain limit other) _ z)).even)

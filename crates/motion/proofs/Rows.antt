@@ -11,7 +11,7 @@ use Rattle.grid.specs.declared.Edge.{Edge}
 use Rattle.grid.specs.Limits.{all_on_grid}
 use Rattle.grid.specs.Points.{at, points}
 use Rattle.grid.specs.Domain.{count}
-use Rattle.grid.proofs.LimitLaws.{on-joined}
+use Rattle.grid.proofs.LimitLaws.{on_joined}
 use Rattle.turned.specs.Starts.{started_at}
 use Rattle.motion.specs.Moves.{shift, shifted, reversed}
 
@@ -48,49 +48,49 @@ module _ (d : Edge) where
   shifted-length (x ∷ []) = refl
   shifted-length (x ∷ y ∷ row) = ap (λ (n : ℕ). suc (suc n)) (shifted-length row)
 
-  pub shifted-points : (row : List ℤ) → points (shifted d row) ≡ map (shift d) (points row)
+  pub shifted_points : (row : List ℤ) → points (shifted d row) ≡ map (shift d) (points row)
   unfolding shifted points
-  shifted-points [] = refl
-  shifted-points (x ∷ []) = refl
-  shifted-points (x ∷ y ∷ row) = ap (λ (l : List Point). shift d (record { x = x; y = y }) ∷ l) (shifted-points row)
+  shifted_points [] = refl
+  shifted_points (x ∷ []) = refl
+  shifted_points (x ∷ y ∷ row) = ap (λ (l : List Point). shift d (record { x = x; y = y }) ∷ l) (shifted_points row)
 
-  pub shifted-x : (row : List ℤ) (i : ℕ) → i < count row → get_or (shifted d row) (2 * i) (pos 0) ≡ get_or row (2 * i) (pos 0) +ℤ d.dx
+  pub shifted_x : (row : List ℤ) (i : ℕ) → i < count row → get_or (shifted d row) (2 * i) (pos 0) ≡ get_or row (2 * i) (pos 0) +ℤ d.dx
   unfolding shifted
-  shifted-x [] i h = absurd (omega arith)
-  shifted-x (x ∷ []) i h = absurd (omega arith)
-  shifted-x (x ∷ y ∷ row) zero h = refl
-  shifted-x (x ∷ y ∷ row) (suc i) h = rw (two_more i) (shifted-x row i (omega arith))
+  shifted_x [] i h = absurd (omega arith)
+  shifted_x (x ∷ []) i h = absurd (omega arith)
+  shifted_x (x ∷ y ∷ row) zero h = refl
+  shifted_x (x ∷ y ∷ row) (suc i) h = rw (two_more i) (shifted_x row i (omega arith))
 
-  pub shifted-y : (row : List ℤ) (i : ℕ) → i < count row → get_or (shifted d row) (2 * i + 1) (pos 0) ≡ get_or row (2 * i + 1) (pos 0) +ℤ d.dy
+  pub shifted_y : (row : List ℤ) (i : ℕ) → i < count row → get_or (shifted d row) (2 * i + 1) (pos 0) ≡ get_or row (2 * i + 1) (pos 0) +ℤ d.dy
   unfolding shifted
-  shifted-y [] i h = absurd (omega arith)
-  shifted-y (x ∷ []) i h = absurd (omega arith)
-  shifted-y (x ∷ y ∷ row) zero h = refl
-  shifted-y (x ∷ y ∷ row) (suc i) h = let e : 2 * suc i + 1 ≡ suc (suc (2 * i + 1)) = omega arith in rw e (shifted-y row i (omega arith))
+  shifted_y [] i h = absurd (omega arith)
+  shifted_y (x ∷ []) i h = absurd (omega arith)
+  shifted_y (x ∷ y ∷ row) zero h = refl
+  shifted_y (x ∷ y ∷ row) (suc i) h = let e : 2 * suc i + 1 ≡ suc (suc (2 * i + 1)) = omega arith in rw e (shifted_y row i (omega arith))
 
   pub shifted_at : (row : List ℤ) (i : ℕ) → i < count row → at (shifted d row) i ≡ shift d (at row i)
-  shifted_at row i h = ap₂ {C = Point} (λ (u v : ℤ). record { x = u; y = v }) (shifted-x row i h) (shifted-y row i h)
+  shifted_at row i h = ap₂ {C = Point} (λ (u v : ℤ). record { x = u; y = v }) (shifted_x row i h) (shifted_y row i h)
 
   -- a shifted part, cut off behind whole points
-  pub shifted-taken : (n : ℕ) (row : List ℤ) → take (2 * n) (shifted d row) ≡ shifted d (take (2 * n) row)
+  pub shifted_taken : (n : ℕ) (row : List ℤ) → take (2 * n) (shifted d row) ≡ shifted d (take (2 * n) row)
   unfolding shifted
-  shifted-taken zero row = refl
-  shifted-taken (suc n) [] = rw (two_more n)
-  shifted-taken (suc n) (x ∷ []) = rw (two_more n)
-  shifted-taken (suc n) (x ∷ y ∷ row) = rw (two_more n) (ap (λ (l : List ℤ). (x +ℤ d.dx) ∷ (y +ℤ d.dy) ∷ l) (shifted-taken n row))
+  shifted_taken zero row = refl
+  shifted_taken (suc n) [] = rw (two_more n)
+  shifted_taken (suc n) (x ∷ []) = rw (two_more n)
+  shifted_taken (suc n) (x ∷ y ∷ row) = rw (two_more n) (ap (λ (l : List ℤ). (x +ℤ d.dx) ∷ (y +ℤ d.dy) ∷ l) (shifted_taken n row))
 
-  pub shifted-dropped : (n : ℕ) (row : List ℤ) → drop (2 * n) (shifted d row) ≡ shifted d (drop (2 * n) row)
+  pub shifted_dropped : (n : ℕ) (row : List ℤ) → drop (2 * n) (shifted d row) ≡ shifted d (drop (2 * n) row)
   unfolding shifted
-  shifted-dropped zero row = refl
-  shifted-dropped (suc n) [] = rw (two_more n)
-  shifted-dropped (suc n) (x ∷ []) = rw (two_more n)
-  shifted-dropped (suc n) (x ∷ y ∷ row) = rw (two_more n) (shifted-dropped n row)
+  shifted_dropped zero row = refl
+  shifted_dropped (suc n) [] = rw (two_more n)
+  shifted_dropped (suc n) (x ∷ []) = rw (two_more n)
+  shifted_dropped (suc n) (x ∷ y ∷ row) = rw (two_more n) (shifted_dropped n row)
 
-  pub shifted-joined : (a b : List ℤ) → length a ≡ 2 * count a → shifted d (a ++ b) ≡ shifted d a ++ shifted d b
+  pub shifted_joined : (a b : List ℤ) → length a ≡ 2 * count a → shifted d (a ++ b) ≡ shifted d a ++ shifted d b
   unfolding shifted
-  shifted-joined [] b h = refl
-  shifted-joined (x ∷ []) b h = absurd (omega arith)
-  shifted-joined (x ∷ y ∷ a) b h = ap (λ (l : List ℤ). (x +ℤ d.dx) ∷ (y +ℤ d.dy) ∷ l) (shifted-joined a b (omega arith))
+  shifted_joined [] b h = refl
+  shifted_joined (x ∷ []) b h = absurd (omega arith)
+  shifted_joined (x ∷ y ∷ a) b h = ap (λ (l : List ℤ). (x +ℤ d.dx) ∷ (y +ℤ d.dy) ∷ l) (shifted_joined a b (omega arith))
 
 pub reversed-length : (row : List ℤ) → length (reversed row) ≡ length row
 unfolding reversed
@@ -103,10 +103,10 @@ unfolding reversed
 reversed_on bound [] = refl
 reversed_on bound (x ∷ []) = refl
 reversed_on bound (x ∷ y ∷ row) =
-    on-joined bound (reversed row) (x ∷ y ∷ [])
+    on_joined bound (reversed row) (x ∷ y ∷ [])
     ∙ ap (λ (t : Bool). t && all_on_grid bound (x ∷ y ∷ [])) (reversed_on bound row)
     ∙ and_comm (all_on_grid bound row) (all_on_grid bound (x ∷ y ∷ []))
-    ∙ sym (on-joined bound (x ∷ y ∷ []) row)
+    ∙ sym (on_joined bound (x ∷ y ∷ []) row)
 
 pub reversed_points : (row : List ℤ) → length row ≡ 2 * count row → points (reversed row) ≡ reverse (points row)
 unfolding reversed points
@@ -118,14 +118,14 @@ reversed_points (x ∷ y ∷ row) h =
     ∙ sym (reverse-cons (record { x = x; y = y }) (points row))
 
 module _ (k : ℕ) (row : List ℤ) where
-  pub started-on : (bound : ℕ) → all_on_grid bound (started_at k row) ≡ all_on_grid bound row
-  started-on bound =
-      on-joined bound (drop (2 * k) row) (take (2 * k) row)
+  pub started_on : (bound : ℕ) → all_on_grid bound (started_at k row) ≡ all_on_grid bound row
+  started_on bound =
+      on_joined bound (drop (2 * k) row) (take (2 * k) row)
       ∙ and_comm (all_on_grid bound (drop (2 * k) row)) (all_on_grid bound (take (2 * k) row))
-      ∙ sym (on-joined bound (take (2 * k) row) (drop (2 * k) row))
+      ∙ sym (on_joined bound (take (2 * k) row) (drop (2 * k) row))
       ∙ ap (all_on_grid bound) (take-append-drop (2 * k) row)
 
-  pub started-points : length row ≡ 2 * count row → points (started_at k row) ≡ drop k (points row) ++ take k (points row)
-  started-points h =
+  pub started_points : length row ≡ 2 * count row → points (started_at k row) ≡ drop k (points row) ++ take k (points row)
+  started_points h =
       points_joined (drop (2 * k) row) (take (2 * k) row) (omega (arith, length-drop (2 * k) row))
       ∙ ap₂ ◌++◌ (points_dropped k row) (points_taken k row)

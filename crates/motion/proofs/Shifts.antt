@@ -51,139 +51,139 @@ module _ (d : Edge) where
   edge_stays a b = ap₂ {C = Edge} (λ (u v : ℤ). record { dx = u; dy = v }) (gap a.x b.x d.dx) (gap a.y b.y d.dy)
 
   -- a corner with its points shifted
-  abbrev pub corner-to : Corner → Corner
-  corner-to k = corner (to k.before) (to k.vertex) (to k.after)
+  abbrev pub corner_to : Corner → Corner
+  corner_to k = corner (to k.before) (to k.vertex) (to k.after)
 
   -- what the two edges of a corner tell
-  edges-tell : {X : Type 0} (f : Edge → Edge → X) (k : Corner) → f (edge_to (corner-to k)) (edge_from (corner-to k)) ≡ f (edge_to k) (edge_from k)
-  edges-tell f k = ap₂ f (edge_stays k.before k.vertex) (edge_stays k.vertex k.after)
+  edges_tell : {X : Type 0} (f : Edge → Edge → X) (k : Corner) → f (edge_to (corner_to k)) (edge_from (corner_to k)) ≡ f (edge_to k) (edge_from k)
+  edges_tell f k = ap₂ f (edge_stays k.before k.vertex) (edge_stays k.vertex k.after)
 
   -- so of either rule the same vertices go
-  pub goes-shifted : (rule : Rule) (k : Corner) → goes_at rule (corner-to k) ≡ goes_at rule k
-  goes-shifted rule k =
+  pub goes_shifted : (rule : Rule) (k : Corner) → goes_at rule (corner_to k) ≡ goes_at rule k
+  goes_shifted rule k =
       goes_edges rule (to k.before) (to k.vertex) (to k.after)
-      ∙ edges-tell (goes_along rule) k
+      ∙ edges_tell (goes_along rule) k
       ∙ sym (goes_edges rule k.before k.vertex k.after)
 
-  module _ (t : Corner → Bool) (stays : (k : Corner) → t (corner-to k) ≡ t k) where
-    some-from : (o a b : Point) (l : List Point) → some t (corners_from (to o) (to a) (to b) (map to l)) ≡ some t (corners_from o a b l)
+  module _ (t : Corner → Bool) (stays : (k : Corner) → t (corner_to k) ≡ t k) where
+    some_from : (o a b : Point) (l : List Point) → some t (corners_from (to o) (to a) (to b) (map to l)) ≡ some t (corners_from o a b l)
     unfolding some corners_from
-    some-from o a b [] = ap (λ (u : Bool). u || false) (stays (corner a b o))
-    some-from o a b (c ∷ l) = ap₂ ◌||◌ (stays (corner a b c)) (some-from o b c l)
+    some_from o a b [] = ap (λ (u : Bool). u || false) (stays (corner a b o))
+    some_from o a b (c ∷ l) = ap₂ ◌||◌ (stays (corner a b c)) (some_from o b c l)
 
-    some-shifted : (l : List Point) → some t (corners (map to l)) ≡ some t (corners l)
+    some_shifted : (l : List Point) → some t (corners (map to l)) ≡ some t (corners l)
     unfolding corners some
-    some-shifted [] = refl
-    some-shifted (o ∷ l) = ap (λ (z : Point). some t (corners_from (to o) z (to o) (map to l))) (last-map to o l) ∙ some-from o (last o l) o l
+    some_shifted [] = refl
+    some_shifted (o ∷ l) = ap (λ (z : Point). some t (corners_from (to o) z (to o) (map to l))) (last-map to o l) ∙ some_from o (last o l) o l
 
   some_left : (l : List Point) → some left_at (corners (map to l)) ≡ some left_at (corners l)
-  some_left = some-shifted left_at (edges-tell (λ u v. eq_z (turn u v) (pos 1)))
+  some_left = some_shifted left_at (edges_tell (λ u v. eq_z (turn u v) (pos 1)))
 
   some_right : (l : List Point) → some right_at (corners (map to l)) ≡ some right_at (corners l)
-  some_right = some-shifted right_at (edges-tell (λ u v. eq_z (turn u v) (negsuc 0)))
+  some_right = some_shifted right_at (edges_tell (λ u v. eq_z (turn u v) (negsuc 0)))
 
-  some-aligned : (l : List Point) → some aligned_at (corners (map to l)) ≡ some aligned_at (corners l)
-  some-aligned = some-shifted aligned_at (edges-tell aligned)
+  some_aligned : (l : List Point) → some aligned_at (corners (map to l)) ≡ some aligned_at (corners l)
+  some_aligned = some_shifted aligned_at (edges_tell aligned)
 
-  some-reverses : (l : List Point) → some reverses_at (corners (map to l)) ≡ some reverses_at (corners l)
-  some-reverses = some-shifted reverses_at (edges-tell reverses)
+  some_reverses : (l : List Point) → some reverses_at (corners (map to l)) ≡ some reverses_at (corners l)
+  some_reverses = some_shifted reverses_at (edges_tell reverses)
 
   -- equal points stay equal, and others differ
-  same-shifted : (a b : Point) → same (to a) (to b) ≡ same a b
-  same-shifted a b = same_after (to a) (to b) ∙ ap still (edge_stays a b) ∙ sym (same_after a b)
+  same_shifted : (a b : Point) → same (to a) (to b) ≡ same a b
+  same_shifted a b = same_after (to a) (to b) ∙ ap still (edge_stays a b) ∙ sym (same_after a b)
 
-  differing-shifted : (a : Point) (l : List Point) → differing (to a) (map to l) ≡ map to (differing a l)
+  differing_shifted : (a : Point) (l : List Point) → differing (to a) (map to l) ≡ map to (differing a l)
   unfolding differing
-  differing-shifted a [] = refl
-  differing-shifted a (b ∷ l) = go (same b a) refl (differing-shifted a l) (differing-shifted b l)
+  differing_shifted a [] = refl
+  differing_shifted a (b ∷ l) = go (same b a) refl (differing_shifted a l) (differing_shifted b l)
     where
       go : (t : Bool) → same b a ≡ t → differing (to a) (map to l) ≡ map to (differing a l) → differing (to b) (map to l) ≡ map to (differing b l)
           → differing (to a) (to b ∷ map to l) ≡ map to (differing a (b ∷ l))
-      go true e skipped kept = differing_skip (to a) (to b) (map to l) (same-shifted b a ∙ e) ∙ skipped ∙ ap (map to) (sym (differing_skip a b l e))
+      go true e skipped kept = differing_skip (to a) (to b) (map to l) (same_shifted b a ∙ e) ∙ skipped ∙ ap (map to) (sym (differing_skip a b l e))
       go false e skipped kept =
-          differing_keep (to a) (to b) (map to l) (same-shifted b a ∙ e)
+          differing_keep (to a) (to b) (map to l) (same_shifted b a ∙ e)
           ∙ ap (λ (r : List Point). to b ∷ r) kept ∙ ap (map to) (sym (differing_keep a b l e))
 
-  distinct-shifted : (l : List Point) → distinct_neighbours (map to l) ≡ map to (distinct_neighbours l)
+  distinct_shifted : (l : List Point) → distinct_neighbours (map to l) ≡ map to (distinct_neighbours l)
   unfolding distinct_neighbours
-  distinct-shifted [] = refl
-  distinct-shifted (o ∷ l) = ap (λ (p : Point). differing p (map to (o ∷ l))) (last-map to o l) ∙ differing-shifted (last o l) (o ∷ l)
+  distinct_shifted [] = refl
+  distinct_shifted (o ∷ l) = ap (λ (p : Point). differing p (map to (o ∷ l))) (last-map to o l) ∙ differing_shifted (last o l) (o ∷ l)
 
   -- the verdicts
-  pub passes-shifted : (rule : Rule) (l : List Point) → passes rule (map to l) ≡ passes rule l
+  pub passes_shifted : (rule : Rule) (l : List Point) → passes rule (map to l) ≡ passes rule l
   unfolding is_simple no_spikes spike_free_distinct
-  passes-shifted Collinear l = rw (length-map l to, some-aligned l)
-  passes-shifted Spike l = rw (length-map l to, distinct-shifted l, length-map (distinct_neighbours l) to, some-reverses (distinct_neighbours l))
+  passes_shifted Collinear l = rw (length-map l to, some_aligned l)
+  passes_shifted Spike l = rw (length-map l to, distinct_shifted l, length-map (distinct_neighbours l) to, some_reverses (distinct_neighbours l))
 
-  pub convex-shifted : (l : List Point) → is_convex (map to l) ≡ is_convex l
+  pub convex_shifted : (l : List Point) → is_convex (map to l) ≡ is_convex l
   unfolding is_convex convex_distinct
-  convex-shifted l =
+  convex_shifted l =
       let m = distinct_neighbours l in
-      rw (length-map l to, distinct-shifted l, length-map m to, some_left m, some_right m, some-reverses m)
+      rw (length-map l to, distinct_shifted l, length-map m to, some_left m, some_right m, some_reverses m)
 
   -- where an asked point lies, shifted too
   module _ (p : Point) where
-    meets-shifted : (l h : Point) → meets_right (to p) (to l) (to h) ≡ meets_right p l h
-    meets-shifted l h = rw (gap l.x p.x d.dx, gap l.y h.y d.dy, gap l.y p.y d.dy, gap l.x h.x d.dx)
+    meets_shifted : (l h : Point) → meets_right (to p) (to l) (to h) ≡ meets_right p l h
+    meets_shifted l h = rw (gap l.x p.x d.dx, gap l.y h.y d.dy, gap l.y p.y d.dy, gap l.x h.x d.dx)
 
-    crosses-shifted : (a b : Point) → crosses (to p) (to a) (to b) ≡ crosses p a b
+    crosses_shifted : (a b : Point) → crosses (to p) (to a) (to b) ≡ crosses p a b
     unfolding crosses
-    crosses-shifted a b =
+    crosses_shifted a b =
         let met : Bool → Bool → Bool → Bool = λ up s t. elim up [ true ↦ s | false ↦ t ] in
         ap₂ ◌&&◌ (ap₂ xor (less p.y a.y d.dy) (less p.y b.y d.dy))
         (ap (λ (up : Bool). met up (meets_right (to p) (to a) (to b)) (meets_right (to p) (to b) (to a))) (less a.y b.y d.dy)
-        ∙ ap₂ (met (lt_z a.y b.y)) (meets-shifted a b) (meets-shifted b a))
+        ∙ ap₂ (met (lt_z a.y b.y)) (meets_shifted a b) (meets_shifted b a))
 
-    amid-shifted : (a b z e : ℤ) → amid (a +ℤ e) (b +ℤ e) (z +ℤ e) ≡ amid a b z
-    amid-shifted a b z e = rw (at_most a z e, at_most z b e, at_most b z e, at_most z a e)
+    amid_shifted : (a b z e : ℤ) → amid (a +ℤ e) (b +ℤ e) (z +ℤ e) ≡ amid a b z
+    amid_shifted a b z e = rw (at_most a z e, at_most z b e, at_most b z e, at_most z a e)
 
-    on-edge-shifted : (a b : Point) → on_edge (to p) (to a) (to b) ≡ on_edge p a b
+    on_edge_shifted : (a b : Point) → on_edge (to p) (to a) (to b) ≡ on_edge p a b
     unfolding on_edge
-    on-edge-shifted a b =
-        ap₂ ◌||◌ (same-shifted p a)
-        (ap₂ ◌||◌ (same-shifted p b)
+    on_edge_shifted a b =
+        ap₂ ◌||◌ (same_shifted p a)
+        (ap₂ ◌||◌ (same_shifted p b)
         (ap₂ ◌&&◌ (ap₂ aligned (edge_stays a b) (edge_stays a p))
-        (ap₂ ◌&&◌ (amid-shifted a.x b.x p.x d.dx) (amid-shifted a.y b.y p.y d.dy))))
+        (ap₂ ◌&&◌ (amid_shifted a.x b.x p.x d.dx) (amid_shifted a.y b.y p.y d.dy))))
 
-    pub contained-shifted : (l : List Point) → contained (to p) (map to l) ≡ contained p l
-    contained-shifted l = contained_closed (to p) (map to l) ∙ closed-map xor false (crosses (to p)) (crosses p) to crosses-shifted l ∙ sym (contained_closed p l)
+    pub contained_shifted : (l : List Point) → contained (to p) (map to l) ≡ contained p l
+    contained_shifted l = contained_closed (to p) (map to l) ∙ closed-map xor false (crosses (to p)) (crosses p) to crosses_shifted l ∙ sym (contained_closed p l)
 
-    boundary-shifted : (l : List Point) → on_boundary (to p) (map to l) ≡ on_boundary p l
-    boundary-shifted l = boundary_closed (to p) (map to l) ∙ closed-map ◌||◌ false (on_edge (to p)) (on_edge p) to on-edge-shifted l ∙ sym (boundary_closed p l)
+    boundary_shifted : (l : List Point) → on_boundary (to p) (map to l) ≡ on_boundary p l
+    boundary_shifted l = boundary_closed (to p) (map to l) ∙ closed-map ◌||◌ false (on_edge (to p)) (on_edge p) to on_edge_shifted l ∙ sym (boundary_closed p l)
 
-    pub location-shifted : (l : List Point) → location (to p) (map to l) ≡ location p l
+    pub location_shifted : (l : List Point) → location (to p) (map to l) ≡ location p l
     unfolding location
-    location-shifted l = ap₂ place_by (boundary-shifted l) (contained-shifted l)
+    location_shifted l = ap₂ place_by (boundary_shifted l) (contained_shifted l)
 
   -- the exact area: along a way the shift adds what it has with its end, less what it has with its start
   abbrev added : Point → ℤ
   added a = cross d (from_origin a)
 
-  term-shifted : (a b : Point) → term (to a) (to b) ≡ term a b +ℤ (added b -ℤ added a)
+  term_shifted : (a b : Point) → term (to a) (to b) ≡ term a b +ℤ (added b -ℤ added a)
   unfolding cross
-  term-shifted a b =
+  term_shifted a b =
       ring
       ((# 0 :+ # 4) :* (# 3 :+ # 5) :- (# 1 :+ # 5) :* (# 2 :+ # 4))
       ((# 0 :* # 3 :- # 1 :* # 2) :+ ((# 4 :* # 3 :- # 5 :* # 2) :- (# 4 :* # 1 :- # 5 :* # 0)))
       (a.x ∷ a.y ∷ b.x ∷ b.y ∷ d.dx ∷ d.dy ∷ []) refl
 
-  along-shifted : (a : Point) (l : List Point) → along ◌+ℤ◌ (pos 0) term (to a) (map to l) ≡ along ◌+ℤ◌ (pos 0) term a l +ℤ (added (last a l) -ℤ added a)
+  along_shifted : (a : Point) (l : List Point) → along ◌+ℤ◌ (pos 0) term (to a) (map to l) ≡ along ◌+ℤ◌ (pos 0) term a l +ℤ (added (last a l) -ℤ added a)
   unfolding last
-  along-shifted a [] = ring (num (pos 0)) (num (pos 0) :+ (# 0 :- # 0)) (added a ∷ []) refl
-  along-shifted a (b ∷ l) =
-      ap₂ ◌+ℤ◌ (term-shifted a b) (along-shifted b l)
+  along_shifted a [] = ring (num (pos 0)) (num (pos 0) :+ (# 0 :- # 0)) (added a ∷ []) refl
+  along_shifted a (b ∷ l) =
+      ap₂ ◌+ℤ◌ (term_shifted a b) (along_shifted b l)
       ∙ ring
       ((# 0 :+ (# 1 :- # 2)) :+ (# 3 :+ (# 4 :- # 1)))
       ((# 0 :+ # 3) :+ (# 4 :- # 2))
       (term a b ∷ added b ∷ added a ∷ along ◌+ℤ◌ (pos 0) term b l ∷ added (last b l) ∷ []) refl
 
-  pub exact-shifted : (l : List Point) → exact (map to l) ≡ exact l
+  pub exact_shifted : (l : List Point) → exact (map to l) ≡ exact l
   unfolding last
-  exact-shifted l = exact_closed (map to l) ∙ round l ∙ sym (exact_closed l)
+  exact_shifted l = exact_closed (map to l) ∙ round l ∙ sym (exact_closed l)
     where
       round : (l : List Point) → closed ◌+ℤ◌ (pos 0) term (map to l) ≡ closed ◌+ℤ◌ (pos 0) term l
       round [] = refl
       round (o ∷ l) =
           ap (λ (z : Point). along ◌+ℤ◌ (pos 0) term z (map to (o ∷ l))) (last-map to o l)
-          ∙ along-shifted (last o l) (o ∷ l)
+          ∙ along_shifted (last o l) (o ∷ l)
           ∙ ring (# 0 :+ (# 1 :- # 1)) (# 0) (along ◌+ℤ◌ (pos 0) term (last o l) (o ∷ l) ∷ added (last o l) ∷ []) refl

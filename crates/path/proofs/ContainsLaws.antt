@@ -19,11 +19,11 @@ use Rattle.grid.specs.Edges.{between, cross, turns_left}
 use Rattle.grid.specs.Corners.{last}
 use Rattle.grid.specs.Domain.{count, domain, Contour}
 use Rattle.replies.specs.Ladder.{first_of}
-use Rattle.grid.proofs.RowLaws.{points_count, points-more, points-done}
+use Rattle.grid.proofs.RowLaws.{points_count, points_more, points_done}
 use Rattle.replies.proofs.LadderLaws.{first_is, stopped, onward}
 use Rattle.replies.proofs.LadderLaws.First.{here, past, foot}
-use Rattle.replies.proofs.VerdictLaws.{verdict-refused, verdict-given}
-use Rattle.grid.proofs.CornerLaws.{last-from}
+use Rattle.replies.proofs.VerdictLaws.{verdict_refused, verdict_given}
+use Rattle.grid.proofs.CornerLaws.{last_from}
 use Rattle.path.specs.Contains.{above, meets_right, crosses, odd, contained, refusals, contains}
 use Rattle.path.specs.inside.Contains.{Across, Changing, before}
 
@@ -45,20 +45,20 @@ xor_self true = refl
 xor_self false = refl
 
 module _ (p a b : Point) where
-  pub crosses-not : above p a ≡ above p b → crosses p a b ≡ false
+  pub crosses_not : above p a ≡ above p b → crosses p a b ≡ false
   unfolding crosses
-  crosses-not e = rw (e, xor_self (above p b))
+  crosses_not e = rw (e, xor_self (above p b))
 
   -- an edge that rises over p's horizontal, and one that falls below it
-  pub crosses-up : above p a ≡ false → above p b ≡ true → meets_right p a b ≡ crosses p a b
+  pub crosses_up : above p a ≡ false → above p b ≡ true → meets_right p a b ≡ crosses p a b
   unfolding crosses xor
-  crosses-up e f =
+  crosses_up e f =
       let t : lt_z a.y b.y ≡ true = lt_holds (of a.y) (of b.y) (omega (arith, lt_denies (of p.y) (of a.y) e, lt_means (of p.y) (of b.y) f)) in
       rw (e, f, t)
 
-  pub crosses-down : above p a ≡ true → above p b ≡ false → meets_right p b a ≡ crosses p a b
+  pub crosses_down : above p a ≡ true → above p b ≡ false → meets_right p b a ≡ crosses p a b
   unfolding crosses xor
-  crosses-down e f =
+  crosses_down e f =
       let t : lt_z a.y b.y ≡ false = lt_fails (of a.y) (of b.y) (omega (arith, lt_means (of p.y) (of a.y) e, lt_denies (of p.y) (of b.y) f)) in
       rw (e, f, t)
 
@@ -93,8 +93,8 @@ false_xor false = refl
 -- what an edge from the last point on begins with, of a contour that is not empty
 pub from_last : {row : List ℤ} {n : ℕ} → Contour row n → 0 < n → (f : Point → List Point → Bool) (g : List Point → Bool) → ((o : Point) (l : List Point) → g (o ∷ l) ≡ f (last o l) (o ∷ l)) → g (points row) ≡ f (at row (n - 1)) (points row)
 from_last {row} {n} c h f g is =
-    let e = points-more c 0 h in
-    ap g e ∙ is _ _ ∙ ap (λ (l : Point). f l (at row 0 ∷ drop 1 (points row))) (last-from c (n - 1) 0 (omega arith)) ∙ ap (f (at row (n - 1))) (sym e)
+    let e = points_more c 0 h in
+    ap g e ∙ is _ _ ∙ ap (λ (l : Point). f l (at row 0 ∷ drop 1 (points row))) (last_from c (n - 1) 0 (omega arith)) ∙ ap (f (at row (n - 1))) (sym e)
 
 module _ (row : List ℤ) (p : Point) where
   -- the parity so far, and that of the edges from a by position i on
@@ -115,18 +115,18 @@ module _ (row : List ℤ) (p : Point) where
       unfolding odd
       counted_more h = record {
         within = omega arith;
-        is = k.is ∙ ap (λ (l : List Point). xor sofar (odd p a l)) (points-more c i h) ∙ sym (xor_assoc sofar (crosses p a (at row i)) (odd p (at row i) (drop (i + 1) (points row))));
+        is = k.is ∙ ap (λ (l : List Point). xor sofar (odd p a l)) (points_more c i h) ∙ sym (xor_assoc sofar (crosses p a (at row i)) (odd p (at row i) (drop (i + 1) (points row))));
       }
 
       -- a point on the same side
       pub counted_beside : i < n → above p a ≡ above p (at row i) → Counted n sofar (at row i) (i + 1)
-      counted_beside h e = rw (xor_false sofar) at (rw (crosses-not p a (at row i) e) at (counted_more h))
+      counted_beside h e = rw (xor_false sofar) at (rw (crosses_not p a (at row i) e) at (counted_more h))
 
       pub counted_all : n ≤ i → sofar ≡ contained p (points row)
       unfolding odd
       counted_all h =
           let e : i ≡ n = omega (arith, k.within) in
-          sym (k.is ∙ ap (λ (l : List Point). xor sofar (odd p a l)) (points-done c i e) ∙ xor_false sofar)
+          sym (k.is ∙ ap (λ (l : List Point). xor sofar (odd p a l)) (points_done c i e) ∙ xor_false sofar)
 
 pub before_in : (n r : ℕ) → 0 < n → r ≤ n → before n r < n
 unfolding before
@@ -141,21 +141,21 @@ module _ (row : List ℤ) {n : ℕ} (q : Point) (up : Bool) (Known : Point → �
       let f : i + 1 + k ≡ i + suc k = omega arith in
       rw f at (run k (i + 1) (step _ _ x (omega arith) (s (i + 1) (omega arith) (omega arith))) (omega arith) (λ j l m. s j (omega arith) (omega arith)))
 
-  pub past-run : {r : ℕ} (i : ℕ) → Known (at row i) (i + 1) → Across row n (i + 1) q up r → Known (at row (r - 1)) r
-  past-run {r} i x y =
+  pub past_run : {r : ℕ} (i : ℕ) → Known (at row i) (i + 1) → Across row n (i + 1) q up r → Known (at row (r - 1)) r
+  past_run {r} i x y =
       let k = r - (i + 1) in
       let f : i + k ≡ r - 1 = omega (arith, y.from) in
       let g : r - 1 + 1 ≡ r = omega (arith, y.from) in
       rw g at (rw f at (run k i x (omega (arith, y.from, y.within)) (λ j l m. y.skipped j l (omega (arith, y.from)))))
 
   -- one that begins with the closing edge
-  pub past-first-run : 0 < n → Known (at row (n - 1)) 0 → (r : ℕ) → Across row n 0 q up r → Known (at row (before n r)) r
+  pub past_first_run : 0 < n → Known (at row (n - 1)) 0 → (r : ℕ) → Across row n 0 q up r → Known (at row (before n r)) r
   unfolding before
-  past-first-run h x zero y = x
-  past-first-run h x (suc k) y =
+  past_first_run h x zero y = x
+  past_first_run h x (suc k) y =
       let e : suc k - 1 ≡ k = omega arith in
       rw e at
-      (past-run 0 (step _ _ x h (y.skipped 0 (omega arith) (omega arith)))
+      (past_run 0 (step _ _ x h (y.skipped 0 (omega arith) (omega arith)))
       (record { from = omega arith; within = y.within; skipped = λ j l m. y.skipped j (omega arith) m; changed = y.changed }))
 
 module _ (row : List ℤ) (p : Point) {n : ℕ} (c : Contour row n) where
@@ -163,25 +163,25 @@ module _ (row : List ℤ) (p : Point) {n : ℕ} (c : Contour row n) where
   abbrev Sided : Bool → Bool → Point → ℕ → Type 0
   Sided sofar up a i = Counted row p n sofar a i × (above p a ≡ up)
 
-  sided-beside : {sofar up : Bool} (a : Point) (i : ℕ) → Sided sofar up a i → i < n → above p (at row i) ≡ up → Sided sofar up (at row i) (i + 1)
-  sided-beside a i x h e = (counted_beside row p c x.0 h (x.1 ∙ sym e), e)
+  sided_beside : {sofar up : Bool} (a : Point) (i : ℕ) → Sided sofar up a i → i < n → above p (at row i) ≡ up → Sided sofar up (at row i) (i + 1)
+  sided_beside a i x h e = (counted_beside row p c x.0 h (x.1 ∙ sym e), e)
 
-  pub changing-first : 0 < n → (r : ℕ) → Across row n 0 p (above p (at row (n - 1))) r → Changing row n p false (before n r) r
-  changing-first h r y =
-      let x = past-first-run row p (above p (at row (n - 1))) (Sided false (above p (at row (n - 1)))) sided-beside h (counted_none row p c h, refl) r y in
+  pub changing_first : 0 < n → (r : ℕ) → Across row n 0 p (above p (at row (n - 1))) r → Changing row n p false (before n r) r
+  changing_first h r y =
+      let x = past_first_run row p (above p (at row (n - 1))) (Sided false (above p (at row (n - 1)))) sided_beside h (counted_none row p c h, refl) r y in
       record { a_in = before_in n r h y.within; within = y.within; changes = λ l. y.changed l ∙ ap not (sym x.1); is = x.0.is }
 
   module _ {sofar : Bool} {a i : ℕ} (x : Changing row n p sofar a i) where
     counted : Counted row p n sofar (at row a) i
     counted = record { within = x.within; is = x.is }
 
-    pub changing-next : {t up : Bool} {r : ℕ} → i < n → t ≡ crosses p (at row a) (at row i) → above p (at row i) ≡ up → Across row n (i + 1) p up r → Changing row n p (xor sofar t) (r - 1) r
-    changing-next {t} {up} {r} h e f y =
-        let z = past-run row p up (Sided (xor sofar t) up) sided-beside i (rw (sym e) at (counted_more row p c counted h), f) y in
+    pub changing_next : {t up : Bool} {r : ℕ} → i < n → t ≡ crosses p (at row a) (at row i) → above p (at row i) ≡ up → Across row n (i + 1) p up r → Changing row n p (xor sofar t) (r - 1) r
+    changing_next {t} {up} {r} h e f y =
+        let z = past_run row p up (Sided (xor sofar t) up) sided_beside i (rw (sym e) at (counted_more row p c counted h), f) y in
         record { a_in = omega (arith, y.from, y.within); within = y.within; changes = λ l. y.changed l ∙ ap not (sym z.1); is = z.0.is }
 
-    pub changing-done : n ≤ i → sofar ≡ contained p (points row)
-    changing-done h = counted_all row p c counted h
+    pub changing_done : n ≤ i → sofar ≡ contained p (points row)
+    changing_done h = counted_all row p c counted h
 
 -- one side, or the other
 pub one_side : (t up : Bool) → beq t up ≡ true → t ≡ up
@@ -241,16 +241,16 @@ module _ (row : List ℤ) (x y : ℤ) where
   -- what is answered
   pub contains_refused : (k : ℕ) → k ≡ first_of (domain limit row) → (k ≡ 0 → ⊥) → record { reply = k; yes = false } ≡ contains row x y
   unfolding contains
-  contains_refused k e n = verdict-refused (refusals asked row) _ k (refused_domain k e n) n
+  contains_refused k e n = verdict_refused (refusals asked row) _ k (refused_domain k e n) n
 
   module _ (e : first_of (domain limit row) ≡ 0) where
     pub contains_off : on limit asked ≡ false → record { reply = 3; yes = false } ≡ contains row x y
     unfolding contains
-    contains_off f = verdict-refused (refusals asked row) _ 3 (refused_off e f) (λ z. absurd (omega arith))
+    contains_off f = verdict_refused (refusals asked row) _ 3 (refused_off e f) (λ z. absurd (omega arith))
 
     pub contains_given : (b : Bool) → on limit asked ≡ true → b ≡ contained asked (points row) → record { reply = 0; yes = b } ≡ contains row x y
     unfolding contains
-    contains_given b f g = verdict-given (refusals asked row) _ b (refused_none e f) g
+    contains_given b f g = verdict_given (refusals asked row) _ b (refused_none e f) g
 
 pub nothing_contained : (p : Point) (row : List ℤ) → count row ≡ 0 → false ≡ contained p (points row)
 unfolding contained

@@ -16,13 +16,13 @@ use Rattle.grid.specs.declared.Point.{Point}
 use Rattle.grid.specs.Points.{at, on, points, same}
 use Rattle.grid.specs.Domain.{count, domain, Contour}
 use Rattle.replies.specs.Ladder.{first_of}
-use Rattle.grid.proofs.RowLaws.{points_count, points-more, points-done}
+use Rattle.grid.proofs.RowLaws.{points_count, points_more, points_done}
 use Rattle.path.specs.Contains.{above, crosses, contained}
 use Rattle.path.specs.Locate.{on_edge, touched, on_boundary, location, answer, located}
 use Rattle.path.specs.inside.Contains.{Across, before}
 use Rattle.path.specs.inside.Locate.{under, Untouched}
-use Rattle.path.proofs.ContainsLaws.{Counted, counted_none, counted_more, counted_beside, counted_all, from_last, before_in, past-run, past-first-run, nothing_contained, refused_domain, refused_off, refused_none}
-use Rattle.path.proofs.OnEdge.{not_under, not-over}
+use Rattle.path.proofs.ContainsLaws.{Counted, counted_none, counted_more, counted_beside, counted_all, from_last, before_in, past_run, past_first_run, nothing_contained, refused_domain, refused_off, refused_none}
+use Rattle.path.proofs.OnEdge.{not_under, not_over}
 
 -- what lies below p's horizontal is not p, nor above it
 below_low : (p a : Point) → above (under p) a ≡ false → above p a ≡ false
@@ -60,7 +60,7 @@ module _ (row : List ℤ) (p : Point) where
     module _ {sofar : Bool} {a : Point} {i : ℕ} (k : Passed n sofar a i) where
       next_edge : i < n → on_boundary p (points row) ≡ (on_edge p a (at row i) || touched p (at row i) (drop (i + 1) (points row)))
       unfolding touched
-      next_edge h = k.boundary ∙ ap (touched p a) (points-more c i h)
+      next_edge h = k.boundary ∙ ap (touched p a) (points_more c i h)
 
       passed_more : i < n → on_edge p a (at row i) ≡ false → Passed n (xor sofar (crosses p a (at row i))) (at row i) (i + 1)
       passed_more h e = record { counted = counted_more row p c k.counted h; boundary = rw e at (next_edge h) }
@@ -77,7 +77,7 @@ module _ (row : List ℤ) (p : Point) where
       unfolding touched location
       passed_all h =
           let e : i ≡ n = omega (arith, k.counted.within) in
-          let b : on_boundary p (points row) ≡ false = k.boundary ∙ ap (touched p a) (points-done c i e) in
+          let b : on_boundary p (points row) ≡ false = k.boundary ∙ ap (touched p a) (points_done c i e) in
           sym (ap₂ place_by b (sym (counted_all row p c k.counted h)))
 
 module _ (row : List ℤ) (p : Point) {n : ℕ} (c : Contour row n) where
@@ -94,7 +94,7 @@ module _ (row : List ℤ) (p : Point) {n : ℕ} (c : Contour row n) where
   low_beside : {sofar : Bool} (a : Point) (i : ℕ) → Low sofar a i → i < n → above (under p) (at row i) ≡ false → Low sofar (at row i) (i + 1)
   low_beside a i x h e =
       let low = below_low p (at row i) e in
-      (passed_beside row p c x.0 h (not-over p a (at row i) x.1 x.2 e) (x.1 ∙ sym low), low, below_other p (at row i) e)
+      (passed_beside row p c x.0 h (not_over p a (at row i) x.1 x.2 e) (x.1 ∙ sym low), low, below_other p (at row i) e)
 
   -- an edge that leaves a run
   past_high : {sofar : Bool} {i a r : ℕ} → a < n → Across row n i p true r → High sofar (at row a) r → Untouched row n p sofar a r
@@ -106,13 +106,13 @@ module _ (row : List ℤ) (p : Point) {n : ℕ} (c : Contour row n) where
   -- the first edge that may have p: by the side of the last point
   module _ (h : 0 < n) where
     pub first_from_above : (r : ℕ) → above p (at row (n - 1)) ≡ true → Across row n 0 p true r → Untouched row n p false (before n r) r
-    first_from_above r e y = past_high (before_in n r h y.within) y (past-first-run row p true (High false) high_beside h (passed_none row p c h, e) r y)
+    first_from_above r e y = past_high (before_in n r h y.within) y (past_first_run row p true (High false) high_beside h (passed_none row p c h, e) r y)
 
     pub first_from_below : (r : ℕ) → above (at row (n - 1)) p ≡ true → Across row n 0 (under p) false r → Untouched row n p false (before n r) r
     first_from_below r e y =
         let below : above (under p) (at row (n - 1)) ≡ false = lt_fails (of p.y less num 1) (of (at row (n - 1)).y) (omega (arith, lt_means (of (at row (n - 1)).y) (of p.y) e)) in
         past_low (before_in n r h y.within) y
-        (past-first-run row (under p) false (Low false) low_beside h (passed_none row p c h, below_low p (at row (n - 1)) below, below_other p (at row (n - 1)) below) r y)
+        (past_first_run row (under p) false (Low false) low_beside h (passed_none row p c h, below_low p (at row (n - 1)) below, below_other p (at row (n - 1)) below) r y)
 
     pub first_from_level : above p (at row (n - 1)) ≡ false → Untouched row n p false (before n 0) 0
     unfolding before
@@ -131,11 +131,11 @@ module _ (row : List ℤ) (p : Point) {n : ℕ} (c : Contour row n) where
     module _ (h : i < n) (e : on_edge p (at row a) (at row i) ≡ false) where
       pub untouched_above : {t : Bool} {r : ℕ} → t ≡ crosses p (at row a) (at row i) → above p (at row i) ≡ true → Across row n (i + 1) p true r → Untouched row n p (xor sofar t) (r - 1) r
       untouched_above {t} f g y =
-          past_high (omega (arith, y.from, y.within)) y (past-run row p true (High (xor sofar t)) high_beside i (rw (sym f) at (passed_more row p c passed h e), g) y)
+          past_high (omega (arith, y.from, y.within)) y (past_run row p true (High (xor sofar t)) high_beside i (rw (sym f) at (passed_more row p c passed h e), g) y)
 
       low_on : {s : Bool} {r : ℕ} → Passed row p n s (at row i) (i + 1) → above p (at row i) ≡ false → Across row n (i + 1) (under p) false r → Untouched row n p s (r - 1) r
       low_on {s} k g y =
-          past_low (omega (arith, y.from, y.within)) y (past-run row (under p) false (Low s) low_beside i (k, g, end_other p (at row a) (at row i) e) y)
+          past_low (omega (arith, y.from, y.within)) y (past_run row (under p) false (Low s) low_beside i (k, g, end_other p (at row a) (at row i) e) y)
 
       pub untouched_falling : {t : Bool} {r : ℕ} → t ≡ crosses p (at row a) (at row i) → above p (at row i) ≡ false → Across row n (i + 1) (under p) false r → Untouched row n p (xor sofar t) (r - 1) r
       untouched_falling f g y = low_on (rw (sym f) at (passed_more row p c passed h e)) g y
@@ -158,15 +158,15 @@ answer_refused (suc k) z n = refl
 
 -- the question as a whole
 module _ (row : List ℤ) (x y : ℤ) where
-  pub located-refused : (k : ℕ) → k ≡ first_of (domain limit row) → (k ≡ 0 → ⊥) → record { reply = k; place = 0 } ≡ located row x y
+  pub located_refused : (k : ℕ) → k ≡ first_of (domain limit row) → (k ≡ 0 → ⊥) → record { reply = k; place = 0 } ≡ located row x y
   unfolding located
-  located-refused k e n = rw (← refused_domain row x y k e n) (answer_refused k _ n)
+  located_refused k e n = rw (← refused_domain row x y k e n) (answer_refused k _ n)
 
   module _ (e : first_of (domain limit row) ≡ 0) where
-    pub located-off : on limit (record { x = x; y = y }) ≡ false → record { reply = 3; place = 0 } ≡ located row x y
+    pub located_off : on limit (record { x = x; y = y }) ≡ false → record { reply = 3; place = 0 } ≡ located row x y
     unfolding located
-    located-off f = rw (← refused_off row x y e f)
+    located_off f = rw (← refused_off row x y e f)
 
-    pub located-given : (k : ℕ) → on limit (record { x = x; y = y }) ≡ true → k ≡ location (record { x = x; y = y }) (points row) → record { reply = 0; place = k } ≡ located row x y
+    pub located_given : (k : ℕ) → on limit (record { x = x; y = y }) ≡ true → k ≡ location (record { x = x; y = y }) (points row) → record { reply = 0; place = k } ≡ located row x y
     unfolding located
-    located-given k f g = rw (refused_none row x y e f, g)
+    located_given k f g = rw (refused_none row x y e f, g)

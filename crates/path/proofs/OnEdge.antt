@@ -49,11 +49,11 @@ factor_not_below (negsuc m) (negsuc n) f g = absurd (true≢false (sym f))
 
 -- d is to w as t to h, and t lies from 0 to h: so d lies from 0 to w
 module _ (h t w d : ℤ) (whole : lt_z (pos 0) h ≡ true) (part : le_z (pos 0) t ≡ true) (rest : le_z (pos 0) (h -ℤ t) ≡ true) (wide : le_z (pos 0) w ≡ true) (e : h *ℤ d ≡ w *ℤ t) where
-  part-not-below : le_z (pos 0) d ≡ true
-  part-not-below = factor_not_below h d whole (rw e (product_not_below w t wide part))
+  part_not_below : le_z (pos 0) d ≡ true
+  part_not_below = factor_not_below h d whole (rw e (product_not_below w t wide part))
 
-  part-at-most : le_z (pos 0) (w -ℤ d) ≡ true
-  part-at-most =
+  part_at_most : le_z (pos 0) (w -ℤ d) ≡ true
+  part_at_most =
       let f : h *ℤ (w -ℤ d) ≡ w *ℤ (h -ℤ t) = ring_by (# 0 :* (# 2 :- # 3)) (# 2 :* (# 0 :- # 1)) (const (negsuc 0)) (# 0 :* # 3) (# 2 :* # 1) (h ∷ t ∷ w ∷ d ∷ []) e refl in
       factor_not_below h (w -ℤ d) whole (rw f (product_not_below w (h -ℤ t) wide rest))
 
@@ -67,17 +67,17 @@ and_turned false false u = sym (and-false u)
 
 -- from the smaller to the larger, in either order
 module _ (a b z : ℤ) where
-  amid-up : AtMost a z → AtMost z b → amid a b z ≡ true
-  amid-up f g = rw (le_holds (of a) (of z) f, le_holds (of z) (of b) g)
+  amid_up : AtMost a z → AtMost z b → amid a b z ≡ true
+  amid_up f g = rw (le_holds (of a) (of z) f, le_holds (of z) (of b) g)
 
-  amid-down : AtMost b z → AtMost z a → amid a b z ≡ true
-  amid-down f g = rw (le_holds (of b) (of z) f, le_holds (of z) (of a) g) (or-true (le_z a z && le_z z b))
+  amid_down : AtMost b z → AtMost z a → amid a b z ≡ true
+  amid_down f g = rw (le_holds (of b) (of z) f, le_holds (of z) (of a) g) (or-true (le_z a z && le_z z b))
 
-  amid-swap : amid a b z ≡ amid b a z
-  amid-swap = or_comm (le_z a z && le_z z b) (le_z b z && le_z z a)
+  amid_swap : amid a b z ≡ amid b a z
+  amid_swap = or_comm (le_z a z && le_z z b) (le_z b z && le_z z a)
 
-  amid-means : amid a b z ≡ true → ((AtMost a z) × (AtMost z b) → ⊥) → (AtMost b z) × (AtMost z a)
-  amid-means e n = go (le_z a z && le_z z b) refl
+  amid_means : amid a b z ≡ true → ((AtMost a z) × (AtMost z b) → ⊥) → (AtMost b z) × (AtMost z a)
+  amid_means e n = go (le_z a z && le_z z b) refl
     where
       go : (t : Bool) → (le_z a z && le_z z b) ≡ t → (AtMost b z) × (AtMost z a)
       go true f = absurd (n (le_means (of a) (of z) (and_left (le_z a z) (le_z z b) f), le_means (of z) (of b) (and_right (le_z a z) (le_z z b) f)))
@@ -90,8 +90,8 @@ amid_ends : (a b : ℤ) → (amid a b a ≡ true) × (amid a b b ≡ true)
 amid_ends a b = go (dec_le (up (of a) + dn (of b)) (up (of b) + dn (of a)))
   where
     go : Dec (AtMost a b) → (amid a b a ≡ true) × (amid a b b ≡ true)
-    go (yes h) = (amid-up a b a (omega arith) h, amid-up a b b h (omega arith))
-    go (no h) = (amid-down a b a (omega arith) (omega arith), amid-down a b b (omega arith) (omega arith))
+    go (yes h) = (amid_up a b a (omega arith) h, amid_up a b b h (omega arith))
+    go (no h) = (amid_down a b a (omega arith) (omega arith), amid_down a b b (omega arith) (omega arith))
 
 -- what the code tests: p lies between the ends in y and in x, and on their line
 abbrev tested : Point → Point → Point → Bool
@@ -128,7 +128,7 @@ pub on_edge_swap : (p a b : Point) → on_edge p a b ≡ on_edge p b a
 unfolding cross
 on_edge_swap p a b =
     sym (what_is_tested p a b)
-    ∙ ap₂ ◌&&◌ (amid-swap a.y b.y p.y) (ap₂ ◌&&◌ (amid-swap a.x b.x p.x) (opposite (cross (between a b) (between a p)) ∙ ap (λ (z : ℤ). eq_z z (pos 0)) turned))
+    ∙ ap₂ ◌&&◌ (amid_swap a.y b.y p.y) (ap₂ ◌&&◌ (amid_swap a.x b.x p.x) (opposite (cross (between a b) (between a p)) ∙ ap (λ (z : ℤ). eq_z z (pos 0)) turned))
     ∙ what_is_tested p b a
   where
     opposite : (z : ℤ) → eq_z z (pos 0) ≡ eq_z (neg_ℤ z) (pos 0)
@@ -152,23 +152,23 @@ not_under p a b e f = sym (what_is_tested p a b) ∙ go (amid a.y b.y p.y) refl
 
     go : (s : Bool) → amid a.y b.y p.y ≡ s → tested p a b ≡ false
     go false g = rw g
-    go true g = absurd (over b f (amid-means a.y b.y p.y g (λ h. over a e h.0)).0)
+    go true g = absurd (over b f (amid_means a.y b.y p.y g (λ h. over a e h.0)).0)
 
 -- the start not above p's horizontal, and not p, and the end below
 module _ (p a b : Point) (low : above p a ≡ false) (other : same p a ≡ false) (below : above (under p) b ≡ false) where
   end_below : AtMost p.y b.y → ⊥
   end_below h = omega (arith, lt_denies (of p.y less num 1) (of b.y) below)
 
-  start-low : AtMost a.y p.y
-  start-low = lt_denies (of p.y) (of a.y) low
+  start_low : AtMost a.y p.y
+  start_low = lt_denies (of p.y) (of a.y) low
 
   level : amid a.y b.y p.y ≡ true → p.y ≡ a.y
-  level g = both_at_most p.y a.y (amid-means a.y b.y p.y g (λ h. end_below h.1)).1 start-low
+  level g = both_at_most p.y a.y (amid_means a.y b.y p.y g (λ h. end_below h.1)).1 start_low
 
   -- an edge that leaves p's horizontal for below meets it in its start alone
-  only-there : aligned (between a b) (between a p) ≡ true → p.y ≡ a.y → p.x ≡ a.x
+  only_there : aligned (between a b) (between a p) ≡ true → p.y ≡ a.y → p.x ≡ a.x
   unfolding cross
-  only-there g e =
+  only_there g e =
       let f : cross (between a b) (between a p) ≡ pos 0 = eq_z_true _ _ g in
       let h : (b.x -ℤ a.x) *ℤ (a.y -ℤ a.y) -ℤ (b.y -ℤ a.y) *ℤ (p.x -ℤ a.x) ≡ pos 0 = rw e at f in
       let k : (a.y -ℤ b.y) *ℤ (p.x -ℤ a.x) ≡ pos 0 *ℤ pos 0 =
@@ -176,60 +176,60 @@ module _ (p a b : Point) (low : above p a ≡ false) (other : same p a ≡ false
       let whole : lt_z (pos 0) (a.y -ℤ b.y) ≡ true = lt_holds (num 0) (of a.y less of b.y) (omega (arith, same_parts (of p.y) (of a.y) e, end_below)) in
       let rest : le_z (pos 0) (a.y -ℤ b.y -ℤ pos 0) ≡ true = le_holds (num 0) (of a.y less of b.y less num 0) (omega (arith, lt_means (num 0) (of a.y less of b.y) whole)) in
       both_at_most p.x a.x
-      (omega (arith, le_means (num 0) (num 0 less (of p.x less of a.x)) (part-at-most (a.y -ℤ b.y) (pos 0) (pos 0) (p.x -ℤ a.x) whole refl rest refl k)))
-      (omega (arith, le_means (num 0) (of p.x less of a.x) (part-not-below (a.y -ℤ b.y) (pos 0) (pos 0) (p.x -ℤ a.x) whole refl rest refl k)))
+      (omega (arith, le_means (num 0) (num 0 less (of p.x less of a.x)) (part_at_most (a.y -ℤ b.y) (pos 0) (pos 0) (p.x -ℤ a.x) whole refl rest refl k)))
+      (omega (arith, le_means (num 0) (of p.x less of a.x) (part_not_below (a.y -ℤ b.y) (pos 0) (pos 0) (p.x -ℤ a.x) whole refl rest refl k)))
 
-  pub not-over : on_edge p a b ≡ false
-  not-over = sym (what_is_tested p a b) ∙ go (amid a.y b.y p.y) (aligned (between a b) (between a p)) refl refl
+  pub not_over : on_edge p a b ≡ false
+  not_over = sym (what_is_tested p a b) ∙ go (amid a.y b.y p.y) (aligned (between a b) (between a p)) refl refl
     where
       go : (s t : Bool) → amid a.y b.y p.y ≡ s → aligned (between a b) (between a p) ≡ t → tested p a b ≡ false
       go false t g h = rw g
       go true false g h = rw (g, h) (and-false (amid a.x b.x p.x))
       go true true g h =
-          let e : same p a ≡ true = rw (only-there h (level g), level g, eq_z_same a.x) (eq_z_same a.y) in
+          let e : same p a ≡ true = rw (only_there h (level g), level g, eq_z_same a.x) (eq_z_same a.y) in
           absurd (true≢false (sym e ∙ other))
 
 -- an edge from l, not above p's horizontal, to h above it has p where it does not turn on to p
 module _ (p l h : Point) (low : above p l ≡ false) (high : above p h ≡ true) where
-  l-low : AtMost l.y p.y
-  l-low = lt_denies (of p.y) (of l.y) low
+  l_low : AtMost l.y p.y
+  l_low = lt_denies (of p.y) (of l.y) low
 
-  h-high : AtMost p.y h.y
-  h-high = omega (arith, lt_means (of p.y) (of h.y) high)
+  h_high : AtMost p.y h.y
+  h_high = omega (arith, lt_means (of p.y) (of h.y) high)
 
   -- p on the line lies between the ends also in x
-  between-in-x : cross (between l h) (between l p) ≡ pos 0 → amid l.x h.x p.x ≡ true
+  between_in_x : cross (between l h) (between l p) ≡ pos 0 → amid l.x h.x p.x ≡ true
   unfolding cross
-  between-in-x f = go (dec_le (up (of l.x) + dn (of h.x)) (up (of h.x) + dn (of l.x)))
+  between_in_x f = go (dec_le (up (of l.x) + dn (of h.x)) (up (of h.x) + dn (of l.x)))
     where
       whole : lt_z (pos 0) (h.y -ℤ l.y) ≡ true
-      whole = lt_holds (num 0) (of h.y less of l.y) (omega (arith, l-low, lt_means (of p.y) (of h.y) high))
+      whole = lt_holds (num 0) (of h.y less of l.y) (omega (arith, l_low, lt_means (of p.y) (of h.y) high))
 
       part : le_z (pos 0) (p.y -ℤ l.y) ≡ true
-      part = le_holds (num 0) (of p.y less of l.y) (omega (arith, l-low))
+      part = le_holds (num 0) (of p.y less of l.y) (omega (arith, l_low))
 
       rest : le_z (pos 0) (h.y -ℤ l.y -ℤ (p.y -ℤ l.y)) ≡ true
-      rest = le_holds (num 0) (of h.y less of l.y less (of p.y less of l.y)) (omega (arith, h-high))
+      rest = le_holds (num 0) (of h.y less of l.y less (of p.y less of l.y)) (omega (arith, h_high))
 
       go : Dec (AtMost l.x h.x) → amid l.x h.x p.x ≡ true
       go (yes o) =
           let wide : le_z (pos 0) (h.x -ℤ l.x) ≡ true = le_holds (num 0) (of h.x less of l.x) (omega arith) in
           let e : (h.y -ℤ l.y) *ℤ (p.x -ℤ l.x) ≡ (h.x -ℤ l.x) *ℤ (p.y -ℤ l.y) =
           ring_by ((# 3 :- # 1) :* (# 4 :- # 0)) ((# 2 :- # 0) :* (# 5 :- # 1)) (const (negsuc 0)) ((# 2 :- # 0) :* (# 5 :- # 1) :- (# 3 :- # 1) :* (# 4 :- # 0)) (const (pos 0)) (l.x ∷ l.y ∷ h.x ∷ h.y ∷ p.x ∷ p.y ∷ []) f refl in
-          amid-up l.x h.x p.x
-          (omega (arith, le_means (num 0) (of p.x less of l.x) (part-not-below (h.y -ℤ l.y) (p.y -ℤ l.y) (h.x -ℤ l.x) (p.x -ℤ l.x) whole part rest wide e)))
-          (omega (arith, le_means (num 0) (of h.x less of l.x less (of p.x less of l.x)) (part-at-most (h.y -ℤ l.y) (p.y -ℤ l.y) (h.x -ℤ l.x) (p.x -ℤ l.x) whole part rest wide e)))
+          amid_up l.x h.x p.x
+          (omega (arith, le_means (num 0) (of p.x less of l.x) (part_not_below (h.y -ℤ l.y) (p.y -ℤ l.y) (h.x -ℤ l.x) (p.x -ℤ l.x) whole part rest wide e)))
+          (omega (arith, le_means (num 0) (of h.x less of l.x less (of p.x less of l.x)) (part_at_most (h.y -ℤ l.y) (p.y -ℤ l.y) (h.x -ℤ l.x) (p.x -ℤ l.x) whole part rest wide e)))
       go (no o) =
           let wide : le_z (pos 0) (l.x -ℤ h.x) ≡ true = le_holds (num 0) (of l.x less of h.x) (omega arith) in
           let e : (h.y -ℤ l.y) *ℤ (l.x -ℤ p.x) ≡ (l.x -ℤ h.x) *ℤ (p.y -ℤ l.y) =
           ring_by ((# 3 :- # 1) :* (# 0 :- # 4)) ((# 0 :- # 2) :* (# 5 :- # 1)) (const (pos 1)) ((# 2 :- # 0) :* (# 5 :- # 1) :- (# 3 :- # 1) :* (# 4 :- # 0)) (const (pos 0)) (l.x ∷ l.y ∷ h.x ∷ h.y ∷ p.x ∷ p.y ∷ []) f refl in
-          amid-down l.x h.x p.x
-          (omega (arith, le_means (num 0) (of l.x less of h.x less (of l.x less of p.x)) (part-at-most (h.y -ℤ l.y) (p.y -ℤ l.y) (l.x -ℤ h.x) (l.x -ℤ p.x) whole part rest wide e)))
-          (omega (arith, le_means (num 0) (of l.x less of p.x) (part-not-below (h.y -ℤ l.y) (p.y -ℤ l.y) (l.x -ℤ h.x) (l.x -ℤ p.x) whole part rest wide e)))
+          amid_down l.x h.x p.x
+          (omega (arith, le_means (num 0) (of l.x less of h.x less (of l.x less of p.x)) (part_at_most (h.y -ℤ l.y) (p.y -ℤ l.y) (l.x -ℤ h.x) (l.x -ℤ p.x) whole part rest wide e)))
+          (omega (arith, le_means (num 0) (of l.x less of p.x) (part_not_below (h.y -ℤ l.y) (p.y -ℤ l.y) (l.x -ℤ h.x) (l.x -ℤ p.x) whole part rest wide e)))
 
-  turn-tells : eq_z (turn (between l h) (between h p)) (pos 0) ≡ on_edge p l h
+  turn_tells : eq_z (turn (between l h) (between h p)) (pos 0) ≡ on_edge p l h
   unfolding cross
-  turn-tells =
+  turn_tells =
       sym (sign_zero (cross (between l h) (between h p)))
       ∙ ap (λ (z : ℤ). eq_z z (pos 0)) onward
       ∙ go (aligned (between l h) (between l p)) refl
@@ -242,21 +242,21 @@ module _ (p l h : Point) (low : above p l ≡ false) (high : above p h ≡ true)
           ((# 2 :- # 0) :* (# 5 :- # 1) :- (# 3 :- # 1) :* (# 4 :- # 0))
           (l.x ∷ l.y ∷ h.x ∷ h.y ∷ p.x ∷ p.y ∷ []) refl
 
-      in-y : amid l.y h.y p.y ≡ true
-      in-y = amid-up l.y h.y p.y l-low h-high
+      in_y : amid l.y h.y p.y ≡ true
+      in_y = amid_up l.y h.y p.y l_low h_high
 
       go : (t : Bool) → aligned (between l h) (between l p) ≡ t → aligned (between l h) (between l p) ≡ tested p l h
-      go true e = e ∙ sym (rw (in-y, between-in-x (eq_z_true _ _ e), e))
-      go false e = e ∙ sym (rw (in-y, e) (and-false (amid l.x h.x p.x)))
+      go true e = e ∙ sym (rw (in_y, between_in_x (eq_z_true _ _ e), e))
+      go false e = e ∙ sym (rw (in_y, e) (and-false (amid l.x h.x p.x)))
 
-  pub turn-met : turn (between l h) (between h p) ≡ pos 0 → on_edge p l h ≡ true
-  turn-met e = sym turn-tells ∙ ap (λ (z : ℤ). eq_z z (pos 0)) e ∙ eq_z_same (pos 0)
+  pub turn_met : turn (between l h) (between h p) ≡ pos 0 → on_edge p l h ≡ true
+  turn_met e = sym turn_tells ∙ ap (λ (z : ℤ). eq_z z (pos 0)) e ∙ eq_z_same (pos 0)
 
-  pub turn-missed : (turn (between l h) (between h p) ≡ pos 0 → ⊥) → on_edge p l h ≡ false
-  turn-missed n = go (on_edge p l h) refl
+  pub turn_missed : (turn (between l h) (between h p) ≡ pos 0 → ⊥) → on_edge p l h ≡ false
+  turn_missed n = go (on_edge p l h) refl
     where
       go : (t : Bool) → on_edge p l h ≡ t → on_edge p l h ≡ false
-      go true e = absurd (n (eq_z_true _ _ (turn-tells ∙ e)))
+      go true e = absurd (n (eq_z_true _ _ (turn_tells ∙ e)))
       go false e = e
 
 -- and counts where it turns left

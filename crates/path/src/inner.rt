@@ -12,9 +12,9 @@ ghost use Rattle.path.specs.Convex.{convex_distinct};
 ghost use Rattle.path.specs.inside.Contains.{Across, Changing, before as before_of};
 ghost use Rattle.path.specs.inside.Convex.{looked, one_sided};
 ghost use Rattle.path.specs.inside.Locate.{under, Untouched};
-ghost use Rattle.path.specs.Contains.{above, meets_right as meets-right-of, contained};
-ghost use Rattle.path.specs.Locate.{amid as amid-of, on_edge, location as location-of};
-ghost use Rattle.grid.specs.Edges.{between, turn as turn-of};
+ghost use Rattle.path.specs.Contains.{above, meets_right as meets_right_of, contained};
+ghost use Rattle.path.specs.Locate.{amid as amid_of, on_edge, location as location_of};
+ghost use Rattle.grid.specs.Edges.{between, turn as turn_of};
 
 use crate::{BOUNDARY, INSIDE, OUTSIDE};
 use grid::{Edge, Point};
@@ -102,7 +102,7 @@ fn lies_above(p: Point, a: Point) -> bool
 // Whether the edge from l up to h meets p's horizontal to the right of p: along it and on to p the way turns left.
 fn meets_right(p: Point, l: Point, h: Point) -> bool
     requires { (on limit p ≡ true) × (on limit l ≡ true) × (on limit h ≡ true) }
-    ensures { result ≡ meets-right-of p l h }
+    ensures { result ≡ meets_right_of p l h }
 {
     grid::inner::turns_left(grid::inner::between(l, h), grid::inner::between(h, p))
 }
@@ -209,7 +209,7 @@ pub fn parity_of_four(points: &[i32], p: Point) -> bool
 
 // Whether z lies from a to b, both included, whichever is the smaller.
 fn amid(a: i32, b: i32, z: i32) -> bool
-    ensures { result ≡ amid-of a b z }
+    ensures { result ≡ amid_of a b z }
 {
     ((a <= z) & (z <= b)) | ((b <= z) & (z <= a))
 }
@@ -230,7 +230,7 @@ fn touches(p: Point, a: Point, b: Point) -> bool
 // and not at all where it meets p.
 fn turn_on(p: Point, l: Point, h: Point) -> i32
     requires { (on limit p ≡ true) × (on limit l ≡ true) × (on limit h ≡ true) }
-    ensures { result ≡ turn-of (between l h) (between h p) }
+    ensures { result ≡ turn_of (between l h) (between h p) }
 {
     grid::inner::turn(grid::inner::between(l, h), grid::inner::between(h, p))
 }
@@ -262,7 +262,7 @@ fn first_met(points: &[i32], n: usize, p: Point) -> usize
 // that changes side one turn tells whether it has p and whether it counts.
 fn location_from(points: &[i32], n: usize, p: Point, from: usize, to: usize) -> u8
     requires { Contour points.now n × (on limit p ≡ true) × Untouched points.now n p false from to }
-    ensures { result ≡ location-of p (points_of points.now) }
+    ensures { result ≡ location_of p (points_of points.now) }
 {
     let mut odd = false;
     let mut a = from;
@@ -300,7 +300,7 @@ fn location_from(points: &[i32], n: usize, p: Point, from: usize, to: usize) -> 
 // Where a point on the grid lies to a contour that no call refuses.
 pub fn location(points: &[i32], p: Point) -> u8
     requires { (first_of (domain limit points.now) ≡ 0) × (on limit p ≡ true) }
-    ensures { result ≡ location-of p (points_of points.now) }
+    ensures { result ≡ location_of p (points_of points.now) }
 {
     let n = points.len() / 2;
     if n == 0 {
@@ -317,7 +317,7 @@ pub fn location(points: &[i32], p: Point) -> u8
 // The same of four points, where LLVM makes no loop of the search.
 pub fn location_of_four(points: &[i32], p: Point) -> u8
     requires { Contour points.now 4 × (on limit p ≡ true) }
-    ensures { result ≡ location-of p (points_of points.now) }
+    ensures { result ≡ location_of p (points_of points.now) }
 {
     let first = first_met(points, 4, p);
     if first < 4 {

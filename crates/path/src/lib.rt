@@ -4,9 +4,9 @@
 pub mod inner;
 
 ghost use Rattle.std.specs.Prelude.{◌≡◌};
-ghost use Rattle.path.specs.Convex.{convex as convex-verdict};
+ghost use Rattle.path.specs.Convex.{convex as convex_verdict};
 ghost use Rattle.path.specs.Clockwise.{clockwise};
-ghost use Rattle.path.specs.Contains.{contains as contains-verdict};
+ghost use Rattle.path.specs.Contains.{contains as contains_verdict};
 ghost use Rattle.path.specs.Locate.{located};
 
 use grid::Point;
@@ -28,7 +28,7 @@ pub struct Located {
 
 // Whether all turns have one sign and no edge reverses, equal neighbours skipped. A box turns one way.
 pub fn is_convex(points: &[i32]) -> Verdict
-    ensures { result ≡ convex-verdict points.now }
+    ensures { result ≡ convex_verdict points.now }
 {
     let refusal = grid::domain(points);
     if refusal != 0 {
@@ -82,7 +82,7 @@ pub fn is_clockwise_ordered(points: &[i32]) -> Verdict
 
 // Whether the contour contains the point x, y.
 pub fn contains_point(points: &[i32], x: i32, y: i32) -> Verdict
-    ensures { result ≡ contains-verdict points.now x y }
+    ensures { result ≡ contains_verdict points.now x y }
 {
     let refusal = grid::domain(points);
     if refusal != 0 {

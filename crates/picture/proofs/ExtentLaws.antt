@@ -17,8 +17,8 @@ use Rattle.grid.specs.declared.Point.{Point}
 use Rattle.grid.specs.Limits.{limit, on_grid}
 use Rattle.grid.specs.Points.{at, on, origin, points}
 use Rattle.grid.specs.Domain.{Contour}
-use Rattle.grid.proofs.PointLaws.{x-on, y-on, at_on, gap-in}
-use Rattle.grid.proofs.RowLaws.{points-more, points-done}
+use Rattle.grid.proofs.PointLaws.{x_on, y_on, at_on, gap_in}
+use Rattle.grid.proofs.RowLaws.{points_more, points_done}
 use Rattle.picture.specs.declared.inner.frame.Extent.{Extent}
 use Rattle.picture.specs.Frame.{lesser, greater, widened, widened_by, extent, letter, sizes_by, sizes}
 use Rattle.picture.specs.inside.Parts.{On, Small}
@@ -30,26 +30,26 @@ either_on false u v p q = q
 
 -- which of two coordinates is the lesser, and which the greater
 module _ (a b : ℤ) where
-  pub lesser-first : lt_z a b ≡ true → a ≡ lesser a b
-  lesser-first e = sym (ap (λ (t : Bool). elim t [ true ↦ a | false ↦ b ]) e)
+  pub lesser_first : lt_z a b ≡ true → a ≡ lesser a b
+  lesser_first e = sym (ap (λ (t : Bool). elim t [ true ↦ a | false ↦ b ]) e)
 
-  pub lesser-second : lt_z a b ≡ false → b ≡ lesser a b
-  lesser-second e = sym (ap (λ (t : Bool). elim t [ true ↦ a | false ↦ b ]) e)
+  pub lesser_second : lt_z a b ≡ false → b ≡ lesser a b
+  lesser_second e = sym (ap (λ (t : Bool). elim t [ true ↦ a | false ↦ b ]) e)
 
-  pub greater-second : lt_z a b ≡ true → b ≡ greater a b
-  greater-second e = sym (ap (λ (t : Bool). elim t [ true ↦ b | false ↦ a ]) e)
+  pub greater_second : lt_z a b ≡ true → b ≡ greater a b
+  greater_second e = sym (ap (λ (t : Bool). elim t [ true ↦ b | false ↦ a ]) e)
 
-  pub greater-first : lt_z a b ≡ false → a ≡ greater a b
-  greater-first e = sym (ap (λ (t : Bool). elim t [ true ↦ b | false ↦ a ]) e)
+  pub greater_first : lt_z a b ≡ false → a ≡ greater a b
+  greater_first e = sym (ap (λ (t : Bool). elim t [ true ↦ b | false ↦ a ]) e)
 
 pub widened_on : (e : Extent) (p : Point) → On e → on limit p ≡ true → On (widened e p)
 widened_on e p o q =
-    let x = x-on limit p q in
-    let y = y-on limit p q in
+    let x = x_on limit p q in
+    let y = y_on limit p q in
     let l = o.0 in
     let h = o.1 in (
-      and_both _ _ (either_on (lt_z p.x e.low.x) _ _ x (x-on limit _ l)) (either_on (lt_z p.y e.low.y) _ _ y (y-on limit _ l)),
-      and_both _ _ (either_on (lt_z p.x e.high.x) _ _ (x-on limit _ h) x) (either_on (lt_z p.y e.high.y) _ _ (y-on limit _ h) y),
+      and_both _ _ (either_on (lt_z p.x e.low.x) _ _ x (x_on limit _ l)) (either_on (lt_z p.y e.low.y) _ _ y (y_on limit _ l)),
+      and_both _ _ (either_on (lt_z p.x e.high.x) _ _ (x_on limit _ h) x) (either_on (lt_z p.y e.high.y) _ _ (y_on limit _ h) y),
     )
 
 pub origin_on : on limit origin ≡ true
@@ -65,13 +65,13 @@ pub record Widening (row : List ℤ) (n : ℕ) (e : Extent) (i : ℕ) : Type 0 w
 module _ {row : List ℤ} {n : ℕ} (c : Contour row n) where
   pub widening_none : n ≡ 0 → extent (points row) ≡ record { low = origin; high = origin }
   unfolding extent
-  widening_none z = ap extent (points-done c 0 (sym z))
+  widening_none z = ap extent (points_done c 0 (sym z))
 
   pub widening_first : 0 < n → Widening row n (record { low = at row 0; high = at row 0 }) 1
   unfolding extent
   widening_first h = record {
     high = omega arith;
-    is = sym (ap extent (points-more c 0 h));
+    is = sym (ap extent (points_more c 0 h));
     on = (at_on limit row 0 c.on, at_on limit row 0 c.on);
   }
 
@@ -80,23 +80,23 @@ module _ {row : List ℤ} {n : ℕ} (c : Contour row n) where
     unfolding widened_by
     widening_more h = record {
       high = omega arith;
-      is = sym (ap (widened_by e) (points-more c i h)) ∙ x.is;
+      is = sym (ap (widened_by e) (points_more c i h)) ∙ x.is;
       on = widened_on e (at row i) x.on (at_on limit row i c.on);
     }
 
     pub widening_all : n ≤ i → e ≡ extent (points row)
     unfolding widened_by
-    widening_all h = sym (ap (widened_by e) (points-done c i (omega (arith, x.high)))) ∙ x.is
+    widening_all h = sym (ap (widened_by e) (points_done c i (omega (arith, x.high)))) ∙ x.is
 
 -- two coordinates are no further apart than the grid is wide
 apart : (u v : ℤ) → on_grid limit u ≡ true → on_grid limit v ≡ true → nat_abs (v -ℤ u) ≤ 2147483646
 unfolding limit
-apart u v p q = omega (arith, (gap-in limit u v p q).abs)
+apart u v p q = omega (arith, (gap_in limit u v p q).abs)
 
 -- how far apart they are, as it is handed on
 pub apart_back : (u v r : ℤ) → on_grid limit u ≡ true → on_grid limit v ≡ true → r ≡ v -ℤ u → to_z w64 (of_z w64 r) ≡ v -ℤ u
 unfolding limit
-apart_back u v r p q e = ap (λ (z : ℤ). to_z w64 (of_z w64 z)) e ∙ back w64 (gap-in limit u v p q) tt
+apart_back u v r p q e = ap (λ (z : ℤ). to_z w64 (of_z w64 z)) e ∙ back w64 (gap_in limit u v p q) tt
 
 pub letter_higher : (w h : ℕ) → w < h → h / 40 + 1 ≡ letter w h
 letter_higher w h p = sym (ap (λ (t : Bool). elim t [ true ↦ h | false ↦ w ] / 40 + 1) (lt-ltb w h p))
@@ -113,5 +113,5 @@ small w h p q = record { wide = p; high = q; letters = go (ltb w h) }
 
 pub sizes_small : (e : Extent) → On e → Small (sizes e)
 sizes_small e o =
-    small _ _ (apart e.low.x e.high.x (x-on limit _ o.0) (x-on limit _ o.1))
-    (apart e.low.y e.high.y (y-on limit _ o.0) (y-on limit _ o.1))
+    small _ _ (apart e.low.x e.high.x (x_on limit _ o.0) (x_on limit _ o.1))
+    (apart e.low.y e.high.y (y_on limit _ o.0) (y_on limit _ o.1))

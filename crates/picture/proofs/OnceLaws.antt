@@ -14,7 +14,7 @@ use Rattle.setfile.specs.Promises.{Started}
 use Rattle.setfile.specs.inside.Reading.{from_bit}
 use Rattle.setfile.proofs.LayoutLaws.{next_read, none_read}
 use Rattle.setfile.proofs.ContourLaws.{front_begins, right}
-use Rattle.setfile.proofs.EitherLaws.{parsed-faulty, parsed_on}
+use Rattle.setfile.proofs.EitherLaws.{parsed_faulty, parsed_on}
 use Rattle.setfile.proofs.GatherLaws.{entries_gathered, contours_entries}
 use Rattle.report.specs.Listing.{job}
 use Rattle.picture.specs.Picture.{job_shapes}
@@ -35,7 +35,7 @@ job_started f = go (head_damage f) refl
 
     go : (r : ℕ) → r ≡ head_damage f → Started (read_contours (parsed f))
     go zero e = subst (λ (w : Parsed). Started (read_contours w)) (sym (parsed_on (is_second f) f refl e)) (behind _ refl)
-    go (suc r) e = rw (parsed-faulty f (suc r) e (λ z. omega arith)) tt
+    go (suc r) e = rw (parsed_faulty f (suc r) e (λ z. omega arith)) tt
 
 pub shapes_joined : (f : List ℕ) → joined (job_shapes f) ≡ job f
 shapes_joined f = sym (contours_entries (job_shapes f)) ∙ ap contours_of (entries_gathered (read_contours (parsed f)) (job_started f))

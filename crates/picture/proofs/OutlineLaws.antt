@@ -15,7 +15,7 @@ use Rattle.setfile.specs.inside.Reading.{from_bit, header_in, size_of, Readable}
 use Rattle.report.specs.Listing.{job}
 use Rattle.report.specs.inside.Lines.{Put}
 use Rattle.report.proofs.PutLaws.{Going, going_none, going_room, going_more, going_all, going_same}
-use Rattle.vertices.proofs.AlongLaws.{Along, along_none, along-all, coming, here, along-met, along-more}
+use Rattle.vertices.proofs.AlongLaws.{Along, along_none, along_all, coming, here, along_met, along_more}
 use Rattle.picture.specs.Names.{path, d}
 use Rattle.picture.specs.Picture.{outline, outlines, shapes, job_shapes}
 use Rattle.picture.specs.inside.Parts.{left, before}
@@ -54,41 +54,41 @@ module _ {s : Bool} {f : List ℕ} {n : ℕ} {points : List ℤ} {from : ℕ} {t
     going_next =
         let b : h.begins ≡ begins (from_bit f at) = ap (λ (h : Header). h.begins) e in
         going_same _
-        (ap (λ (m : List Entry). due_text i m ++ []) (along-met x.along l)
+        (ap (λ (m : List Entry). due_text i m ++ []) (along_met x.along l)
         ∙ append-nil _ ∙ due_next i (begins (from_bit f at)) (here x.along l) (coming x.along l).rest (coming x.along l).begun ∙ rw (sym b) (simp append-nil))
         x.going
 
-    pub outlining-before : behind + length (before h.begins i) ≤ length text
-    outlining-before = going_room going_next
+    pub outlining_before : behind + length (before h.begins i) ≤ length text
+    outlining_before = going_room going_next
 
     module _ {begun : ℕ} {mid : List ℕ} (p : Put behind (before h.begins i) text begun mid) where
-      pub outlining-room : begun + length (outline (here x.along l)) ≤ length mid
-      outlining-room = going_room (going_more going_next p)
+      pub outlining_room : begun + length (outline (here x.along l)) ≤ length mid
+      outlining_room = going_room (going_more going_next p)
 
-      pub outlining-more : {r : ℕ} {exit : List ℕ} → Put begun (outline (here x.along l)) mid r exit → (z : ℕ) → z ≡ size_of s h
+      pub outlining_more : {r : ℕ} {exit : List ℕ} → Put begun (outline (here x.along l)) mid r exit → (z : ℕ) → z ≡ size_of s h
           → Outlining s f n points from text₀ r exit (i + 1) (at + z) (start + 2 * h.count)
-      unfolding along-more
-      outlining-more q z g = record {
-        along = along-more x.along l h e (start + 2 * h.count) refl z g;
+      unfolding along_more
+      outlining_more q z g = record {
+        along = along_more x.along l h e (start + 2 * h.count) refl z g;
         going = rw (add-one i) (going_more (going_more going_next p) q);
       }
 
-  pub outlining-empty : n ≤ i → n ≡ 0 → Put from (shapes (job_shapes f)) text₀ behind text
+  pub outlining_empty : n ≤ i → n ≡ 0 → Put from (shapes (job_shapes f)) text₀ behind text
   unfolding joined gathered
-  outlining-empty h z =
+  outlining_empty h z =
       let o : i ≡ 0 = omega (arith, x.along.high) in
-      going_all (going_same [] (ap₂ (λ (k : ℕ) (m : List Entry). due_text k m ++ []) o (along-all x.along h)) x.going)
+      going_all (going_same [] (ap₂ (λ (k : ℕ) (m : List Entry). due_text k m ++ []) o (along_all x.along h)) x.going)
 
   last : n ≤ i → (n ≡ 0 → ⊥) → Going from (shapes (job_shapes f)) text₀ behind text (left ∷ [])
   unfolding joined gathered
-  last h z = going_same _ (go i (omega (arith, h)) (along-all x.along h)) x.going
+  last h z = going_same _ (go i (omega (arith, h)) (along_all x.along h)) x.going
     where
       go : (k : ℕ) → 0 < k → x.along.rest ≡ [] → due_text k x.along.rest ++ [] ≡ left ++ []
       go zero p e = absurd (omega arith)
       go (suc k) p e = ap (λ (m : List Entry). rest_text m ++ []) e
 
-  pub outlining-left : n ≤ i → (n ≡ 0 → ⊥) → behind + length left ≤ length text
-  outlining-left h z = going_room (last h z)
+  pub outlining_left : n ≤ i → (n ≡ 0 → ⊥) → behind + length left ≤ length text
+  outlining_left h z = going_room (last h z)
 
-  pub outlining-all : n ≤ i → (n ≡ 0 → ⊥) → {r : ℕ} {exit : List ℕ} → Put behind left text r exit → Put from (shapes (job_shapes f)) text₀ r exit
-  outlining-all h z q = going_all (going_more (last h z) q)
+  pub outlining_all : n ≤ i → (n ≡ 0 → ⊥) → {r : ℕ} {exit : List ℕ} → Put behind left text r exit → Put from (shapes (job_shapes f)) text₀ r exit
+  outlining_all h z q = going_all (going_more (last h z) q)

@@ -7,7 +7,7 @@ use lib.ListN.{length, length-append, length-map}
 use lib.IntN.{ℤ}
 use Rattle.rows.specs.Rows.{front}
 use Rattle.replies.specs.Ladder.{first_of}
-use Rattle.replies.proofs.OneOutcome.{Determined, by-its-definition, two}
+use Rattle.replies.proofs.OneOutcome.{Determined, by_its_definition, two}
 use Rattle.grid.specs.Points.{points}
 use Rattle.grid.proofs.RowLaws.{points_count}
 use Rattle.buffer.specs.Sets.{joined}
@@ -34,7 +34,7 @@ use Rattle.picture.proofs.inner.drawing.draw.Reads as draw·contract
 -- any two outcomes that the contract of `draw` allows are identical: the length that is answered, and the row of text
 pub a_file_has_one_picture : Determined {O = ℕ × List ℕ} draw·contract.Learnt (λ κs r e. two e (λ bytes text. (r, text.now)))
 a_file_has_one_picture =
-    by-its-definition
+    by_its_definition
     (λ κs a. two a (λ bytes text. (length (picture bytes.now), front (picture bytes.now) text.now)))
     (λ κs a r e h. ap₂ (λ (n : ℕ) (t : List ℕ). (n, t)) h.0 h.1)
 

@@ -25,29 +25,29 @@ use Rattle.pool.specs.inside.Surveys.{Surveyed, share_of, grown}
 use Rattle.pool.specs.declared.inner.survey.Survey.{Survey}
 use Rattle.pool.proofs.ListLaws.{held_both, total_held, length_held, none_own}
 use Rattle.pool.proofs.FairLaws.{held_all, fits}
-use Rattle.pool.proofs.LayoutLaws.{contours_are, some-newest, none-newest}
-use Rattle.pool.proofs.SoundLaws.{there, sound-lies, sound-fair}
+use Rattle.pool.proofs.LayoutLaws.{contours_are, some_newest, none_newest}
+use Rattle.pool.proofs.SoundLaws.{there, sound_lies, sound_fair}
 
 -- down the ladder of adding, with the part that every set has behind
 module _ (contour : List ℤ) (sound : Bool) (mine others : ℕ) (enough : Bool) where
   abbrev over : Bool
   over = ltb (capacity - max others reserve) (mine + holding (count contour))
 
-  pub asked-first : (r : ℕ) → r ≡ first_of (set limit contour sound) → (r ≡ 0 → ⊥) → r ≡ first_of (of_adding contour sound mine others enough)
-  asked-first r e n = first_is _ r (stopped (set limit contour sound) (full mine others (count contour) ++ room enough) r e n)
+  pub asked_first : (r : ℕ) → r ≡ first_of (set limit contour sound) → (r ≡ 0 → ⊥) → r ≡ first_of (of_adding contour sound mine others enough)
+  asked_first r e n = first_is _ r (stopped (set limit contour sound) (full mine others (count contour) ++ room enough) r e n)
 
   module _ (c : first_of (set limit contour sound) ≡ 0) where
     on : (r : ℕ) → First (full mine others (count contour) ++ room enough) r → r ≡ first_of (of_adding contour sound mine others enough)
     on r f = first_is _ r (onward (set limit contour sound) (full mine others (count contour) ++ room enough) r tt c f)
 
-    pub asked-full : over ≡ true → 17 ≡ first_of (of_adding contour sound mine others enough)
-    asked-full e = on 17 (here e)
+    pub asked_full : over ≡ true → 17 ≡ first_of (of_adding contour sound mine others enough)
+    asked_full e = on 17 (here e)
 
-    pub asked-room : over ≡ false → not enough ≡ true → 5 ≡ first_of (of_adding contour sound mine others enough)
-    asked-room e f = on 5 (past e (here f))
+    pub asked_room : over ≡ false → not enough ≡ true → 5 ≡ first_of (of_adding contour sound mine others enough)
+    asked_room e f = on 5 (past e (here f))
 
-    pub asked-done : over ≡ false → not enough ≡ false → 0 ≡ first_of (of_adding contour sound mine others enough)
-    asked-done e f = on 0 (past e (past f foot))
+    pub asked_done : over ≡ false → not enough ≡ false → 0 ≡ first_of (of_adding contour sound mine others enough)
+    asked_done e f = on 0 (past e (past f foot))
 
 -- an answer, by the number of the first refusal
 refused_is : (r k : ℕ) (l : List Entry) (s : Lent) → r ≡ k → (r ≡ 0 → ⊥) → ◌≡◌ {A = Outcome} (record { reply = r; pool = s }) (outcome k l s)
@@ -72,74 +72,74 @@ module _ (s : Lent) (f : Survey) (u : Surveyed s f) where
   is_sound e = sym u.sound_is ∙ e
 
   pub holds : f.sound ≡ true → Holds s f.points
-  holds e = record { lies = sound-lies s (is_sound e); counts = u.points_are e }
+  holds e = record { lies = sound_lies s (is_sound e); counts = u.points_are e }
 
-  pub share-is : (b : Bool) → f.sound ≡ true → share_of b f ≡ held (own (number b) (contents s))
-  share-is false e = u.first_holds e
-  share-is true e = u.second_holds e
+  pub share_is : (b : Bool) → f.sound ≡ true → share_of b f ≡ held (own (number b) (contents s))
+  share_is false e = u.first_holds e
+  share_is true e = u.second_holds e
 
-  others-are : (b : Bool) → f.sound ≡ true → share_of (not b) f ≡ held (own (other (number b)) (contents s))
-  others-are false e = u.second_holds e
-  others-are true e = u.first_holds e
+  others_are : (b : Bool) → f.sound ≡ true → share_of (not b) f ≡ held (own (other (number b)) (contents s))
+  others_are false e = u.second_holds e
+  others_are true e = u.first_holds e
 
-  pub both-held : f.sound ≡ true → f.first + f.second ≡ held (contents s)
-  both-held e = omega (arith, u.first_holds e, u.second_holds e, held_both (contents s) (sound-fair s (is_sound e)).pressed)
+  pub both_held : f.sound ≡ true → f.first + f.second ≡ held (contents s)
+  both_held e = omega (arith, u.first_holds e, u.second_holds e, held_both (contents s) (sound_fair s (is_sound e)).pressed)
 
   pub all_held : f.sound ≡ true → held (contents s) ≤ capacity
-  all_held e = held_all (contents s) (sound-fair s (is_sound e))
+  all_held e = held_all (contents s) (sound_fair s (is_sound e))
 
-  shares-both : (b : Bool) → share_of b f + share_of (not b) f ≡ f.first + f.second
-  shares-both false = refl
-  shares-both true = omega arith
+  shares_both : (b : Bool) → share_of b f + share_of (not b) f ≡ f.first + f.second
+  shares_both false = refl
+  shares_both true = omega arith
 
-  pub shares-small : (b : Bool) → f.sound ≡ true → (share_of b f ≤ capacity) × (share_of (not b) f ≤ capacity)
-  shares-small b e = (omega (arith, shares-both b, both-held e, all_held e), omega (arith, shares-both b, both-held e, all_held e))
+  pub shares_small : (b : Bool) → f.sound ≡ true → (share_of b f ≤ capacity) × (share_of (not b) f ≤ capacity)
+  shares_small b e = (omega (arith, shares_both b, both_held e, all_held e), omega (arith, shares_both b, both_held e, all_held e))
 
   module _ (b : Bool) (tool : ℕ) (contour : List ℤ) where
-    abbrev as-found : List Rung
-    as-found = of_adding contour f.sound (share_of b f) (share_of (not b) f) (enough s)
+    abbrev as_found : List Rung
+    as_found = of_adding contour f.sound (share_of b f) (share_of (not b) f) (enough s)
 
-    abbrev mine-now : ℕ
-    mine-now = held (own (number b) (contents s))
+    abbrev mine_now : ℕ
+    mine_now = held (own (number b) (contents s))
 
-    abbrev others-now : ℕ
-    others-now = held (own (other (number b)) (contents s))
+    abbrev others_now : ℕ
+    others_now = held (own (other (number b)) (contents s))
 
-    asked_is : first_of as-found ≡ refused (number b) (add tool contour) s
+    asked_is : first_of as_found ≡ refused (number b) (add tool contour) s
     asked_is = go f.sound refl
       where
-        go : (t : Bool) → f.sound ≡ t → first_of as-found ≡ first_of (of_adding contour (sound s) mine-now others-now (enough s))
+        go : (t : Bool) → f.sound ≡ t → first_of as_found ≡ first_of (of_adding contour (sound s) mine_now others_now (enough s))
         go true e =
-            ap₂ (λ (m o : ℕ). first_of (of_adding contour f.sound m o (enough s))) (share-is b e) (others-are b e)
-            ∙ ap (λ (t : Bool). first_of (of_adding contour t mine-now others-now (enough s))) u.sound_is
+            ap₂ (λ (m o : ℕ). first_of (of_adding contour f.sound m o (enough s))) (share_is b e) (others_are b e)
+            ∙ ap (λ (t : Bool). first_of (of_adding contour t mine_now others_now (enough s))) u.sound_is
         go false e =
             ap (λ (t : Bool). first_of (of_adding contour t (share_of b f) (share_of (not b) f) (enough s))) e
             ∙ unsound_alone _ _ _ _
-            ∙ ap (λ (t : Bool). first_of (of_adding contour t mine-now others-now (enough s))) (sym e ∙ u.sound_is)
+            ∙ ap (λ (t : Bool). first_of (of_adding contour t mine_now others_now (enough s))) (sym e ∙ u.sound_is)
 
     -- a contour that is not refused has its place
-    module _ (z : first_of as-found ≡ 0) where
-      sound-then : f.sound ≡ true
-      sound-then = not-false f.sound (clear as-found tt z).1.1.0
+    module _ (z : first_of as_found ≡ 0) where
+      sound_then : f.sound ≡ true
+      sound_then = not-false f.sound (clear as_found tt z).1.1.0
 
-      not-over : share_of b f + holding (count contour) ≤ capacity - max (share_of (not b) f) reserve
-      not-over = fits contour f.sound (share_of b f) (share_of (not b) f) (enough s) z
+      not_over : share_of b f + holding (count contour) ≤ capacity - max (share_of (not b) f) reserve
+      not_over = fits contour f.sound (share_of b f) (share_of (not b) f) (enough s) z
 
       points_fit : 2 * f.points + length contour ≤ 2 * capacity
       points_fit =
           omega (
             arith,
-            eqb-false (length contour % 2) 1 (clear as-found tt z).0,
-            not-over,
-            shares-both b,
-            both-held sound-then,
-            all_held sound-then,
-            u.points_are sound-then,
+            eqb-false (length contour % 2) 1 (clear as_found tt z).0,
+            not_over,
+            shares_both b,
+            both_held sound_then,
+            all_held sound_then,
+            u.points_are sound_then,
             total_held (contents s),
           )
 
-      records-fit : length (contents s) < capacity
-      records-fit = omega (arith, not-over, shares-both b, both-held sound-then, all_held sound-then, length_held (contents s))
+      records_fit : length (contents s) < capacity
+      records_fit = omega (arith, not_over, shares_both b, both_held sound_then, all_held sound_then, length_held (contents s))
 
 -- what adding asks of lent rows, as far as the code has come
 pub record Asked (points : List ℤ) (records : List (List ℕ)) (n : ℕ) (b : Bool) (contour : List ℤ) (f : Survey) (r : ℕ) : Type 0 where
@@ -176,13 +176,13 @@ module _ {points : List ℤ} {records : List (List ℕ)} {n : ℕ} {b : Bool} {c
         (leb-true _ _ (and_left (leb (2 * capacity) (length points)) _ e), omega (arith, k, length-map records slot))
 
     pub add_holds : Holds pool f.points
-    add_holds = holds pool f a.survey (sound-then pool f a.survey b tool contour none_asked)
+    add_holds = holds pool f a.survey (sound_then pool f a.survey b tool contour none_asked)
 
     pub add_fits : (2 * f.points + length contour ≤ length points) × (n < length records)
     add_fits =
         let c = contours_are (contents pool) points records n add_holds.lies in
         let l = long_enough in
-        (omega (arith, points_fit pool f a.survey b tool contour none_asked, l.0), omega (arith, records-fit pool f a.survey b tool contour none_asked, l.1, c))
+        (omega (arith, points_fit pool f a.survey b tool contour none_asked, l.0), omega (arith, records_fit pool f a.survey b tool contour none_asked, l.1, c))
 
     pub add_done : (press : ℕ) (p : List ℤ) (q : List (List ℕ)) → press ≡ number b → lent p q (n + 1) ≡ laid_out (added (entry press tool contour) (contents pool)) pool
         → leaving 0 p q (n + 1) ≡ called (number b) (add tool contour) pool
@@ -220,28 +220,28 @@ module _ (points : List ℤ) (records : List (List ℕ)) (n : ℕ) (b : Bool) (f
   abbrev rows : Lent
   rows = lent points records n
 
-  pub remove-unsound : f.sound ≡ false → leaving 6 points records n ≡ called (number b) remove rows
+  pub remove_unsound : f.sound ≡ false → leaving 6 points records n ≡ called (number b) remove rows
   unfolding called
-  remove-unsound e = refused_is 6 _ _ rows (first_is _ 6 (here (ap not (sym u.sound_is ∙ e)))) (λ z. omega arith)
+  remove_unsound e = refused_is 6 _ _ rows (first_is _ 6 (here (ap not (sym u.sound_is ∙ e)))) (λ z. omega arith)
 
   module _ (e : f.sound ≡ true) where
-    pub remove-holds : Holds rows f.points
-    remove-holds = holds rows f u e
+    pub remove_holds : Holds rows f.points
+    remove_holds = holds rows f u e
 
     module _ (press r : ℕ) (g : press ≡ number b) (w : Newest press n records r) where
-      own-none : (t : Bool) → has press (contents rows) ≡ t → none (own (number b) (contents rows)) ≡ not t
-      own-none t h = none_own (number b) (contents rows) ∙ ap not (ap (λ (i : ℕ). has i (contents rows)) (sym g) ∙ h)
+      own_none : (t : Bool) → has press (contents rows) ≡ t → none (own (number b) (contents rows)) ≡ not t
+      own_none t h = none_own (number b) (contents rows) ∙ ap not (ap (λ (i : ℕ). has i (contents rows)) (sym g) ∙ h)
 
-      pub remove-none : r ≡ 0 → leaving 18 points records n ≡ called (number b) remove rows
+      pub remove_none : r ≡ 0 → leaving 18 points records n ≡ called (number b) remove rows
       unfolding called
-      remove-none z =
-          let h = none-newest (contents rows) points records n remove-holds.lies press (λ j k x. w.later j (omega arith) k x) in
-          refused_is 18 _ _ rows (first_is _ 18 (past (ap not (sym u.sound_is ∙ e)) (here (own-none false h)))) (λ q. omega arith)
+      remove_none z =
+          let h = none_newest (contents rows) points records n remove_holds.lies press (λ j k x. w.later j (omega arith) k x) in
+          refused_is 18 _ _ rows (first_is _ 18 (past (ap not (sym u.sound_is ∙ e)) (here (own_none false h)))) (λ q. omega arith)
 
-      pub remove-done : (r ≡ 0 → ⊥) → (p : List ℤ) (q : List (List ℕ)) → lent p q (n - 1) ≡ laid_out (removed press (contents rows)) rows
+      pub remove_done : (r ≡ 0 → ⊥) → (p : List ℤ) (q : List (List ℕ)) → lent p q (n - 1) ≡ laid_out (removed press (contents rows)) rows
           → leaving 0 p q (n - 1) ≡ called (number b) remove rows
       unfolding called
-      remove-done z p q k =
-          let h = some-newest (contents rows) points records n remove-holds.lies press (r - 1) (omega (arith, w.within)) (w.there (omega arith)) in
-          done_is _ _ rows _ (sym (first_is _ 0 (past (ap not (sym u.sound_is ∙ e)) (past (own-none true h) foot))))
+      remove_done z p q k =
+          let h = some_newest (contents rows) points records n remove_holds.lies press (r - 1) (omega (arith, w.within)) (w.there (omega arith)) in
+          done_is _ _ rows _ (sym (first_is _ 0 (past (ap not (sym u.sound_is ∙ e)) (past (own_none true h) foot))))
           (k ∙ ap (λ (i : ℕ). laid_out (removed i (contents rows)) rows) g)

@@ -19,8 +19,8 @@ use Rattle.buffer.proofs.SetLaws.{joined-append}
 use Rattle.pool.specs.Lists.{Entry, entry, mine, has, added, removed, Every, Even}
 use Rattle.pool.specs.Rows.{Slot, slot, slots, Lent, lent, slot_at, slots_from, numbers, laid_out}
 use Rattle.pool.specs.inside.Records.{total, press_at, Lies, lowered, Gap}
-use Rattle.pool.proofs.ListLaws.{total-append, every-split, has_in, removed_is}
-use Rattle.pool.proofs.RowLaws.{map-drop, map-take, map-set, map-placed, placed-over, part-behind}
+use Rattle.pool.proofs.ListLaws.{total-append, every_split, has_in, removed_is}
+use Rattle.pool.proofs.RowLaws.{map-drop, map-take, map-set, map_placed, placed_over, part_behind}
 
 pub lent_is : {p q : List ℤ} {r s : List Slot} {n m : ℕ} → p ≡ q → r ≡ s → n ≡ m
     → ◌≡◌ {A = Lent} (record { points = p; records = r; contours = n }) (record { points = q; records = s; contours = m })
@@ -54,15 +54,15 @@ module _ (l : List Entry) (points : List ℤ) (records : List (List ℕ)) (n : �
   pub points_are : points ≡ front (numbers l) points
   points_are = ap (λ (s : Lent). s.points) h.is
 
-  pub records-are : slots records ≡ front (slots_from 0 l) (slots records)
-  records-are = ap (λ (s : Lent). s.records) h.is
+  pub records_are : slots records ≡ front (slots_from 0 l) (slots records)
+  records_are = ap (λ (s : Lent). s.records) h.is
 
   pub contours_are : n ≡ length l
   contours_are = ap (λ (s : Lent). s.contours) h.is
 
   pub records_long : n ≤ length records
   records_long =
-      omega (arith, length-map records slot, ap length records-are, length-append (slots_from 0 l) (drop (length (slots_from 0 l)) (slots records)), slots_length 0 l, contours_are)
+      omega (arith, length-map records slot, ap length records_are, length-append (slots_from 0 l) (drop (length (slots_from 0 l)) (slots records)), slots_length 0 l, contours_are)
 
   pub points_long : 2 * total l ≤ length points
   points_long = omega (arith, ap length points_are, length-append (numbers l) (drop (length (numbers l)) points), numbers-length l h.even)
@@ -71,7 +71,7 @@ module _ (l : List Entry) (points : List ℤ) (records : List (List ℕ)) (n : �
   slot_is j k =
       let m : j < length (slots_from 0 l) = omega (arith, slots_length 0 l, contours_are) in
       sym (map_at slot records j (slot []) [] (omega (arith, records_long)))
-      ∙ ap (λ (r : List Slot). get_or r j (slot [])) records-are
+      ∙ ap (λ (r : List Slot). get_or r j (slot [])) records_are
       ∙ get_or-append (slots_from 0 l) _ (slot []) j m
 
   -- one contour more
@@ -89,7 +89,7 @@ module _ (l : List Entry) (points : List ℤ) (records : List (List ℕ)) (n : �
       ∙ ap (λ (x : List ℤ). front x points) (sym (numbers-append l (e ∷ []) ∙ ap (λ (x : List ℤ). numbers l ++ x) (append-nil e.contour))))
       (ap slots g ∙ map-set slot records n _
       ∙ set_placed (slots records) n _ w
-      ∙ ap (placed n _) records-are
+      ∙ ap (placed n _) records_are
       ∙ placed_next (slots records) (slots_from 0 l) _ n j
       ∙ ap (λ (x : List Slot). front x (slots records))
       (ap (λ (q : ℕ). slots_from 0 l ++ slot_at q e ∷ []) (a ∙ z) ∙ sym (slots-append 0 l (e ∷ []))))
@@ -123,9 +123,9 @@ none_has p d (e ∷ l) f =
 -- and the rows without it
 module _ (press : ℕ) (a : List Entry) (e : Entry) (b : List Entry) (points : List ℤ) (records : List (List ℕ)) (n : ℕ)
     (h : Lies (a ++ e ∷ b) (lent points records n)) (m : mine press e ≡ true) (o : has press b ≡ false) where
-  points-split : points ≡ numbers a ++ (e.contour ++ (numbers b ++ drop (length (numbers (a ++ e ∷ b))) points))
+  points_split : points ≡ numbers a ++ (e.contour ++ (numbers b ++ drop (length (numbers (a ++ e ∷ b))) points))
   unfolding joined
-  points-split =
+  points_split =
       let rest = drop (length (numbers (a ++ e ∷ b))) points in
       points_are (a ++ e ∷ b) points records n h
       ∙ ap (λ (x : List ℤ). x ++ rest) (numbers-append a (e ∷ b))
@@ -135,11 +135,11 @@ module _ (press : ℕ) (a : List Entry) (e : Entry) (b : List Entry) (points : L
   abbrev behind : ℕ
   behind = 0 + total a + count e.contour
 
-  records-split : slots records ≡ slots_from 0 a ++ ((slot_at (0 + total a) e ∷ []) ++ (slots_from behind b ++ drop (length (slots_from 0 (a ++ e ∷ b))) (slots records)))
+  records_split : slots records ≡ slots_from 0 a ++ ((slot_at (0 + total a) e ∷ []) ++ (slots_from behind b ++ drop (length (slots_from 0 (a ++ e ∷ b))) (slots records)))
   unfolding slots_from
-  records-split =
+  records_split =
       let rest = drop (length (slots_from 0 (a ++ e ∷ b))) (slots records) in
-      records-are (a ++ e ∷ b) points records n h
+      records_are (a ++ e ∷ b) points records n h
       ∙ ap (λ (x : List Slot). x ++ rest) (slots-append 0 a (e ∷ b))
       ∙ append_assoc (slots_from 0 a) (slot_at (0 + total a) e ∷ slots_from behind b) rest
 
@@ -148,21 +148,21 @@ module _ (press : ℕ) (a : List Entry) (e : Entry) (b : List Entry) (points : L
       → r ≡ placed (length a) (map (lowered (count e.contour)) (take (length b) (drop (length a + 1) records))) records
       → lent p r (n - 1) ≡ laid_out (removed press (a ++ e ∷ b)) (lent points records n)
   taken_out p r f g =
-      let ev = every-split Even a (e ∷ b) h.even in
+      let ev = every_split Even a (e ∷ b) h.even in
       let d = count e.contour in
       let u : length (numbers a) + length e.contour ≡ 2 * total a + 2 * d = omega (arith, numbers-length a ev.0, ev.1.0) in
       let v : length (slots_from 0 a) + 1 ≡ length a + 1 = omega (arith, slots_length 0 a) in
       (lent_is
-      (f ∙ ap (λ (x : List ℤ). placed (2 * total a) x points) (part-behind points (numbers a) e.contour (numbers b) _ _ _ points-split u (numbers-length b ev.1.1))
-      ∙ placed-over points (numbers a) _ (numbers b) (2 * total a) points-split (numbers-length a ev.0)
+      (f ∙ ap (λ (x : List ℤ). placed (2 * total a) x points) (part_behind points (numbers a) e.contour (numbers b) _ _ _ points_split u (numbers-length b ev.1.1))
+      ∙ placed_over points (numbers a) _ (numbers b) (2 * total a) points_split (numbers-length a ev.0)
       ∙ ap (λ (x : List ℤ). front x points) (sym (numbers-append a b)))
-      (ap slots g ∙ map-placed slot (length a) _ records
+      (ap slots g ∙ map_placed slot (length a) _ records
       ∙ ap (λ (x : List Slot). placed (length a) x (slots records))
       (lowered_slots d (take (length b) (drop (length a + 1) records))
       ∙ ap (map (lower d)) (map-take slot (length b) (drop (length a + 1) records) ∙ ap (take (length b)) (map-drop slot (length a + 1) records)
-      ∙ part-behind (slots records) (slots_from 0 a) (slot_at (0 + total a) e ∷ []) (slots_from behind b) _ _ _ records-split v (slots_length behind b))
+      ∙ part_behind (slots records) (slots_from 0 a) (slot_at (0 + total a) e ∷ []) (slots_from behind b) _ _ _ records_split v (slots_length behind b))
       ∙ slots_lower d (0 + total a) b)
-      ∙ placed-over (slots records) (slots_from 0 a) _ (slots_from (0 + total a) b) (length a) records-split (slots_length 0 a)
+      ∙ placed_over (slots records) (slots_from 0 a) _ (slots_from (0 + total a) b) (length a) records_split (slots_length 0 a)
       ∙ ap (λ (x : List Slot). front x (slots records)) (sym (slots-append 0 a b)))
       (omega (arith, contours_are (a ++ e ∷ b) points records n h, length-append a (e ∷ b), length-append a b)))
       ∙ ap (λ (k : List Entry). laid_out k (lent points records n)) (sym (removed_is press a e b m o))
@@ -190,8 +190,8 @@ module _ (l : List Entry) (points : List ℤ) (records : List (List ℕ)) (n : �
   end_is : (k : ℕ) → k < n → get_or (get_or records k []) 1 0 ≡ total (take k l) + count (get_or l k nobody).contour
   end_is k b = ap (λ (s : Slot). s.end) (record_is k b) ∙ omega arith
 
-  pub press-is : (k : ℕ) → k < n → press_at records k ≡ (get_or l k nobody).press
-  press-is k b = ap (λ (s : Slot). s.press) (record_is k b)
+  pub press_is : (k : ℕ) → k < n → press_at records k ≡ (get_or l k nobody).press
+  press_is k b = ap (λ (s : Slot). s.press) (record_is k b)
 
   -- contour number k, those before it and those behind it
   module _ (k : ℕ) (b : k < n) where
@@ -238,7 +238,7 @@ module _ (l : List Entry) (points : List ℤ) (records : List (List ℕ)) (n : �
         let a4 : 2 * (end - start) ≡ 2 * c = omega arith in
         let a5 : length (take k l) ≡ k = length-take-le k l (omega (arith, contours_are l points records n h)) in
         let a6 : n - (k + 1) ≡ length (drop (suc k) l) = omega (arith, length-drop (suc k) l, contours_are l points records n h) in
-        let mine-is : mine press this ≡ true = eq-eqb press this.press (sym m ∙ press-is k b) in
+        let mine-is : mine press this ≡ true = eq-eqb press this.press (sym m ∙ press_is k b) in
         let none_is : has press (drop (suc k) l) ≡ false = none_has press nobody (drop (suc k) l) none in
         taken_out press (take k l) this (drop (suc k) l) points records n (subst (λ (z : List Entry). Lies z (lent points records n)) split h) mine-is none_is p r
         (x ∙ ap₂ (λ (i j : ℕ). placed (2 * i) (take (2 * j) (drop (2 * i + 2 * (end - start)) points)) points) a1 a2
@@ -250,12 +250,12 @@ module _ (l : List Entry) (points : List ℤ) (records : List (List ℕ)) (n : �
         none : (j : ℕ) → j < length (drop (suc k) l) → (get_or (drop (suc k) l) j nobody).press ≡ press → ⊥
         none j i e =
             let w : suc k + j < n = omega (arith, length-drop (suc k) l, contours_are l points records n h) in
-            f (suc k + j) (omega arith) w (press-is (suc k + j) w ∙ ap (λ (z : Entry). z.press) (sym (get_or-drop (suc k) l j nobody)) ∙ e)
+            f (suc k + j) (omega arith) w (press_is (suc k + j) w ∙ ap (λ (z : Entry). z.press) (sym (get_or-drop (suc k) l j nobody)) ∙ e)
 
-  pub some-newest : (press k : ℕ) → k < n → press_at records k ≡ press → has press l ≡ true
-  some-newest press k b e =
-      ap (has press) (split k b) ∙ has_in press (take k l) (get_or l k nobody) (drop (suc k) l) (eq-eqb press (get_or l k nobody).press (sym e ∙ press-is k b))
+  pub some_newest : (press k : ℕ) → k < n → press_at records k ≡ press → has press l ≡ true
+  some_newest press k b e =
+      ap (has press) (split k b) ∙ has_in press (take k l) (get_or l k nobody) (drop (suc k) l) (eq-eqb press (get_or l k nobody).press (sym e ∙ press_is k b))
 
-  pub none-newest : (press : ℕ) → ((j : ℕ) → j < n → press_at records j ≡ press → ⊥) → has press l ≡ false
-  none-newest press f =
-      none_has press nobody l (λ j i e. let w : j < n = omega (arith, contours_are l points records n h) in f j w (press-is j w ∙ e))
+  pub none_newest : (press : ℕ) → ((j : ℕ) → j < n → press_at records j ≡ press → ⊥) → has press l ≡ false
+  none_newest press f =
+      none_has press nobody l (λ j i e. let w : j < n = omega (arith, contours_are l points records n h) in f j w (press_is j w ∙ e))

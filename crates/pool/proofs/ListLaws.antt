@@ -14,29 +14,29 @@ use Rattle.pool.specs.inside.Records.{total}
 
 -- one contour in front of others, or not
 module _ (e : Entry) where
-  own-if : (q : ℕ) (t : Bool) (x : List Entry) → own q (if_so t e x) ≡ if_so (t && mine q e) e (own q x)
+  own_if : (q : ℕ) (t : Bool) (x : List Entry) → own q (if_so t e x) ≡ if_so (t && mine q e) e (own q x)
   unfolding own
-  own-if q true x = refl
-  own-if q false x = refl
+  own_if q true x = refl
+  own_if q false x = refl
 
-  removed-if : (p : ℕ) (t : Bool) (x : List Entry) → removed p (if_so t e x) ≡ if_so (t && (has p x || not (mine p e))) e (removed p x)
+  removed_if : (p : ℕ) (t : Bool) (x : List Entry) → removed p (if_so t e x) ≡ if_so (t && (has p x || not (mine p e))) e (removed p x)
   unfolding removed
-  removed-if p true x = refl
-  removed-if p false x = refl
+  removed_if p true x = refl
+  removed_if p false x = refl
 
-  has-if : (p : ℕ) (t : Bool) (x : List Entry) → has p (if_so t e x) ≡ ((t && mine p e) || has p x)
+  has_if : (p : ℕ) (t : Bool) (x : List Entry) → has p (if_so t e x) ≡ ((t && mine p e) || has p x)
   unfolding has
-  has-if p true x = refl
-  has-if p false x = refl
+  has_if p true x = refl
+  has_if p false x = refl
 
-  if-append : (t : Bool) (x y z : List Entry) → x ≡ y ++ z → if_so t e x ≡ if_so t e y ++ z
-  if-append true x y z h = ap (λ (l : List Entry). e ∷ l) h
-  if-append false x y z h = h
+  if_append : (t : Bool) (x y z : List Entry) → x ≡ y ++ z → if_so t e x ≡ if_so t e y ++ z
+  if_append true x y z h = ap (λ (l : List Entry). e ∷ l) h
+  if_append false x y z h = h
 
   -- a number that grows with each contour grows at most by this one's
-  least-if : (f : List Entry → ℕ) (n : ℕ) → ((l : List Entry) → f (e ∷ l) ≡ n + f l) → (t : Bool) (x : List Entry) → f (if_so t e x) ≤ n + f x
-  least-if f n h true x = omega (arith, h x)
-  least-if f n h false x = omega arith
+  least_if : (f : List Entry → ℕ) (n : ℕ) → ((l : List Entry) → f (e ∷ l) ≡ n + f l) → (t : Bool) (x : List Entry) → f (if_so t e x) ≤ n + f x
+  least_if f n h true x = omega (arith, h x)
+  least_if f n h false x = omega arith
 
 -- what holds of every contour
 module _ (P : Entry → Type 0) where
@@ -44,9 +44,9 @@ module _ (P : Entry → Type 0) where
   every_append [] b h k = k
   every_append (e ∷ a) b h k = (h.0, every_append a b h.1 k)
 
-  pub every-split : (a b : List Entry) → Every P (a ++ b) → Every P a × Every P b
-  every-split [] b h = (tt, h)
-  every-split (e ∷ a) b h = ((h.0, (every-split a b h.1).0), (every-split a b h.1).1)
+  pub every_split : (a b : List Entry) → Every P (a ++ b) → Every P a × Every P b
+  every_split [] b h = (tt, h)
+  every_split (e ∷ a) b h = ((h.0, (every_split a b h.1).0), (every_split a b h.1).1)
 
   pub every_removed : (p : ℕ) (l : List Entry) → Every P l → Every P (removed p l)
   unfolding removed
@@ -61,7 +61,7 @@ module _ (P : Entry → Type 0) where
 pub own-append : (q : ℕ) (a b : List Entry) → own q (a ++ b) ≡ own q a ++ own q b
 unfolding own
 own-append q [] b = refl
-own-append q (e ∷ a) b = if-append e (mine q e) _ _ _ (own-append q a b)
+own-append q (e ∷ a) b = if_append e (mine q e) _ _ _ (own-append q a b)
 
 pub held-append : (a b : List Entry) → held (a ++ b) ≡ held a + held b
 unfolding held
@@ -118,13 +118,13 @@ pub removed_others : (p q : ℕ) → (q ≡ p → ⊥) → (l : List Entry) → 
 unfolding own removed
 removed_others p q n [] = refl
 removed_others p q n (e ∷ l) =
-    own-if e q (has p l || not (mine p e)) (removed p l)
+    own_if e q (has p l || not (mine p e)) (removed p l)
     ∙ ap₂ (λ (b : Bool) (x : List Entry). if_so b e x) (stays (has p l) (mine p e) (mine q e) (apart p q e n)) (removed_others p q n l)
 
 has_own : (p : ℕ) (l : List Entry) → has p (own p l) ≡ has p l
 unfolding has own
 has_own p [] = refl
-has_own p (e ∷ l) = has-if e p (mine p e) (own p l) ∙ ap₂ (λ (a b : Bool). a || b) (twice (mine p e)) (has_own p l)
+has_own p (e ∷ l) = has_if e p (mine p e) (own p l) ∙ ap₂ (λ (a b : Bool). a || b) (twice (mine p e)) (has_own p l)
   where
     twice : (t : Bool) → (t && t) ≡ t
     twice true = refl
@@ -135,28 +135,28 @@ pub own_removed : (p : ℕ) (l : List Entry) → own p (removed p l) ≡ removed
 unfolding own removed
 own_removed p [] = refl
 own_removed p (e ∷ l) =
-    own-if e p (has p l || not (mine p e)) (removed p l)
+    own_if e p (has p l || not (mine p e)) (removed p l)
     ∙ ap₂ (λ (b : Bool) (x : List Entry). if_so b e x)
     (swapped (has p l || not (mine p e)) (mine p e) ∙ ap (λ (h : Bool). mine p e && (h || not (mine p e))) (sym (has_own p l)))
     (own_removed p l)
-    ∙ sym (removed-if e p (mine p e) (own p l))
+    ∙ sym (removed_if e p (mine p e) (own p l))
 
 -- what grows with each contour does not grow by a removal
 module _ (p : ℕ) (f : List Entry → ℕ) (size : Entry → ℕ) (grows : (e : Entry) (l : List Entry) → f (e ∷ l) ≡ size e + f l) where
-  removed-least : (l : List Entry) → f (removed p l) ≤ f l
+  removed_least : (l : List Entry) → f (removed p l) ≤ f l
   unfolding removed
-  removed-least [] = omega arith
-  removed-least (e ∷ l) = omega (arith, grows e l, least-if e f (size e) (grows e) (has p l || not (mine p e)) (removed p l), removed-least l)
+  removed_least [] = omega arith
+  removed_least (e ∷ l) = omega (arith, grows e l, least_if e f (size e) (grows e) (has p l || not (mine p e)) (removed p l), removed_least l)
 
 pub held_removed : (p : ℕ) (l : List Entry) → held (removed p l) ≤ held l
 unfolding held
-held_removed p l = removed-least p held (λ e. holding (count e.contour)) (λ e k. refl) l
+held_removed p l = removed_least p held (λ e. holding (count e.contour)) (λ e k. refl) l
 
 pub total_removed : (p : ℕ) (l : List Entry) → total (removed p l) ≤ total l
-total_removed p l = removed-least p total (λ e. count e.contour) (λ e k. refl) l
+total_removed p l = removed_least p total (λ e. count e.contour) (λ e k. refl) l
 
 pub length_removed : (p : ℕ) (l : List Entry) → length (removed p l) ≤ length l
-length_removed p l = removed-least p length (λ e. 1) (λ e k. omega arith) l
+length_removed p l = removed_least p length (λ e. 1) (λ e k. omega arith) l
 
 -- what both hold is what all hold
 held_split : (e : Entry) (x y z : List Entry) (k : ℕ) → e.press ≡ k → k ≤ 1 → held x ≡ held y + held z

@@ -12,7 +12,7 @@ module _ (row : List (List ℕ)) (from d n : ℕ) (h : from + n ≤ length row) 
   pub lowered-length : length (map (lowered d) (take n (drop from row))) ≡ n
   lowered-length = length-map (take n (drop from row)) (lowered d) ∙ part_length row from n h
 
-  pub lowered-at : (i : ℕ) → i < n → get_or (map (lowered d) (take n (drop from row))) i [] ≡ lowered d (get_or row (from + i) [])
-  lowered-at i k =
+  pub lowered_at : (i : ℕ) → i < n → get_or (map (lowered d) (take n (drop from row))) i [] ≡ lowered d (get_or row (from + i) [])
+  lowered_at i k =
       map_at (lowered d) (take n (drop from row)) i [] [] (omega (arith, part_length row from n h))
       ∙ ap (lowered d) (part_at row from n i [] k)

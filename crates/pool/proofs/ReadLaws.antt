@@ -16,7 +16,7 @@ use Rattle.buffer.specs.Parts as Parts
 use Rattle.buffer.specs.Answers.{counted}
 use Rattle.buffer.specs.inside.Ranges.{Names}
 use Rattle.buffer.proofs.ListLaws.{map_at}
-use Rattle.buffer.proofs.PartLaws.{part-holds}
+use Rattle.buffer.proofs.PartLaws.{part_holds}
 use Rattle.pool.specs.Lists.{Entry, capacity, held, own, free}
 use Rattle.pool.specs.Calls.{unsound}
 use Rattle.pool.specs.Rows.{Slot, slot, span_of, Lent, lent, used, named, contents, sound}
@@ -26,83 +26,83 @@ use Rattle.pool.specs.inside.Surveys.{Surveyed, share_of}
 use Rattle.pool.specs.declared.inner.survey.Survey.{Survey}
 use Rattle.pool.proofs.RecordLaws.{lain}
 use Rattle.pool.proofs.SoundLaws.{chain, read_own}
-use Rattle.pool.proofs.CallLaws.{share-is, both-held, all_held, records_there}
+use Rattle.pool.proofs.CallLaws.{share_is, both_held, all_held, records_there}
 
 -- a count of the pool, by the survey
 module _ (s : Lent) (f : Survey) (u : Surveyed s f) where
-  pub count-unsound : (g : List Entry → ℕ) → f.sound ≡ false → counted 6 0 ≡ count_of g s
+  pub count_unsound : (g : List Entry → ℕ) → f.sound ≡ false → counted 6 0 ≡ count_of g s
   unfolding first_of
-  count-unsound g e = ap (λ (t : Bool). counted (first_of (unsound t)) (g (contents s))) (sym e ∙ u.sound_is)
+  count_unsound g e = ap (λ (t : Bool). counted (first_of (unsound t)) (g (contents s))) (sym e ∙ u.sound_is)
 
   module _ (e : f.sound ≡ true) where
     given : (g : List Entry → ℕ) (n : ℕ) → n ≡ g (contents s) → counted 0 n ≡ count_of g s
     unfolding first_of
     given g n h = ap (counted 0) h ∙ ap (λ (t : Bool). counted (first_of (unsound t)) (g (contents s))) (sym e ∙ u.sound_is)
 
-    pub contours-given : (p n : ℕ) → n ≡ length (own_slots p (used s)) → counted 0 n ≡ contours_count p s
+    pub contours_given : (p n : ℕ) → n ≡ length (own_slots p (used s)) → counted 0 n ≡ contours_count p s
     unfolding contours_count
-    contours-given p n h =
+    contours_given p n h =
         given (λ l. length (own p l)) n
         (h ∙ sym (length-map (own_slots p (used s)) (named s.points)) ∙ ap length (sym (read_own s.points p (used s))))
 
-    pub held-given : (b : Bool) (n : ℕ) → n ≡ share_of b f → counted 0 n ≡ held_count (number b) s
+    pub held_given : (b : Bool) (n : ℕ) → n ≡ share_of b f → counted 0 n ≡ held_count (number b) s
     unfolding held_count
-    held-given b n h = given (λ l. held (own (number b) l)) n (h ∙ share-is s f u b e)
+    held_given b n h = given (λ l. held (own (number b) l)) n (h ∙ share_is s f u b e)
 
-    pub both-within : f.first + f.second ≤ capacity
-    both-within = omega (arith, both-held s f u e, all_held s f u e)
+    pub both_within : f.first + f.second ≤ capacity
+    both_within = omega (arith, both_held s f u e, all_held s f u e)
 
-    pub free-given : (n : ℕ) → n ≡ capacity - (f.first + f.second) → counted 0 n ≡ free_count s
+    pub free_given : (n : ℕ) → n ≡ capacity - (f.first + f.second) → counted 0 n ≡ free_count s
     unfolding free_count
-    free-given n h = given free n (h ∙ ap (λ (k : ℕ). capacity - k) (both-held s f u e))
+    free_given n h = given free n (h ∙ ap (λ (k : ℕ). capacity - k) (both_held s f u e))
 
 -- a contour of a press, as a part of the points
 module _ (points : Part) (records : List (List ℕ)) (n : ℕ) (f : Survey) (u : Surveyed (lent points.numbers records n) f) (p k : ℕ) where
   abbrev rows : Lent
   rows = lent points.numbers records n
 
-  abbrev own-spans : List Span
-  own-spans = map span_of (own_slots p (used rows))
+  abbrev own_spans : List Span
+  own_spans = map span_of (own_slots p (used rows))
 
-  abbrev part-of-own : Part
-  part-of-own = get_or (map (Parts.named points) own-spans) k (none points)
+  abbrev part_of_own : Part
+  part_of_own = get_or (map (Parts.named points) own_spans) k (none points)
 
-  pub part-unsound : f.sound ≡ false → none points ≡ contour_of points records n p k
+  pub part_unsound : f.sound ≡ false → none points ≡ contour_of points records n p k
   unfolding contour_of first_of
-  part-unsound e = ap (λ (t : Bool). Parts.handed (first_of (unsound t)) points part-of-own) (sym e ∙ u.sound_is)
+  part_unsound e = ap (λ (t : Bool). Parts.handed (first_of (unsound t)) points part_of_own) (sym e ∙ u.sound_is)
 
   module _ (e : f.sound ≡ true) where
     is_sound : sound rows ≡ true
     is_sound = sym u.sound_is ∙ e
 
-    handed-sound : (q : Part) → q ≡ part-of-own → q ≡ contour_of points records n p k
+    handed_sound : (q : Part) → q ≡ part_of_own → q ≡ contour_of points records n p k
     unfolding contour_of first_of
-    handed-sound q h = h ∙ ap (λ (t : Bool). Parts.handed (first_of (unsound t)) points part-of-own) (sym is_sound)
+    handed_sound q h = h ∙ ap (λ (t : Bool). Parts.handed (first_of (unsound t)) points part_of_own) (sym is_sound)
 
     within : n ≤ length records
     within = records_there points.numbers records n f u e
 
     module _ (r : ℕ) (w : Found p k n records r) where
-      spans-long : length (map (Parts.named points) own-spans) ≡ length (own_slots p (used rows))
-      spans-long = length-map own-spans (Parts.named points) ∙ length-map (own_slots p (used rows)) span_of
+      spans_long : length (map (Parts.named points) own_spans) ≡ length (own_slots p (used rows))
+      spans_long = length-map own_spans (Parts.named points) ∙ length-map (own_slots p (used rows)) span_of
 
-      pub part-absent : r ≡ 0 → none points ≡ contour_of points records n p k
-      part-absent z =
-          let l : length (map (Parts.named points) own-spans) ≤ k = omega (arith, spans-long, w.absent z) in
-          handed-sound (none points) (sym (get_or-eq_default (map (Parts.named points) own-spans) (none points) l))
+      pub part_absent : r ≡ 0 → none points ≡ contour_of points records n p k
+      part_absent z =
+          let l : length (map (Parts.named points) own_spans) ≤ k = omega (arith, spans_long, w.absent z) in
+          handed_sound (none points) (sym (get_or-eq_default (map (Parts.named points) own_spans) (none points) l))
 
       module _ (z : r ≡ 0 → ⊥) where
-        pub part-names : Names points.numbers records (r - 1)
-        part-names =
+        pub part_names : Names points.numbers records (r - 1)
+        part_names =
             let j = lain (count points.numbers) n records (r - 1) within (chain rows is_sound) (omega (arith, w.within)) in
             record { there = omega (arith, w.within, within); forward = j.forward; fits = omega (arith, j.ends) }
 
-        pub part-there : Parts.named points (span (get_or records (r - 1) [])) ≡ contour_of points records n p k
-        part-there =
+        pub part_there : Parts.named points (span (get_or records (r - 1) [])) ≡ contour_of points records n p k
+        part_there =
             let t = w.there (omega arith) in
-            handed-sound _
+            handed_sound _
             (ap (λ (s : Slot). Parts.named points (span_of s)) t.1
-            ∙ sym (map_at (Parts.named points) own-spans k (none points) (span []) (omega (arith, t.0, length-map (own_slots p (used rows)) span_of))
+            ∙ sym (map_at (Parts.named points) own_spans k (none points) (span []) (omega (arith, t.0, length-map (own_slots p (used rows)) span_of))
             ∙ ap (Parts.named points) (map_at span_of (own_slots p (used rows)) k (span []) (slot []) t.0)))
 
 -- the contours that a press reads by number are its own, in order
@@ -112,7 +112,7 @@ unfolding contour_of first_of
 read_by_number points records n p k ok =
     let l = own_slots p (used (lent points.numbers records n)) in
     ap (λ (t : Bool). (Parts.handed (first_of (unsound t)) points (get_or (map (Parts.named points) (map span_of l)) k (none points))).numbers) ok
-    ∙ part-holds points (map span_of l) k
+    ∙ part_holds points (map span_of l) k
     ∙ ap (λ (x : List (List ℤ)). get_or x k [])
     (map-map (contour points.numbers) span_of l ∙ sym (map-map (λ e. e.contour) (named points.numbers) l)
     ∙ ap (map (λ e. e.contour)) (sym (read_own points.numbers p (used (lent points.numbers records n)))))

@@ -33,17 +33,17 @@ module _ (records : List (List ℕ)) (n i : ℕ) (fit : n ≤ length records) wh
 
   -- the rest of a press's records, if the next is its own, or not, or none is left
   module _ (press : ℕ) where
-    pub own-mine : i < n → press_at records i ≡ press → own_slots press (drop i (take n (slots records))) ≡ slot (get_or records i []) ∷ own_slots press (drop (i + 1) (take n (slots records)))
+    pub own_mine : i < n → press_at records i ≡ press → own_slots press (drop i (take n (slots records))) ≡ slot (get_or records i []) ∷ own_slots press (drop (i + 1) (take n (slots records)))
     unfolding own_slots
-    own-mine h e = rw (here h, eq-eqb press (press_at records i) (sym e))
+    own_mine h e = rw (here h, eq-eqb press (press_at records i) (sym e))
 
-    pub own-others : i < n → (press_at records i ≡ press → ⊥) → own_slots press (drop i (take n (slots records))) ≡ own_slots press (drop (i + 1) (take n (slots records)))
+    pub own_others : i < n → (press_at records i ≡ press → ⊥) → own_slots press (drop i (take n (slots records))) ≡ own_slots press (drop (i + 1) (take n (slots records)))
     unfolding own_slots
-    own-others h f = rw (here h, ne_eqb press (press_at records i) (λ e. f (sym e)))
+    own_others h f = rw (here h, ne_eqb press (press_at records i) (λ e. f (sym e)))
 
-    pub own-done : n ≤ i → own_slots press (drop i (take n (slots records))) ≡ []
+    pub own_done : n ≤ i → own_slots press (drop i (take n (slots records))) ≡ []
     unfolding own_slots
-    own-done e = rw (nothing e)
+    own_done e = rw (nothing e)
 
 -- the search for number k of a press: it is number rest of those from i on
 pub record Seeking (records : List (List ℕ)) (n press k i rest : ℕ) : Type 0 where
@@ -58,9 +58,9 @@ module _ {records : List (List ℕ)} {n press k i rest : ℕ} (fit : n ≤ lengt
   abbrev later : List Slot
   later = own_slots press (drop (i + 1) (take n (slots records)))
 
-  pub seeking-here : i < n → press_at records i ≡ press → rest ≡ 0 → Found press k n records (i + 1)
-  seeking-here h e z =
-      let o = own-mine records n i fit press h e in
+  pub seeking_here : i < n → press_at records i ≡ press → rest ≡ 0 → Found press k n records (i + 1)
+  seeking_here h e z =
+      let o = own_mine records n i fit press h e in
       record {
         within = omega arith;
         there = λ w. (
@@ -71,9 +71,9 @@ module _ {records : List (List ℕ)} {n press k i rest : ℕ} (fit : n ≤ lengt
         absent = λ w. absurd (omega arith);
       }
 
-  pub seeking-past : i < n → press_at records i ≡ press → (rest ≡ 0 → ⊥) → Seeking records n press k (i + 1) (rest - 1)
-  seeking-past h e z =
-      let o = own-mine records n i fit press h e in
+  pub seeking_past : i < n → press_at records i ≡ press → (rest ≡ 0 → ⊥) → Seeking records n press k (i + 1) (rest - 1)
+  seeking_past h e z =
+      let o = own_mine records n i fit press h e in
       let d : rest ≡ suc (rest - 1) = omega arith in
       record {
         within = omega arith;
@@ -81,16 +81,16 @@ module _ {records : List (List ℕ)} {n press k i rest : ℕ} (fit : n ≤ lengt
         is = s.is ∙ ap (λ (l : List Slot). get_or l rest (slot [])) o ∙ ap (λ (j : ℕ). get_or (slot (get_or records i []) ∷ later) j (slot [])) d;
       }
 
-  pub seeking-other : i < n → (press_at records i ≡ press → ⊥) → Seeking records n press k (i + 1) rest
-  seeking-other h f =
-      let o = own-others records n i fit press h f in
+  pub seeking_other : i < n → (press_at records i ≡ press → ⊥) → Seeking records n press k (i + 1) rest
+  seeking_other h f =
+      let o = own_others records n i fit press h f in
       record { within = omega arith; counts = s.counts ∙ ap (λ (l : List Slot). length l + k) o; is = s.is ∙ ap (λ (l : List Slot). get_or l rest (slot [])) o }
 
-  pub seeking-none : n ≤ i → Found press k n records 0
-  seeking-none h = record {
+  pub seeking_none : n ≤ i → Found press k n records 0
+  seeking_none h = record {
     within = omega arith;
     there = λ w. absurd (omega arith);
-    absent = λ w. omega (arith, s.counts, ap length (own-done records n i fit press h));
+    absent = λ w. omega (arith, s.counts, ap length (own_done records n i fit press h));
   }
 
 -- what the first of sound records says
@@ -184,17 +184,17 @@ module _ {records : List (List ℕ)} {n places at all second i : ℕ} (fit : n �
         ≡ ((follows at this && leb this.end places) && chained places this.end (drop (i + 1) (take n (slots records))))
     chain_next = s.chain ∙ ap (chained places at) (here records n i fit h) ∙ first_chained places at this _
 
-    pub surveying-broken : (follows at this && leb this.end places) ≡ false → chained places 0 (take n (slots records)) ≡ false
-    surveying-broken e = rw e at chain_next
+    pub surveying_broken : (follows at this && leb this.end places) ≡ false → chained places 0 (take n (slots records)) ≡ false
+    surveying_broken e = rw e at chain_next
 
     module _ (e : (follows at this && leb this.end places) ≡ true) where
       pub followed : Next places at this []
       unfolding chained
       followed = next places at this [] e
 
-      pub surveying-more : (size : ℕ) → size ≡ holding (this.end - at) → Surveying records n places this.end (all + size) (second + this.press * size) (i + 1)
+      pub surveying_more : (size : ℕ) → size ≡ holding (this.end - at) → Surveying records n places this.end (all + size) (second + this.press * size) (i + 1)
       unfolding end_of held_by
-      surveying-more size g =
+      surveying_more size g =
           let j = followed in
           let f : size ≡ holding (this.end - this.start) = g ∙ ap (λ (k : ℕ). holding (this.end - k)) j.starts in
           let m = second_mine this.press size j.press in
@@ -212,21 +212,21 @@ module _ {records : List (List ℕ)} {n places at all second i : ℕ} (fit : n �
           }
 
   module _ (h : n ≤ i) where
-    pub surveyed-chain : chained places 0 (take n (slots records)) ≡ true
+    pub surveyed_chain : chained places 0 (take n (slots records)) ≡ true
     unfolding chained
-    surveyed-chain = s.chain ∙ ap (chained places at) (nothing records n i fit h) ∙ le-leb at places s.ends
+    surveyed_chain = s.chain ∙ ap (chained places at) (nothing records n i fit h) ∙ le-leb at places s.ends
 
-    pub surveyed-end : at ≡ end_of 0 (take n (slots records))
+    pub surveyed_end : at ≡ end_of 0 (take n (slots records))
     unfolding end_of
-    surveyed-end = sym (s.end ∙ ap (end_of at) (nothing records n i fit h))
+    surveyed_end = sym (s.end ∙ ap (end_of at) (nothing records n i fit h))
 
-    pub surveyed-second : second ≡ held_by 1 (take n (slots records))
+    pub surveyed_second : second ≡ held_by 1 (take n (slots records))
     unfolding held_by
-    surveyed-second = omega (arith, s.one, ap (held_by 1) (nothing records n i fit h))
+    surveyed_second = omega (arith, s.one, ap (held_by 1) (nothing records n i fit h))
 
-    pub surveyed-first : all - second ≡ held_by 0 (take n (slots records))
+    pub surveyed_first : all - second ≡ held_by 0 (take n (slots records))
     unfolding held_by
-    surveyed-first = omega (arith, s.both, s.part, surveyed-second, ap (held_by 0) (nothing records n i fit h), ap (held_by 1) (nothing records n i fit h))
+    surveyed_first = omega (arith, s.both, s.part, surveyed_second, ap (held_by 0) (nothing records n i fit h), ap (held_by 1) (nothing records n i fit h))
 
 -- record number i runs forward, and ends within the places
 pub record Lain (places : ℕ) (s : Slot) : Type 0 where

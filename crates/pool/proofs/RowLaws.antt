@@ -24,8 +24,8 @@ module _ {A B : Type 0} (f : A → B) where
   map-set (x ∷ l) zero v = refl
   map-set (x ∷ l) (suc i) v = ap (λ (k : List B). f x ∷ k) (map-set l i v)
 
-  pub map-placed : (at : ℕ) (l row : List A) → map f (placed at l row) ≡ placed at (map f l) (map f row)
-  map-placed at l row =
+  pub map_placed : (at : ℕ) (l row : List A) → map f (placed at l row) ≡ placed at (map f l) (map f row)
+  map_placed at l row =
       map-append f (take at row ++ l) (drop (at + length l) row)
       ∙ ap₂ (λ (a b : List B). a ++ b)
       (map-append f (take at row) l ∙ ap (λ (a : List B). a ++ map f l) (map-take at row))
@@ -36,14 +36,14 @@ module _ {A : Type 0} where
   pub front_self : (row a rest : List A) → row ≡ a ++ rest → row ≡ front a row
   front_self row a rest e = e ∙ ap (λ (k : List A). a ++ k) (sym (ap (drop (length a)) e ∙ drop_at a rest (length a) refl))
 
-  pub placed-over : (row a rest c : List A) (n : ℕ) → row ≡ a ++ rest → length a ≡ n → placed n c row ≡ front (a ++ c) row
-  placed-over row a rest c n e h =
+  pub placed_over : (row a rest c : List A) (n : ℕ) → row ≡ a ++ rest → length a ≡ n → placed n c row ≡ front (a ++ c) row
+  placed_over row a rest c n e h =
       let k : n + length c ≡ length (a ++ c) = omega (arith, length-append a c) in
       ap₂ (λ (x : List A) (m : ℕ). x ++ c ++ drop m row) (ap (take n) e ∙ take_at a rest n h) k
 
   -- a part of a row that stands behind two others
-  pub part-behind : (row a d b rest : List A) (n m : ℕ) → row ≡ a ++ (d ++ (b ++ rest)) → length a + length d ≡ n → length b ≡ m → take m (drop n row) ≡ b
-  part-behind row a d b rest n m e h k =
+  pub part_behind : (row a d b rest : List A) (n m : ℕ) → row ≡ a ++ (d ++ (b ++ rest)) → length a + length d ≡ n → length b ≡ m → take m (drop n row) ≡ b
+  part_behind row a d b rest n m e h k =
       ap (λ (r : List A). take m (drop n r)) (e ∙ sym (append_assoc a d (b ++ rest)))
       ∙ ap (take m) (drop_at (a ++ d) (b ++ rest) n (length-append a d ∙ h))
       ∙ take_at b rest m k

@@ -28,7 +28,7 @@ use Rattle.pool.specs.declared.inner.survey.Survey.{Survey}
 use Rattle.pool.proofs.ListLaws.{total-append, total_held, length_held, total_removed, length_removed, every_append, every_removed}
 use Rattle.pool.proofs.FairLaws.{fair_after, held_all, held_added}
 use Rattle.pool.proofs.LayoutLaws.{slots_length, numbers-length}
-use Rattle.pool.proofs.SoundLaws.{sound-lies, sound-fair, sound-tooled}
+use Rattle.pool.proofs.SoundLaws.{sound_lies, sound_fair, sound_tooled}
 use Rattle.pool.proofs.CallLaws.{outcome_reply}
 use Rattle.pool.proofs.Theorems.{others_stay, told_by_free}
 
@@ -88,20 +88,20 @@ sound_laid l s f v t =
 
 -- what an outcome leaves
 module _ (s : Lent) (k : List Entry) where
-  outcome-read : (r : ℕ) → (r ≡ 0 → Every Even k) → contents (outcome r k s).pool ≡ unless r k (contents s)
-  outcome-read zero h = read_laid k s (h refl)
-  outcome-read (suc r) h = refl
+  outcome_read : (r : ℕ) → (r ≡ 0 → Every Even k) → contents (outcome r k s).pool ≡ unless r k (contents s)
+  outcome_read zero h = read_laid k s (h refl)
+  outcome_read (suc r) h = refl
 
-  outcome-sound : (r : ℕ) → sound s ≡ true → (r ≡ 0 → Every Even k) → (r ≡ 0 → Every Tooled k) → (r ≡ 0 → Fair k) → sound (outcome r k s).pool ≡ true
-  outcome-sound zero e h t f = sound_laid k s (f refl) (h refl) (t refl)
-  outcome-sound (suc r) e h t f = e
+  outcome_sound : (r : ℕ) → sound s ≡ true → (r ≡ 0 → Every Even k) → (r ≡ 0 → Every Tooled k) → (r ≡ 0 → Fair k) → sound (outcome r k s).pool ≡ true
+  outcome_sound zero e h t f = sound_laid k s (f refl) (h refl) (t refl)
+  outcome_sound (suc r) e h t f = e
 
-  outcome-enough : (r : ℕ) → (r ≡ 0 → (length (numbers k) ≤ length s.points) × (length k ≤ length s.records)) → enough (outcome r k s).pool ≡ enough s
-  outcome-enough zero h =
+  outcome_enough : (r : ℕ) → (r ≡ 0 → (length (numbers k) ≤ length s.points) × (length k ≤ length s.records)) → enough (outcome r k s).pool ≡ enough s
+  outcome_enough zero h =
       let a : length (front (numbers k) s.points) ≡ length s.points = front_length s.points (numbers k) (h refl).0 in
       let b : length (front (slots_from 0 k) s.records) ≡ length s.records = front_length s.records (slots_from 0 k) (omega (arith, slots_length 0 k, (h refl).1)) in
       ap₂ (λ (m n : ℕ). leb (2 * capacity) m && leb capacity n) a b
-  outcome-enough (suc r) h = refl
+  outcome_enough (suc r) h = refl
 
 -- rows in which a pool lies have room for it
 lies_long : (l : List Entry) (s : Lent) → Lies l s → (length (numbers l) ≤ length s.points) × (length l ≤ length s.records)
@@ -115,67 +115,67 @@ module _ (s : Lent) (ok : sound s ≡ true) (p : ℕ) where
   abbrev before : List Entry
   before = contents s
 
-  asked-told : (c : Call) → refused p c s ≡ told (enough s) p before c
-  asked-told c = ap (λ (t : Bool). first_of (refusals t (enough s) (own p before) (held (own (other p) before)) c)) ok
+  asked_told : (c : Call) → refused p c s ≡ told (enough s) p before c
+  asked_told c = ap (λ (t : Bool). first_of (refusals t (enough s) (own p before) (held (own (other p) before)) c)) ok
 
-  called-out : (c : Call) → called p c s ≡ outcome (refused p c s) (done p c before) s
+  called_out : (c : Call) → called p c s ≡ outcome (refused p c s) (done p c before) s
   unfolding called
-  called-out c = refl
+  called_out c = refl
 
   -- what the press is told is told of the list
-  pub called-told : (c : Call) → (called p c s).reply ≡ told (enough s) p before c
-  called-told c = ap (λ (o : Outcome). o.reply) (called-out c) ∙ outcome_reply s (done p c before) (refused p c s) ∙ asked-told c
+  pub called_told : (c : Call) → (called p c s).reply ≡ told (enough s) p before c
+  called_told c = ap (λ (o : Outcome). o.reply) (called_out c) ∙ outcome_reply s (done p c before) (refused p c s) ∙ asked_told c
 
-  done-even : (c : Call) → refused p c s ≡ 0 → Every Even (done p c before)
-  done-even (add tool contour) z =
+  done_even : (c : Call) → refused p c s ≡ 0 → Every Even (done p c before)
+  done_even (add tool contour) z =
       let n : length contour ≡ 2 * count contour = omega (arith, eqb-false (length contour % 2) 1 (clear (rungs p (add tool contour) s) tt z).0) in
-      every_append Even before _ (sound-lies s ok).even (n, tt)
-  done-even remove z = every_removed Even p before (sound-lies s ok).even
+      every_append Even before _ (sound_lies s ok).even (n, tt)
+  done_even remove z = every_removed Even p before (sound_lies s ok).even
 
   -- and the rows then hold the list after the call
-  pub called-list : (c : Call) → contents (called p c s).pool ≡ after (enough s) p c before
-  called-list c =
-      ap (λ (o : Outcome). contents o.pool) (called-out c) ∙ outcome-read s (done p c before) (refused p c s) (done-even c)
-      ∙ ap (λ (r : ℕ). unless r (done p c before) before) (asked-told c)
+  pub called_list : (c : Call) → contents (called p c s).pool ≡ after (enough s) p c before
+  called_list c =
+      ap (λ (o : Outcome). contents o.pool) (called_out c) ∙ outcome_read s (done p c before) (refused p c s) (done_even c)
+      ∙ ap (λ (r : ℕ). unless r (done p c before) before) (asked_told c)
 
   module _ (b : p ≤ 1) where
-    done-fair : (c : Call) → refused p c s ≡ 0 → Fair (done p c before)
-    done-fair c z = subst (λ (r : ℕ). Fair (unless r (done p c before) before)) (sym (asked-told c) ∙ z) (fair_after (enough s) p c before b (sound-fair s ok))
+    done_fair : (c : Call) → refused p c s ≡ 0 → Fair (done p c before)
+    done_fair c z = subst (λ (r : ℕ). Fair (unless r (done p c before) before)) (sym (asked_told c) ∙ z) (fair_after (enough s) p c before b (sound_fair s ok))
 
-    done-tooled : (c : Call) → Fit c → Every Tooled (done p c before)
-    done-tooled (add tool contour) t = every_append Tooled before _ (sound-tooled s ok) (t, tt)
-    done-tooled remove t = every_removed Tooled p before (sound-tooled s ok)
+    done_tooled : (c : Call) → Fit c → Every Tooled (done p c before)
+    done_tooled (add tool contour) t = every_append Tooled before _ (sound_tooled s ok) (t, tt)
+    done_tooled remove t = every_removed Tooled p before (sound_tooled s ok)
 
     -- they stay sound
-    pub called-sound : (c : Call) → Fit c → sound (called p c s).pool ≡ true
-    called-sound c t =
-        ap (λ (o : Outcome). sound o.pool) (called-out c)
-        ∙ outcome-sound s (done p c before) (refused p c s) ok (done-even c) (λ z. done-tooled c t) (done-fair c)
+    pub called_sound : (c : Call) → Fit c → sound (called p c s).pool ≡ true
+    called_sound c t =
+        ap (λ (o : Outcome). sound o.pool) (called_out c)
+        ∙ outcome_sound s (done p c before) (refused p c s) ok (done_even c) (λ z. done_tooled c t) (done_fair c)
 
     -- the other press's contours, read in order, are the same; and a press is told by its own and the free count
-    pub called-apart : (q : ℕ) (c : Call) → (q ≡ p → ⊥) → own q (contents (called p c s).pool) ≡ own q before
-    called-apart q c n = ap (own q) (called-list c) ∙ others_stay (enough s) p q c before n
+    pub called_apart : (q : ℕ) (c : Call) → (q ≡ p → ⊥) → own q (contents (called p c s).pool) ≡ own q before
+    called_apart q c n = ap (own q) (called_list c) ∙ others_stay (enough s) p q c before n
 
-    pub called-told-free : (c : Call) → (called p c s).reply ≡ told_free (enough s) (own p before) (free before) c
-    called-told-free c = called-told c ∙ told_by_free (enough s) p c before b (sound-fair s ok)
+    pub called_told_free : (c : Call) → (called p c s).reply ≡ told_free (enough s) (own p before) (free before) c
+    called_told_free c = called_told c ∙ told_by_free (enough s) p c before b (sound_fair s ok)
 
     -- the rows are as long as they were
-    done-fits : (c : Call) → refused p c s ≡ 0 → (length (numbers (done p c before)) ≤ length s.points) × (length (done p c before) ≤ length s.records)
-    done-fits (add tool contour) z =
+    done_fits : (c : Call) → refused p c s ≡ 0 → (length (numbers (done p c before)) ≤ length s.points) × (length (done p c before) ≤ length s.records)
+    done_fits (add tool contour) z =
         let k = done p (add tool contour) before in
         let e : enough s ≡ true = not-false (enough s) (clear (rungs p (add tool contour) s) tt z).1.1.1.1.1.0 in
         let x : 2 * capacity ≤ length s.points = leb-true _ _ (and_left (leb (2 * capacity) (length s.points)) _ e) in
         let y : capacity ≤ length s.records = leb-true _ _ (and_right (leb (2 * capacity) (length s.points)) _ e) in
-        let w = held_all k (done-fair (add tool contour) z) in
-        (omega (arith, numbers-length k (done-even (add tool contour) z), total_held k), omega (arith, length_held k))
-    done-fits remove z =
-        let a = lies_long before s (sound-lies s ok) in (
-          omega (arith, numbers-length (removed p before) (done-even remove z), numbers-length before (sound-lies s ok).even, a.0, total_removed p before),
+        let w = held_all k (done_fair (add tool contour) z) in
+        (omega (arith, numbers-length k (done_even (add tool contour) z), total_held k), omega (arith, length_held k))
+    done_fits remove z =
+        let a = lies_long before s (sound_lies s ok) in (
+          omega (arith, numbers-length (removed p before) (done_even remove z), numbers-length before (sound_lies s ok).even, a.0, total_removed p before),
           omega (arith, a.1, length_removed p before),
         )
 
-    pub called-enough : (c : Call) → enough (called p c s).pool ≡ enough s
-    called-enough c = ap (λ (o : Outcome). enough o.pool) (called-out c) ∙ outcome-enough s (done p c before) (refused p c s) (done-fits c)
+    pub called_enough : (c : Call) → enough (called p c s).pool ≡ enough s
+    called_enough c = ap (λ (o : Outcome). enough o.pool) (called_out c) ∙ outcome_enough s (done p c before) (refused p c s) (done_fits c)
 
 -- the state after any number of calls is that of the plain list after the same calls
 pub state_is : (h : List Made) (s : Lent) → sound s ≡ true → ByTwo h → AllFit h → (sound (run_rows h s) ≡ true) × (contents (run_rows h s) ≡ run (enough s) h (contents s))
@@ -183,8 +183,8 @@ unfolding run_rows run
 state_is [] s ok two fit = (ok, refl)
 state_is (m ∷ h) s ok two fit =
     let t = (called m.press m.call s).pool in
-    let i = state_is h t (called-sound s ok m.press two.0 m.call fit.0) two.1 fit.1 in
-    (i.0, i.1 ∙ ap₂ (λ (e : Bool) (k : List Entry). run e h k) (called-enough s ok m.press two.0 m.call) (called-list s ok m.press m.call))
+    let i = state_is h t (called_sound s ok m.press two.0 m.call fit.0) two.1 fit.1 in
+    (i.0, i.1 ∙ ap₂ (λ (e : Bool) (k : List Entry). run e h k) (called_enough s ok m.press two.0 m.call) (called_list s ok m.press m.call))
 
 -- and what a press is told on the way is told of that list
 pub heard_is : (p : ℕ) (h : List Made) (s : Lent) → sound s ≡ true → ByTwo h → AllFit h → heard_rows p h s ≡ heard (enough s) p h (contents s)
@@ -192,15 +192,15 @@ unfolding heard_rows heard
 heard_is p [] s ok two fit = refl
 heard_is p (m ∷ h) s ok two fit =
     let t = (called m.press m.call s).pool in
-    let i = heard_is p h t (called-sound s ok m.press two.0 m.call fit.0) two.1 fit.1 in
+    let i = heard_is p h t (called_sound s ok m.press two.0 m.call fit.0) two.1 fit.1 in
     either (eqb p m.press) refl
-    (i ∙ ap₂ (λ (e : Bool) (k : List Entry). heard e p h k) (called-enough s ok m.press two.0 m.call) (called-list s ok m.press m.call))
+    (i ∙ ap₂ (λ (e : Bool) (k : List Entry). heard e p h k) (called_enough s ok m.press two.0 m.call) (called_list s ok m.press m.call))
   where
     either : (b : Bool) → eqb p m.press ≡ b → {x y : List ℕ} → x ≡ y
         → if_so b (called m.press m.call s).reply x ≡ if_so b (told (enough s) p (contents s) m.call) y
     either true e g =
         ap₂ (λ (r : ℕ) (k : List ℕ). r ∷ k)
-        (called-told s ok m.press m.call ∙ ap (λ (q : ℕ). told (enough s) q (contents s) m.call) (sym (eqb-true p m.press e))) g
+        (called_told s ok m.press m.call ∙ ap (λ (q : ℕ). told (enough s) q (contents s) m.call) (sym (eqb-true p m.press e))) g
     either false e g = g
 
 -- a caller that knows the survey before an addition knows it after
@@ -210,8 +210,8 @@ module _ (s : Lent) (f : Survey) (u : Surveyed s f) (tool : ℕ) (contour : List
 
   one_more : (p : ℕ) → (called p (add tool contour) s).reply ≡ 0 → contents (called p (add tool contour) s).pool ≡ added (entry p tool contour) (contents s)
   one_more p z =
-      called-list s ok p (add tool contour)
-      ∙ ap (λ (r : ℕ). unless r (added (entry p tool contour) (contents s)) (contents s)) (sym (called-told s ok p (add tool contour)) ∙ z)
+      called_list s ok p (add tool contour)
+      ∙ ap (λ (r : ℕ). unless r (added (entry p tool contour) (contents s)) (contents s)) (sym (called_told s ok p (add tool contour)) ∙ z)
 
   more : (p x y : ℕ) → p ≤ 1 → (called p (add tool contour) s).reply ≡ 0
       → x ≡ f.first + held (if_so (eqb 0 p) (entry p tool contour) []) → y ≡ f.second + held (if_so (eqb 1 p) (entry p tool contour) [])
@@ -219,14 +219,14 @@ module _ (s : Lent) (f : Survey) (u : Surveyed s f) (tool : ℕ) (contour : List
   more p x y b z g h =
       let q = one_more p z in
       record {
-        sound_is = e ∙ sym (called-sound s ok p b (add tool contour) small);
+        sound_is = e ∙ sym (called_sound s ok p b (add tool contour) small);
         points_are = λ w. omega (arith, ap total q, total-append (contents s) (entry p tool contour ∷ []), u.points_are e);
         first_holds = λ w. omega (arith, g, ap (λ (l : List Entry). held (own 0 l)) q, held_added p 0 tool contour (contents s), u.first_holds e);
         second_holds = λ w. omega (arith, h, ap (λ (l : List Entry). held (own 1 l)) q, held_added p 1 tool contour (contents s), u.second_holds e);
       }
 
-  pub surveyed-more : (b : Bool) → (called (number b) (add tool contour) s).reply ≡ 0
+  pub surveyed_more : (b : Bool) → (called (number b) (add tool contour) s).reply ≡ 0
       → Surveyed (called (number b) (add tool contour) s).pool (with_more b (count contour) f)
   unfolding held
-  surveyed-more false z = more 0 _ _ (omega arith) z (omega arith) (omega arith)
-  surveyed-more true z = more 1 _ _ (omega arith) z (omega arith) (omega arith)
+  surveyed_more false z = more 0 _ _ (omega arith) z (omega arith) (omega arith)
+  surveyed_more true z = more 1 _ _ (omega arith) z (omega arith) (omega arith)

@@ -18,7 +18,7 @@ use Rattle.pool.specs.Outcome.{own_slots}
 use Rattle.pool.specs.inside.Records.{end_of, total, Lies}
 use Rattle.pool.specs.inside.Surveys.{Surveyed}
 use Rattle.pool.specs.declared.inner.survey.Survey.{Survey}
-use Rattle.pool.proofs.RecordLaws.{Next, next, rises, Surveying, surveyed-chain, surveyed-end, surveyed-first, surveyed-second}
+use Rattle.pool.proofs.RecordLaws.{Next, next, rises, Surveying, surveyed_chain, surveyed_end, surveyed_first, surveyed_second}
 use Rattle.pool.proofs.RowLaws.{front_self}
 use Rattle.pool.proofs.LayoutLaws.{lent_is}
 
@@ -34,34 +34,34 @@ module _ (points : List ℤ) (places : ℕ) (long : 2 * places ≤ length points
     end_is : p + count (named points s).contour ≡ s.end
     end_is = omega (arith, size_is, j.starts, j.forward)
 
-  pub read-slots : (p : ℕ) (l : List Slot) → chained places p l ≡ true → slots_from p (map (named points) l) ≡ l
+  pub read_slots : (p : ℕ) (l : List Slot) → chained places p l ≡ true → slots_from p (map (named points) l) ≡ l
   unfolding slots_from
-  read-slots p [] e = refl
-  read-slots p (s ∷ l) e =
+  read_slots p [] e = refl
+  read_slots p (s ∷ l) e =
       let j = next places p s l e in
       ap₂ (λ (t : Slot) (k : List Slot). t ∷ k)
       (ap₂ (λ (x y : ℕ). record { start = x; end = y; tool = s.tool; press = s.press }) j.starts (end_is p s l j))
-      (ap (λ (q : ℕ). slots_from q (map (named points) l)) (end_is p s l j) ∙ read-slots s.end l j.rest)
+      (ap (λ (q : ℕ). slots_from q (map (named points) l)) (end_is p s l j) ∙ read_slots s.end l j.rest)
 
-  pub read-numbers : (p : ℕ) (l : List Slot) → chained places p l ≡ true → drop (2 * p) points ≡ numbers (map (named points) l) ++ drop (2 * end_of p l) points
+  pub read_numbers : (p : ℕ) (l : List Slot) → chained places p l ≡ true → drop (2 * p) points ≡ numbers (map (named points) l) ++ drop (2 * end_of p l) points
   unfolding joined end_of
-  read-numbers p [] e = refl
-  read-numbers p (s ∷ l) e =
+  read_numbers p [] e = refl
+  read_numbers p (s ∷ l) e =
       let j = next places p s l e in
       let n = 2 * s.end - 2 * s.start in
       let q : 2 * s.start + n ≡ 2 * s.end = omega (arith, j.forward) in
       ap (λ (k : ℕ). drop (2 * k) points) j.starts
       ∙ sym (take-append-drop n (drop (2 * s.start) points))
       ∙ ap (λ (x : List ℤ). (named points s).contour ++ x)
-      (drop-drop n (2 * s.start) points ∙ ap (λ (k : ℕ). drop k points) q ∙ read-numbers s.end l j.rest)
+      (drop-drop n (2 * s.start) points ∙ ap (λ (k : ℕ). drop k points) q ∙ read_numbers s.end l j.rest)
       ∙ sym (append_assoc (named points s).contour (numbers (map (named points) l)) (drop (2 * end_of s.end l) points))
 
-  pub read-total : (p : ℕ) (l : List Slot) → chained places p l ≡ true → p + total (map (named points) l) ≡ end_of p l
+  pub read_total : (p : ℕ) (l : List Slot) → chained places p l ≡ true → p + total (map (named points) l) ≡ end_of p l
   unfolding end_of
-  read-total p [] e = omega arith
-  read-total p (s ∷ l) e =
+  read_total p [] e = omega arith
+  read_total p (s ∷ l) e =
       let j = next places p s l e in
-      omega (arith, end_is p s l j, read-total s.end l j.rest)
+      omega (arith, end_is p s l j, read_total s.end l j.rest)
 
   pub read_held : (p : ℕ) (l : List Slot) (press : ℕ) → chained places p l ≡ true → held (own press (map (named points) l)) ≡ held_by press l
   unfolding held_by own held
@@ -74,10 +74,10 @@ module _ (points : List ℤ) (places : ℕ) (long : 2 * places ≤ length points
       counted true x k n m a b = ap₂ (λ (u v : ℕ). u + v) a b
       counted false x k n m a b = omega arith
 
-  pub read-every : (P : Entry → Type 0) → ((p : ℕ) (s : Slot) (l : List Slot) → Next places p s l → P (named points s))
+  pub read_every : (P : Entry → Type 0) → ((p : ℕ) (s : Slot) (l : List Slot) → Next places p s l → P (named points s))
       → (p : ℕ) (l : List Slot) → chained places p l ≡ true → Every P (map (named points) l)
-  read-every P f p [] e = tt
-  read-every P f p (s ∷ l) e = let j = next places p s l e in (f p s l j, read-every P f s.end l j.rest)
+  read_every P f p [] e = tt
+  read_every P f p (s ∷ l) e = let j = next places p s l e in (f p s l j, read_every P f s.end l j.rest)
 
 -- a press's contours are those that its records name
 pub read_own : (points : List ℤ) (press : ℕ) (l : List Slot) → own press (map (named points) l) ≡ map (named points) (own_slots press l)
@@ -95,55 +95,55 @@ module _ (s : Lent) (e : sound s ≡ true) where
   abbrev places : ℕ
   places = count s.points
 
-  abbrev there-and-chained : Bool
-  there-and-chained = leb s.contours (length s.records) && chained places 0 (used s)
+  abbrev there_and_chained : Bool
+  there_and_chained = leb s.contours (length s.records) && chained places 0 (used s)
 
   pub there : s.contours ≤ length s.records
   unfolding sound
-  there = leb-true _ _ (and_left (leb s.contours (length s.records)) _ (and_left there-and-chained _ e))
+  there = leb-true _ _ (and_left (leb s.contours (length s.records)) _ (and_left there_and_chained _ e))
 
   pub chain : chained places 0 (used s) ≡ true
   unfolding sound
-  chain = and_right (leb s.contours (length s.records)) _ (and_left there-and-chained _ e)
+  chain = and_right (leb s.contours (length s.records)) _ (and_left there_and_chained _ e)
 
   shares : fair (held_by 0 (used s)) (held_by 1 (used s)) ≡ true
   unfolding sound
-  shares = and_right there-and-chained _ e
+  shares = and_right there_and_chained _ e
 
   long : 2 * places ≤ length s.points
   long = omega arith
 
-  sound-every : (P : Entry → Type 0) → ((p : ℕ) (x : Slot) (l : List Slot) → Next places p x l → P (named s.points x)) → Every P (contents s)
-  sound-every P f = read-every s.points places long P f 0 (used s) chain
+  sound_every : (P : Entry → Type 0) → ((p : ℕ) (x : Slot) (l : List Slot) → Next places p x l → P (named s.points x)) → Every P (contents s)
+  sound_every P f = read_every s.points places long P f 0 (used s) chain
 
-  pub sound-tooled : Every Tooled (contents s)
-  sound-tooled = sound-every Tooled (λ p x l j. j.tool)
+  pub sound_tooled : Every Tooled (contents s)
+  sound_tooled = sound_every Tooled (λ p x l j. j.tool)
 
-  pub sound-lies : Lies (contents s) s
-  sound-lies = record {
-    even = sound-every Even (λ p x l j. omega (arith, named-length s.points places long x j.forward (rises places x.end l j.rest)));
+  pub sound_lies : Lies (contents s) s
+  sound_lies = record {
+    even = sound_every Even (λ p x l j. omega (arith, named-length s.points places long x j.forward (rises places x.end l j.rest)));
     is = lent_is
-        (front_self s.points (numbers (contents s)) _ (read-numbers s.points places long 0 (used s) chain))
-        (front_self s.records (slots_from 0 (contents s)) (drop s.contours s.records) (sym (take-append-drop s.contours s.records) ∙ ap (λ (k : List Slot). k ++ drop s.contours s.records) (sym (read-slots s.points places long 0 (used s) chain))))
+        (front_self s.points (numbers (contents s)) _ (read_numbers s.points places long 0 (used s) chain))
+        (front_self s.records (slots_from 0 (contents s)) (drop s.contours s.records) (sym (take-append-drop s.contours s.records) ∙ ap (λ (k : List Slot). k ++ drop s.contours s.records) (sym (read_slots s.points places long 0 (used s) chain))))
         (sym (length-map (used s) (named s.points) ∙ length-take-le s.contours s.records there));
   }
 
-  pub sound-held : (press : ℕ) → held (own press (contents s)) ≡ held_by press (used s)
-  sound-held press = read_held s.points places long 0 (used s) press chain
+  pub sound_held : (press : ℕ) → held (own press (contents s)) ≡ held_by press (used s)
+  sound_held press = read_held s.points places long 0 (used s) press chain
 
-  pub sound-total : total (contents s) ≡ end_of 0 (used s)
-  sound-total = omega (arith, read-total s.points places long 0 (used s) chain)
+  pub sound_total : total (contents s) ≡ end_of 0 (used s)
+  sound_total = omega (arith, read_total s.points places long 0 (used s) chain)
 
-  pub sound-fair : Fair (contents s)
-  sound-fair =
+  pub sound_fair : Fair (contents s)
+  sound_fair =
       let a = and_left (leb (held_by 0 (used s)) (capacity - reserve) && leb (held_by 1 (used s)) (capacity - reserve)) _ shares in
       let f : held_by 0 (used s) ≤ capacity - reserve = leb-true _ _ (and_left (leb (held_by 0 (used s)) (capacity - reserve)) _ a) in
       let g : held_by 1 (used s) ≤ capacity - reserve = leb-true _ _ (and_right (leb (held_by 0 (used s)) (capacity - reserve)) _ a) in
       let b : held_by 0 (used s) + held_by 1 (used s) ≤ capacity = leb-true _ _ (and_right (leb (held_by 0 (used s)) (capacity - reserve) && leb (held_by 1 (used s)) (capacity - reserve)) _ shares) in
       record {
-        pressed = sound-every Pressed (λ p x l j. j.press);
-        first = omega (arith, sound-held 0, sound-held 1);
-        second = omega (arith, sound-held 0, sound-held 1);
+        pressed = sound_every Pressed (λ p x l j. j.press);
+        first = omega (arith, sound_held 0, sound_held 1);
+        second = omega (arith, sound_held 0, sound_held 1);
       }
 
 -- what a survey finds
@@ -177,13 +177,13 @@ module _ (points : List ℤ) (records : List (List ℕ)) (n : ℕ) where
   found whether fit s d h =
       record {
         sound_is = is;
-        points_are = λ w. surveyed-end fit s d ∙ sym (sound-total rows (sym is ∙ w));
-        first_holds = λ w. surveyed-first fit s d ∙ sym (sound-held rows (sym is ∙ w) 0);
-        second_holds = λ w. surveyed-second fit s d ∙ sym (sound-held rows (sym is ∙ w) 1);
+        points_are = λ w. surveyed_end fit s d ∙ sym (sound_total rows (sym is ∙ w));
+        first_holds = λ w. surveyed_first fit s d ∙ sym (sound_held rows (sym is ∙ w) 0);
+        second_holds = λ w. surveyed_second fit s d ∙ sym (sound_held rows (sym is ∙ w) 1);
       }
     where
-      whole-test : sound rows ≡ fair (held_by 0 (take n (slots records))) (held_by 1 (take n (slots records)))
-      whole-test = rw (surveyed-chain fit s d, le-leb n (length (slots records)) (omega (arith, length-map records slot)))
+      whole_test : sound rows ≡ fair (held_by 0 (take n (slots records))) (held_by 1 (take n (slots records)))
+      whole_test = rw (surveyed_chain fit s d, le-leb n (length (slots records)) (omega (arith, length-map records slot)))
 
       is : whether ≡ sound rows
-      is = h ∙ ap₂ fair (surveyed-first fit s d) (surveyed-second fit s d) ∙ sym whole-test
+      is = h ∙ ap₂ fair (surveyed_first fit s d) (surveyed_second fit s d) ∙ sym whole_test

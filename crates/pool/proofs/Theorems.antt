@@ -61,25 +61,25 @@ module _ (enough : Bool) (p : ℕ) (m : Made) (l : List Entry) (b : p ≤ 1) (f 
   abbrev next : List Entry
   next = own p (after enough m.press m.call l)
 
-  of-its-own : eqb p m.press ≡ true → next ≡ unless (told_free enough (own p l) (free l) m.call) (done p m.call (own p l)) (own p l)
-  of-its-own e =
+  of_its_own : eqb p m.press ≡ true → next ≡ unless (told_free enough (own p l) (free l) m.call) (done p m.call (own p l)) (own p l)
+  of_its_own e =
       ap (λ (q : ℕ). own p (after enough q m.call l)) (sym (eqb-true p m.press e)) ∙ own_after enough p m.call l
       ∙ ap (λ (r : ℕ). unless r (done p m.call (own p l)) (own p l)) (told_by_free enough p m.call l b f)
 
-  of-the-other : eqb p m.press ≡ false → next ≡ own p l
-  of-the-other e = others_stay enough m.press p m.call l (eqb-false p m.press e)
+  of_the_other : eqb p m.press ≡ false → next ≡ own p l
+  of_the_other e = others_stay enough m.press p m.call l (eqb-false p m.press e)
 
-  heard-more : (x : List ℕ) (s : List Seen) → x ≡ alone enough p s next → (t : Bool) → eqb p m.press ≡ t
+  heard_more : (x : List ℕ) (s : List Seen) → x ≡ alone enough p s next → (t : Bool) → eqb p m.press ≡ t
       → if_so t (told enough p l m.call) x ≡ alone enough p (if_so t (record { call = m.call; free = free l }) s) (own p l)
   unfolding alone
-  heard-more x s ih true e = ap₂ (λ (r : ℕ) (k : List ℕ). r ∷ k) (told_by_free enough p m.call l b f) (ih ∙ ap (alone enough p s) (of-its-own e))
-  heard-more x s ih false e = ih ∙ ap (alone enough p s) (of-the-other e)
+  heard_more x s ih true e = ap₂ (λ (r : ℕ) (k : List ℕ). r ∷ k) (told_by_free enough p m.call l b f) (ih ∙ ap (alone enough p s) (of_its_own e))
+  heard_more x s ih false e = ih ∙ ap (alone enough p s) (of_the_other e)
 
-  own-more : (x : List Entry) (s : List Seen) → x ≡ own-set enough p s next → (t : Bool) → eqb p m.press ≡ t
+  own_more : (x : List Entry) (s : List Seen) → x ≡ own-set enough p s next → (t : Bool) → eqb p m.press ≡ t
       → x ≡ own-set enough p (if_so t (record { call = m.call; free = free l }) s) (own p l)
   unfolding own-set
-  own-more x s ih true e = ih ∙ ap (own-set enough p s) (of-its-own e)
-  own-more x s ih false e = ih ∙ ap (own-set enough p s) (of-the-other e)
+  own_more x s ih true e = ih ∙ ap (own-set enough p s) (of_its_own e)
+  own_more x s ih false e = ih ∙ ap (own-set enough p s) (of_the_other e)
 
 -- in a whole history a press is told by its own calls and the free counts that it found
 pub heard_alone : (enough : Bool) (p : ℕ) (h : List Made) (l : List Entry) → p ≤ 1 → ByTwo h → Fair l
@@ -87,7 +87,7 @@ pub heard_alone : (enough : Bool) (p : ℕ) (h : List Made) (l : List Entry) →
 unfolding heard seen alone
 heard_alone enough p [] l b two f = refl
 heard_alone enough p (m ∷ h) l b two f =
-    heard-more enough p m l b f _ _
+    heard_more enough p m l b f _ _
     (heard_alone enough p h (after enough m.press m.call l) b two.1 (fair_after enough m.press m.call l two.0 f))
     (eqb p m.press) refl
 
@@ -97,7 +97,7 @@ pub owned_alone : (enough : Bool) (p : ℕ) (h : List Made) (l : List Entry) →
 unfolding run seen own-set
 owned_alone enough p [] l b two f = refl
 owned_alone enough p (m ∷ h) l b two f =
-    own-more enough p m l b f _ _
+    own_more enough p m l b f _ _
     (owned_alone enough p h (after enough m.press m.call l) b two.1 (fair_after enough m.press m.call l two.0 f))
     (eqb p m.press) refl
 

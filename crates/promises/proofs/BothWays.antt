@@ -29,11 +29,11 @@ roomy n m h = first_is (room (leb n m)) 0 (past (ap not (le-leb n m h)) foot)
 
 -- a set, and what the writer makes of it
 module _ (second : Bool) (p : List ℤ) (cs ss : List (List ℕ)) (bytes : List ℕ) (w : W.Outcome) (is : w ≡ write_outcome second p cs ss bytes) where
-  pub a-set-that-fits-is-written : Fit second p cs ss → length (edition_file second p cs ss) ≤ length bytes → w.answer.reply ≡ 0
-  a-set-that-fits-is-written fits enough =
+  pub a_set_that_fits_is_written : Fit second p cs ss → length (edition_file second p cs ss) ≤ length bytes → w.answer.reply ≡ 0
+  a_set_that_fits_is_written fits enough =
       let f : List ℕ = edition_file second p cs ss in
       ap (λ (o : W.Outcome). o.answer.reply)
-      (is ∙ Theorems.room_decides second p cs ss ((Theorems.an-edition-can-carry p cs ss second).1 fits) bytes
+      (is ∙ Theorems.room_decides second p cs ss ((Theorems.an_edition_can_carry p cs ss second).1 fits) bytes
       ∙ ap (λ (k : ℕ). W.written k f bytes) (sym (roomy (length f) (length bytes) enough)))
 
   -- and what the reader makes of its file
@@ -50,26 +50,26 @@ module _ (second : Bool) (p : List ℤ) (cs ss : List (List ℕ)) (bytes : List 
         let c = le-leb (length (spans ss)) (length groups) (omega (arith, spans-length ss)) in
         rw (a, b, c)
 
-    pub what-was-written-is-not-refused : r.answer.reply ≡ 0
-    what-was-written-is-not-refused = ap (λ (o : R.Outcome). o.answer.reply) read_is ∙ free
+    pub what_was_written_is_not_refused : r.answer.reply ≡ 0
+    what_was_written_is_not_refused = ap (λ (o : R.Outcome). o.answer.reply) read_is ∙ free
 
-    pub its-edition-is-told : r.answer.edition ≡ number second
-    its-edition-is-told = ap (λ (o : R.Outcome). o.answer.edition) read_is ∙ ap (λ (k : ℕ). R.edition_told k second) free
+    pub its_edition_is_told : r.answer.edition ≡ number second
+    its_edition_is_told = ap (λ (o : R.Outcome). o.answer.edition) read_is ∙ ap (λ (k : ℕ). R.edition_told k second) free
 
-    pub the-set-that-was-written-is-read : Written [] p (spans cs) (spans ss) (R.as_packed r)
-    the-set-that-was-written-is-read = written [] tt p (spans cs) (spans ss) out records groups (R.as_packed r) (ap R.as_packed read_is) what-was-written-is-not-refused
+    pub the_set_that_was_written_is_read : Written [] p (spans cs) (spans ss) (R.as_packed r)
+    the_set_that_was_written_is_read = written [] tt p (spans cs) (spans ss) out records groups (R.as_packed r) (ap R.as_packed read_is) what_was_written_is_not_refused
 
 -- a file that the reader takes, and what the writer makes of its set
 module _ (f : List ℕ) (h : Bytes f) (out : List ℤ) (records groups : List (List ℕ)) (r : R.Outcome) (is : r ≡ R.outcome f out records groups) (done : r.answer.reply ≡ 0)
     (bytes : List ℕ) (enough : length f ≤ length bytes) (w : W.Outcome)
     (again : w ≡ write_outcome (is_second f) (written_points (R.as_packed r)) (written_contours (R.as_packed r)) (written_shapes (R.as_packed r)) bytes) where
-  same-file : w ≡ W.written 0 f bytes
-  same-file =
+  same_file : w ≡ W.written 0 f bytes
+  same_file =
       again ∙ Theorems.what_is_read_is_written_again f h out records groups r is done bytes
       ∙ ap (λ (k : ℕ). W.written k f bytes) (sym (roomy (length f) (length bytes) enough))
 
-  pub what-was-read-is-not-refused : w.answer.reply ≡ 0
-  what-was-read-is-not-refused = ap (λ (o : W.Outcome). o.answer.reply) same-file
+  pub what_was_read_is_not_refused : w.answer.reply ≡ 0
+  what_was_read_is_not_refused = ap (λ (o : W.Outcome). o.answer.reply) same_file
 
-  pub the-file-that-was-read-is-written : written_file w ≡ f
-  the-file-that-was-read-is-written = ap written_file same-file ∙ take_at f (drop (length f) bytes) (length f) refl
+  pub the_file_that_was_read_is_written : written_file w ≡ f
+  the_file_that_was_read_is_written = ap written_file same_file ∙ take_at f (drop (length f) bytes) (length f) refl

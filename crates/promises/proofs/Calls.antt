@@ -11,7 +11,7 @@ use Rattle.replies.specs.Verdicts.{verdict}
 use Rattle.area.specs.declared.answer.Area.{Area}
 use Rattle.area.specs.Answers.{answer}
 use Rattle.path.specs.declared.Located.{Located}
-use Rattle.path.specs.Locate.{answer as location-answer}
+use Rattle.path.specs.Locate.{answer as location_answer}
 use Rattle.buffer.specs.declared.answer.Counted.{Counted}
 use Rattle.buffer.specs.Answers.{counted}
 use Rattle.promises.specs.Calls.{Kind, verdicts, areas, locations, counts, Numbered, Follows}
@@ -39,8 +39,8 @@ verdict_numbered {l} b = numbered verdicts l (λ k. verdict k b) (λ k. refl) (i
 pub area_numbered : {l : List Rung} (z : ℤ) {x : Area} → x ≡ answer (first_of l) z → Numbered areas l x
 area_numbered {l} z = numbered areas l (λ k. answer k z) (λ k. refl) (inl refl)
 
-pub location_numbered : {l : List Rung} (n : ℕ) {x : Located} → x ≡ location-answer (first_of l) n → Numbered locations l x
-location_numbered {l} n = numbered locations l (λ k. location-answer k n) (λ k. refl) (inl refl)
+pub location_numbered : {l : List Rung} (n : ℕ) {x : Located} → x ≡ location_answer (first_of l) n → Numbered locations l x
+location_numbered {l} n = numbered locations l (λ k. location_answer k n) (λ k. refl) (inl refl)
 
 pub count_numbered : {l : List Rung} (n : ℕ) {x : Counted} → x ≡ counted (first_of l) n → Numbered counts l x
 count_numbered {l} n = numbered counts l (λ k. counted k n) (λ k. refl) (inl refl)

@@ -32,7 +32,7 @@ use Rattle.pool.proofs as pool
 use Rattle.promises.specs.Calls.{numbers, ◌and◌}
 use Rattle.promises.specs.Demand1.{NothingTraps, TheOrderOfTheNumbers, EveryBadInputGetsItsNumber, OutputAndScratchAreThenUntouched, ACollapsedContourLeavesOutputUntouchedAndItsScratchZeroed, Demand1}
 use Rattle.promises.proofs.Calls.{numbered, verdict_numbered, area_numbered, location_numbered, count_numbered}
-use Rattle.promises.proofs.Refusals.{handed_none, first_none, packing-numbered, packing-untouched, reading-numbered, reading-untouched, cleaning-numbered, cleaning-collapsed, shape-numbered, shape-collapsed, shapes-numbered, fates-numbered, writing-numbered, writing-untouched, writing-2-numbered, writing-2-untouched, salvage-numbered, salvage-untouched, export-numbered, export-untouched, press-numbered, press-untouched, comparison-numbered, comparison-untouched}
+use Rattle.promises.proofs.Refusals.{handed_none, first_none, packing_numbered, packing_untouched, reading_numbered, reading_untouched, cleaning_numbered, cleaning_collapsed, shape_numbered, shape_collapsed, shapes_numbered, fates_numbered, writing_numbered, writing_untouched, writing_2_numbered, writing_2_untouched, salvage_numbered, salvage_untouched, export_numbered, export_untouched, press_numbered, press_untouched, comparison_numbered, comparison_untouched}
 
 nothing_traps : NothingTraps
 nothing_traps = record {
@@ -146,18 +146,18 @@ every_bad_input_gets_its_number = record {
   sets·areas·area = λ κs a x e h. area_numbered _ h;
   sets·shapes·area_two = λ κs a x e h. area_numbered _ h;
   sets·shapes·area = λ κs a x e h. area_numbered _ h;
-  clean·simple·simplified = λ κs a x e h. cleaning-numbered Collinear _ _ _ h;
-  clean·despike·despiked = λ κs a x e h. cleaning-numbered Spike _ _ _ h;
+  clean·simple·simplified = λ κs a x e h. cleaning_numbered Collinear _ _ _ h;
+  clean·despike·despiked = λ κs a x e h. cleaning_numbered Spike _ _ _ h;
   buffer·contours·refused = λ κs a x e h. numbered numbers _ (λ k. k) (λ k. refl) (inl refl) h;
   buffer·shapes·refused = λ κs a x e h. numbered numbers _ (λ k. k) (λ k. refl) (inl refl) h;
-  buffer·contours·set_with_contour = λ κs a x e h. packing-numbered _ _ _ _ _ _ _ _ h;
-  buffer·contours·set_with_shape = λ κs a x e h. packing-numbered _ _ _ _ _ _ _ _ h;
-  buffer·contours·set_with_shapes = λ κs a x e h. packing-numbered _ _ _ _ _ _ _ _ h;
-  buffer·shapes·set_with_contour = λ κs a x e h. packing-numbered _ _ _ _ _ _ _ _ h;
-  buffer·shapes·set_with_shape = λ κs a x e h. packing-numbered _ _ _ _ _ _ _ _ h;
-  buffer·shapes·set_with_shapes = λ κs a x e h. packing-numbered _ _ _ _ _ _ _ _ h;
-  buffer·contours·add_contour = λ κs a x e h. packing-numbered _ _ _ _ _ _ _ _ h;
-  buffer·shapes·add_shape = λ κs a x e h. packing-numbered _ _ _ _ _ _ _ _ h;
+  buffer·contours·set_with_contour = λ κs a x e h. packing_numbered _ _ _ _ _ _ _ _ h;
+  buffer·contours·set_with_shape = λ κs a x e h. packing_numbered _ _ _ _ _ _ _ _ h;
+  buffer·contours·set_with_shapes = λ κs a x e h. packing_numbered _ _ _ _ _ _ _ _ h;
+  buffer·shapes·set_with_contour = λ κs a x e h. packing_numbered _ _ _ _ _ _ _ _ h;
+  buffer·shapes·set_with_shape = λ κs a x e h. packing_numbered _ _ _ _ _ _ _ _ h;
+  buffer·shapes·set_with_shapes = λ κs a x e h. packing_numbered _ _ _ _ _ _ _ _ h;
+  buffer·contours·add_contour = λ κs a x e h. packing_numbered _ _ _ _ _ _ _ _ h;
+  buffer·shapes·add_shape = λ κs a x e h. packing_numbered _ _ _ _ _ _ _ _ h;
   buffer·contours·is_empty = λ κs a x e h. verdict_numbered _ h;
   buffer·contours·is_single_contour = λ κs a x e h. verdict_numbered _ h;
   buffer·contours·points_count = λ κs a x e h. count_numbered _ h;
@@ -170,23 +170,23 @@ every_bad_input_gets_its_number = record {
   buffer·contours·contour = λ κs a x e h bad. h ∙ handed_none _ _ _ bad;
   buffer·contours·first_contour = λ κs a x e h bad. h ∙ first_none _ _ bad;
   buffer·shapes·contour_of = λ κs a x e h bad. h ∙ handed_none _ _ _ bad;
-  sets·simple·simplified_shape = λ κs a x e h. shape-numbered Collinear _ _ _ _ h;
-  sets·despike·despiked_shape = λ κs a x e h. shape-numbered Spike _ _ _ _ h;
-  sets·simple·simplified_shapes = λ κs a x e h. shapes-numbered Collinear _ _ _ _ _ h;
-  sets·despike·despiked_shapes = λ κs a x e h. shapes-numbered Spike _ _ _ _ _ h;
-  setfile·read = λ κs a x e h. reading-numbered a.0.now a.1.0.now a.1.1.0.now a.1.1.1.0.now _ h;
-  setfile·write = λ κs a x e h. writing-numbered _ _ _ _ _ h;
-  setfile·write_2 = λ κs a x e h. writing-2-numbered _ _ _ _ _ h;
+  sets·simple·simplified_shape = λ κs a x e h. shape_numbered Collinear _ _ _ _ h;
+  sets·despike·despiked_shape = λ κs a x e h. shape_numbered Spike _ _ _ _ h;
+  sets·simple·simplified_shapes = λ κs a x e h. shapes_numbered Collinear _ _ _ _ _ h;
+  sets·despike·despiked_shapes = λ κs a x e h. shapes_numbered Spike _ _ _ _ _ h;
+  setfile·read = λ κs a x e h. reading_numbered a.0.now a.1.0.now a.1.1.0.now a.1.1.1.0.now _ h;
+  setfile·write = λ κs a x e h. writing_numbered _ _ _ _ _ h;
+  setfile·write_2 = λ κs a x e h. writing_2_numbered _ _ _ _ _ h;
   path·locate = λ κs a x e h. location_numbered _ h;
   sets·in_shape = λ κs a x e h. verdict_numbered _ h;
-  fates·simplified = λ κs a x e h. fates-numbered Collinear _ _ _ _ _ h;
-  fates·despiked = λ κs a x e h. fates-numbered Spike _ _ _ _ _ h;
-  salvage·mend = λ κs a x e h. salvage-numbered _ _ _ _ h;
-  drawing·import = λ κs a x e h. packing-numbered _ _ _ _ _ _ _ _ h;
-  drawing·export = λ κs a x e h. export-numbered _ _ _ _ _ h;
-  difference·compare = λ κs a x e h. comparison-numbered _ _ _ _ _ _ h;
-  pool·add = λ κs a x e h. press-numbered _ _ _ _ h;
-  pool·remove = λ κs a x e h. press-numbered _ _ _ _ h;
+  fates·simplified = λ κs a x e h. fates_numbered Collinear _ _ _ _ _ h;
+  fates·despiked = λ κs a x e h. fates_numbered Spike _ _ _ _ _ h;
+  salvage·mend = λ κs a x e h. salvage_numbered _ _ _ _ h;
+  drawing·import = λ κs a x e h. packing_numbered _ _ _ _ _ _ _ _ h;
+  drawing·export = λ κs a x e h. export_numbered _ _ _ _ _ h;
+  difference·compare = λ κs a x e h. comparison_numbered _ _ _ _ _ _ h;
+  pool·add = λ κs a x e h. press_numbered _ _ _ _ h;
+  pool·remove = λ κs a x e h. press_numbered _ _ _ _ h;
   pool·contours_count = λ κs a x e h. count_numbered _ h;
   pool·held = λ κs a x e h. count_numbered _ h;
   pool·free = λ κs a x e h. count_numbered _ h;
@@ -199,41 +199,41 @@ points_and_contours e = ap (λ (r : List ℤ × (List (List ℕ) × List (List �
 
 output_and_scratch_are_then_untouched : OutputAndScratchAreThenUntouched
 output_and_scratch_are_then_untouched = record {
-  clean·simple·simplified = λ κs a x e h. clean.Demand.a-refusal-leaves-every-row-as-it-was Collinear _ _ _ h;
-  clean·despike·despiked = λ κs a x e h. clean.Demand.a-refusal-leaves-every-row-as-it-was Spike _ _ _ h;
-  buffer·contours·set_with_contour = λ κs a x e h not-0 not-7. points_and_contours (packing-untouched _ _ _ _ _ _ _ _ h not-0);
-  buffer·contours·set_with_shape = λ κs a x e h not-0 not-7. points_and_contours (packing-untouched _ _ _ _ _ _ _ _ h not-0);
-  buffer·contours·set_with_shapes = λ κs a x e h not-0 not-7. points_and_contours (packing-untouched _ _ _ _ _ _ _ _ h not-0);
-  buffer·contours·add_contour = λ κs a x e h not-0 not-7. points_and_contours (packing-untouched _ _ _ _ _ _ _ _ h not-0);
-  buffer·shapes·set_with_contour = λ κs a x e h not-0 not-7. packing-untouched _ _ _ _ _ _ _ _ h not-0;
-  buffer·shapes·set_with_shape = λ κs a x e h not-0 not-7. packing-untouched _ _ _ _ _ _ _ _ h not-0;
-  buffer·shapes·set_with_shapes = λ κs a x e h not-0 not-7. packing-untouched _ _ _ _ _ _ _ _ h not-0;
-  buffer·shapes·add_shape = λ κs a x e h not-0 not-7. packing-untouched _ _ _ _ _ _ _ _ h not-0;
-  sets·simple·simplified_shape = λ κs a x e h. sets.Untouched.a-refused-shape-leaves-every-row-as-it-was Collinear _ _ _ _ h;
-  sets·despike·despiked_shape = λ κs a x e h. sets.Untouched.a-refused-shape-leaves-every-row-as-it-was Spike _ _ _ _ h;
-  sets·simple·simplified_shapes = λ κs a x e h not-0 not-7. sets.Untouched.refused-shapes-leave-every-row-as-it-was Collinear _ _ _ _ _ h not-0;
-  sets·despike·despiked_shapes = λ κs a x e h not-0 not-7. sets.Untouched.refused-shapes-leave-every-row-as-it-was Spike _ _ _ _ _ h not-0;
-  fates·simplified = λ κs a x e h not-0 not-7. fates.Theorems.a-refusal-leaves-every-row-as-it-was Collinear _ _ _ _ _ h not-0;
-  fates·despiked = λ κs a x e h not-0 not-7. fates.Theorems.a-refusal-leaves-every-row-as-it-was Spike _ _ _ _ _ h not-0;
-  setfile·read = λ κs a x e h not-0 not-7. reading-untouched a.0.now a.1.0.now a.1.1.0.now a.1.1.1.0.now _ h not-0;
-  setfile·write = λ κs a x e h not-0 not-7. writing-untouched _ _ _ _ _ h not-0;
-  setfile·write_2 = λ κs a x e h not-0 not-7. writing-2-untouched _ _ _ _ _ h not-0;
-  salvage·mend = λ κs a x e h not-0 not-7. salvage-untouched _ _ _ _ h not-0;
-  drawing·import = λ κs a x e h not-0 not-7. points_and_contours (packing-untouched _ _ _ _ _ _ _ _ h not-0);
-  drawing·export = λ κs a x e h not-0 not-7. export-untouched _ _ _ _ _ h not-0;
-  difference·compare = λ κs a x e h not-0 not-7. comparison-untouched _ _ _ _ _ _ h not-0;
-  pool·add = λ κs a x e h not-0 not-7. press-untouched _ _ _ _ h not-0;
-  pool·remove = λ κs a x e h not-0 not-7. press-untouched _ _ _ _ h not-0;
+  clean·simple·simplified = λ κs a x e h. clean.Demand.a_refusal_leaves_every_row_as_it_was Collinear _ _ _ h;
+  clean·despike·despiked = λ κs a x e h. clean.Demand.a_refusal_leaves_every_row_as_it_was Spike _ _ _ h;
+  buffer·contours·set_with_contour = λ κs a x e h not-0 not-7. points_and_contours (packing_untouched _ _ _ _ _ _ _ _ h not-0);
+  buffer·contours·set_with_shape = λ κs a x e h not-0 not-7. points_and_contours (packing_untouched _ _ _ _ _ _ _ _ h not-0);
+  buffer·contours·set_with_shapes = λ κs a x e h not-0 not-7. points_and_contours (packing_untouched _ _ _ _ _ _ _ _ h not-0);
+  buffer·contours·add_contour = λ κs a x e h not-0 not-7. points_and_contours (packing_untouched _ _ _ _ _ _ _ _ h not-0);
+  buffer·shapes·set_with_contour = λ κs a x e h not-0 not-7. packing_untouched _ _ _ _ _ _ _ _ h not-0;
+  buffer·shapes·set_with_shape = λ κs a x e h not-0 not-7. packing_untouched _ _ _ _ _ _ _ _ h not-0;
+  buffer·shapes·set_with_shapes = λ κs a x e h not-0 not-7. packing_untouched _ _ _ _ _ _ _ _ h not-0;
+  buffer·shapes·add_shape = λ κs a x e h not-0 not-7. packing_untouched _ _ _ _ _ _ _ _ h not-0;
+  sets·simple·simplified_shape = λ κs a x e h. sets.Untouched.a_refused_shape_leaves_every_row_as_it_was Collinear _ _ _ _ h;
+  sets·despike·despiked_shape = λ κs a x e h. sets.Untouched.a_refused_shape_leaves_every_row_as_it_was Spike _ _ _ _ h;
+  sets·simple·simplified_shapes = λ κs a x e h not-0 not-7. sets.Untouched.refused_shapes_leave_every_row_as_it_was Collinear _ _ _ _ _ h not-0;
+  sets·despike·despiked_shapes = λ κs a x e h not-0 not-7. sets.Untouched.refused_shapes_leave_every_row_as_it_was Spike _ _ _ _ _ h not-0;
+  fates·simplified = λ κs a x e h not-0 not-7. fates.Theorems.a_refusal_leaves_every_row_as_it_was Collinear _ _ _ _ _ h not-0;
+  fates·despiked = λ κs a x e h not-0 not-7. fates.Theorems.a_refusal_leaves_every_row_as_it_was Spike _ _ _ _ _ h not-0;
+  setfile·read = λ κs a x e h not-0 not-7. reading_untouched a.0.now a.1.0.now a.1.1.0.now a.1.1.1.0.now _ h not-0;
+  setfile·write = λ κs a x e h not-0 not-7. writing_untouched _ _ _ _ _ h not-0;
+  setfile·write_2 = λ κs a x e h not-0 not-7. writing_2_untouched _ _ _ _ _ h not-0;
+  salvage·mend = λ κs a x e h not-0 not-7. salvage_untouched _ _ _ _ h not-0;
+  drawing·import = λ κs a x e h not-0 not-7. points_and_contours (packing_untouched _ _ _ _ _ _ _ _ h not-0);
+  drawing·export = λ κs a x e h not-0 not-7. export_untouched _ _ _ _ _ h not-0;
+  difference·compare = λ κs a x e h not-0 not-7. comparison_untouched _ _ _ _ _ _ h not-0;
+  pool·add = λ κs a x e h not-0 not-7. press_untouched _ _ _ _ h not-0;
+  pool·remove = λ κs a x e h not-0 not-7. press_untouched _ _ _ _ h not-0;
 }
 
 a_collapsed_contour_only_zeroes_its_scratch : ACollapsedContourLeavesOutputUntouchedAndItsScratchZeroed
 a_collapsed_contour_only_zeroes_its_scratch = record {
-  clean·simple·simplified = λ κs a x e h. cleaning-collapsed Collinear _ _ _ h;
-  clean·despike·despiked = λ κs a x e h. cleaning-collapsed Spike _ _ _ h;
-  sets·simple·simplified_shape = λ κs a x e h. shape-collapsed Collinear _ _ _ _ h;
-  sets·despike·despiked_shape = λ κs a x e h. shape-collapsed Spike _ _ _ _ h;
-  sets·simple·simplified_shapes = λ κs a x e h. sets.Untouched.shapes-never-answer-seven Collinear _ _ _ _ _ h;
-  sets·despike·despiked_shapes = λ κs a x e h. sets.Untouched.shapes-never-answer-seven Spike _ _ _ _ _ h;
+  clean·simple·simplified = λ κs a x e h. cleaning_collapsed Collinear _ _ _ h;
+  clean·despike·despiked = λ κs a x e h. cleaning_collapsed Spike _ _ _ h;
+  sets·simple·simplified_shape = λ κs a x e h. shape_collapsed Collinear _ _ _ _ h;
+  sets·despike·despiked_shape = λ κs a x e h. shape_collapsed Spike _ _ _ _ h;
+  sets·simple·simplified_shapes = λ κs a x e h. sets.Untouched.shapes_never_answer_seven Collinear _ _ _ _ _ h;
+  sets·despike·despiked_shapes = λ κs a x e h. sets.Untouched.shapes_never_answer_seven Spike _ _ _ _ _ h;
 }
 
 pub demand_1 : Demand1

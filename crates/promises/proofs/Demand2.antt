@@ -2,7 +2,7 @@
 use mathlib.Core.Path.{refl}
 use Rattle.buffer.proofs.ranges.sound_spans.Met as sound_spans
 use Rattle.ukmerelt.proofs.contour_sets.ukm_ranges_sound.Met as ukm_ranges_sound
-use Rattle.setfile.proofs.Theorems.{an-edition-can-carry, what-is-written-fits}
+use Rattle.setfile.proofs.Theorems.{an_edition_can_carry, what_is_written_fits}
 use Rattle.promises.specs.Demand2.{EveryAnswerEqualsTheRules, ReaderAndWriterUndoEachOther, RangesThatAreStructs, Demand2}
 use Rattle.promises.proofs.Calls.{follows}
 use Rattle.promises.proofs.BothWays as both
@@ -76,17 +76,17 @@ every_answer_equals_the_rules = record {
 
 reader_and_writer_undo_each_other : ReaderAndWriterUndoEachOther
 reader_and_writer_undo_each_other = record {
-  a_file_can_carry_what_the_writer_refuses_at_most_for_room = λ second p cs ss. an-edition-can-carry p cs ss second;
-  every_set_a_file_can_carry_is_written = λ second p cs ss fits bytes enough w is. both.a-set-that-fits-is-written second p cs ss bytes w is fits enough;
+  a_file_can_carry_what_the_writer_refuses_at_most_for_room = λ second p cs ss. an_edition_can_carry p cs ss second;
+  every_set_a_file_can_carry_is_written = λ second p cs ss fits bytes enough w is. both.a_set_that_fits_is_written second p cs ss bytes w is fits enough;
   what_is_written_is_read_back = λ second p cs ss bytes w is done out records groups points_in contours_in shapes_in r back.
-      let same = both.the-set-that-was-written-is-read second p cs ss bytes w is done out records groups r back points_in contours_in shapes_in in
-      let even = (what-is-written-fits second p cs ss bytes w is done).regular.even in (
-        both.what-was-written-is-not-refused second p cs ss bytes w is done out records groups r back points_in contours_in shapes_in,
-        both.its-edition-is-told second p cs ss bytes w is done out records groups r back points_in contours_in shapes_in,
+      let same = both.the_set_that_was_written_is_read second p cs ss bytes w is done out records groups r back points_in contours_in shapes_in in
+      let even = (what_is_written_fits second p cs ss bytes w is done).regular.even in (
+        both.what_was_written_is_not_refused second p cs ss bytes w is done out records groups r back points_in contours_in shapes_in,
+        both.its_edition_is_told second p cs ss bytes w is done out records groups r back points_in contours_in shapes_in,
         record { points_are = same.points even; contours_are = same.contours; shapes_are = same.shapes },
       );
   what_is_read_is_written_again = λ f h out records groups r is done bytes enough w again.
-      (both.what-was-read-is-not-refused f h out records groups r is done bytes enough w again, both.the-file-that-was-read-is-written f h out records groups r is done bytes enough w again);
+      (both.what_was_read_is_not_refused f h out records groups r is done bytes enough w again, both.the_file_that_was_read_is_written f h out records groups r is done bytes enough w again);
 }
 
 ranges_that_are_structs : RangesThatAreStructs

@@ -6,20 +6,20 @@ use Rattle.grid.specs.Domain.{count}
 use Rattle.grid.specs.Cases.{W1, W2, W3, W4, W6, W7, W8, W9, W10, W11, W12}
 use Rattle.area.specs.declared.answer.Area.{Area}
 use Rattle.area.specs.Answers.{doubled, half}
-use Rattle.path.specs.Convex.{convex as convex-verdict}
-use Rattle.path.specs.Clockwise.{clockwise as clockwise-verdict}
+use Rattle.path.specs.Convex.{convex as convex_verdict}
+use Rattle.path.specs.Clockwise.{clockwise as clockwise_verdict}
 use Rattle.path.specs.Contains.{contains}
 use Rattle.path.specs.declared.Located.{Located}
-use Rattle.path.specs.Locate.{located as located-at}
+use Rattle.path.specs.Locate.{located as located_at}
 use Rattle.ring.specs.declared.Rule.{Rule}
 use Rattle.ring.specs.declared.Rule.TheVariants.{Collinear, Spike}
 use Rattle.ring.specs.Walk.{End}
 use Rattle.ring.specs.Walk.End.{kept, collapsed}
 use Rattle.clean.specs.declared.cleaning.Cleaned.{Cleaned}
-use Rattle.clean.specs.Verdicts.{simple as simple-verdict, spike_free}
+use Rattle.clean.specs.Verdicts.{simple as simple_verdict, spike_free}
 use Rattle.clean.specs.Outcome.{walked, chosen, answer, lent, outcome}
 use Rattle.sets.specs.declared.cleaning.CleanedSet.{CleanedSet}
-use Rattle.sets.specs.Outcome.{lent as set-lent, shape_outcome, answer as set-answer}
+use Rattle.sets.specs.Outcome.{lent as set_lent, shape_outcome, answer as set_answer}
 
 -- a point that is asked about: whether the contour contains it, and where it lies
 pub record Asked : Type 0 where
@@ -79,7 +79,7 @@ cleaned rule c =
 -- what a shape's call comes to
 abbrev pub cleaned_in_a_set : Rule → List ℤ → InASet
 cleaned_in_a_set rule c =
-    let o = shape_outcome rule c ((0 ∷ count c ∷ []) ∷ []) (set-lent (scratch c) (scratch c) (scratch c) (room c) ((9 ∷ 9 ∷ []) ∷ []) []) in
+    let o = shape_outcome rule c ((0 ∷ count c ∷ []) ∷ []) (set_lent (scratch c) (scratch c) (scratch c) (room c) ((9 ∷ 9 ∷ []) ∷ []) []) in
     record { answer = o.answer; out = o.rows.points; records = o.rows.contours }
 
 -- what the calls' definitions answer of a row's contour and points
@@ -90,13 +90,13 @@ answers r = let c = r.contour in record {
   despiked = cleaned Spike c;
   simplified_in_a_set = cleaned_in_a_set Collinear c;
   despiked_in_a_set = cleaned_in_a_set Spike c;
-  simple = simple-verdict c;
+  simple = simple_verdict c;
   no_spikes = spike_free c;
-  convex = convex-verdict c;
-  clockwise = clockwise-verdict c;
+  convex = convex_verdict c;
+  clockwise = clockwise_verdict c;
   area_two = doubled c;
   area = half c;
-  asked = map (λ (q : Asked). ask q.x q.y (contains c q.x q.y) (located-at c q.x q.y)) r.asked;
+  asked = map (λ (q : Asked). ask q.x q.y (contains c q.x q.y) (located_at c q.x q.y)) r.asked;
 }
 
 -- a contour that is kept at some positions, after so many decisions in so many turns
@@ -109,11 +109,11 @@ collapses c k v = record { answer = answer 7 0 k v; out = room c; positions = []
 
 -- a contour that stays in its set as these numbers
 abbrev pub stays : List ℤ → List ℤ → ℕ → ℕ → InASet
-stays c d k v = record { answer = set-answer 0 (count d) 1 1 k v; out = front d (room c); records = (0 ∷ count d ∷ []) ∷ [] }
+stays c d k v = record { answer = set_answer 0 (count d) 1 1 k v; out = front d (room c); records = (0 ∷ count d ∷ []) ∷ [] }
 
 -- a set whose only contour collapses: 7, and its rows as they were
 abbrev pub falls : List ℤ → ℕ → ℕ → InASet
-falls c k v = record { answer = set-answer 7 0 0 0 k v; out = room c; records = (9 ∷ 9 ∷ []) ∷ [] }
+falls c k v = record { answer = set_answer 7 0 0 0 k v; out = room c; records = (9 ∷ 9 ∷ []) ∷ [] }
 
 -- a question that is answered
 abbrev pub answered : Bool → Verdict

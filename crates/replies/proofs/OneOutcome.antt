@@ -16,8 +16,8 @@ module _ {K : Type 0} {A R E : K → Type 0} {O : Type 0} (C : (κs : K) → A �
 
 -- a contract that equates what is seen with a definition of the arguments
 module _ {K : Type 0} {A R E : K → Type 0} {O : Type 0} {C : (κs : K) → A κs → R κs → E κs → Type 0} {seen : (κs : K) → R κs → E κs → O} where
-  pub by-its-definition : (f : (κs : K) → A κs → O) → ((κs : K) (a : A κs) (x : R κs) (e : E κs) → C κs a x e → seen κs x e ≡ f κs a) → Determined C seen
-  by-its-definition f is κs a x y d e p q = is κs a x d p ∙ sym (is κs a y e q)
+  pub by_its_definition : (f : (κs : K) → A κs → O) → ((κs : K) (a : A κs) (x : R κs) (e : E κs) → C κs a x e → seen κs x e ≡ f κs a) → Determined C seen
+  by_its_definition f is κs a x y d e p q = is κs a x d p ∙ sym (is κs a y e q)
 
 -- the contract that asks nothing of the caller and ensures the plain fact `C`, in a model of the logic
 module _ {M : Type 1} {𝓤 : Ura M} (𝓛 : Logic 𝓤) (T : Ended) where

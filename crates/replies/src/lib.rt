@@ -25,7 +25,7 @@
 
 ghost use Rattle.std.specs.Prelude.{◌≡◌, ◌++◌};
 ghost use Rattle.replies.specs.Ladder.{first_of, so_far, room as room_for};
-ghost use Rattle.replies.specs.Verdicts.{verdict as verdict-of};
+ghost use Rattle.replies.specs.Verdicts.{verdict as verdict_of};
 
 pub const DONE: u32 = 0;
 
@@ -77,7 +77,7 @@ pub struct Verdict {
 
 // No where it is refused, or the answer.
 pub fn answered(refusal: u32, yes: bool) -> Verdict
-    ensures { result ≡ verdict-of refusal yes }
+    ensures { result ≡ verdict_of refusal yes }
 {
     Verdict {
         reply: refusal,

@@ -27,8 +27,8 @@ module _ {mark : List ℕ} {kept i : ℕ} (x : Counted mark kept i) (h : i < len
       let next : survivors_from i (drop i mark) ≡ i ∷ survivors_from (suc i) (drop (suc i) mark) = ap (survivors_from i) (drop-cons mark i 0 h) ∙ survivors_yes i (get_or mark i 0) (drop (suc i) mark) survives in
       record { is = rw (add-one i) (omega (arith, x.is, ap length next)); low = omega (arith, x.low); high = omega arith }
 
-  pub counted-past : 2 ≤ get_or mark i 0 → Counted mark kept (i + 1)
-  counted-past gone =
+  pub counted_past : 2 ≤ get_or mark i 0 → Counted mark kept (i + 1)
+  counted_past gone =
       let next : survivors_from i (drop i mark) ≡ survivors_from (suc i) (drop (suc i) mark) = ap (survivors_from i) (drop-cons mark i 0 h) ∙ survivors_no i (get_or mark i 0) (drop (suc i) mark) gone in
       record { is = rw (add-one i) (omega (arith, x.is, ap length next)); low = omega (arith, x.low); high = omega arith }
 

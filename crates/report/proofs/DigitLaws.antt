@@ -15,7 +15,7 @@ use Rattle.rows.proofs.PlacedLaws.{set_placed}
 use Rattle.report.specs.Text.{decimal, places}
 use Rattle.report.specs.inside.Lines.{Put}
 use Rattle.report.proofs.TextLaws.{decimal_is, digits-length, places_fewest}
-use Rattle.report.proofs.PutLaws.{room-behind, both_put}
+use Rattle.report.proofs.PutLaws.{room_behind, both_put}
 
 pow_positive : (k : ℕ) → 0 < 10 ^ k
 pow_positive k = pow-le-pow_right (lit< tt) {i = 0} {j = k} (omega arith)
@@ -52,8 +52,8 @@ module _ (k n : ℕ) (small : n < 2 ^ 64) (high : 10 ^ k ≤ n) where
           let l : n < 1 * 10 ^ k = (div-lt_iff_lt-mul {k = 10 ^ k} {x = n} {y = 1} (pow_positive k)).0 (omega (arith, e)) in
           absurd (omega arith)
 
-  more-fewest : (r : ℕ) → IsDigitCount 10 1 (n / 10 ^ k) r → IsDigitCount 10 1 n (r + k)
-  more-fewest r f =
+  more_fewest : (r : ℕ) → IsDigitCount 10 1 (n / 10 ^ k) r → IsDigitCount 10 1 n (r + k)
+  more_fewest r f =
       let below : n < 10 ^ r * 10 ^ k = (div-lt_iff_lt-mul {k = 10 ^ k} {x = n} {y = 10 ^ r} (pow_positive k)).0 f.1 in
       let from : 10 ^ (r - 1) ≤ n / 10 ^ k = lowest r f in
       let all : 10 ^ (r - 1) * 10 ^ k ≤ n = le_trans (mul-le-mul_right (10 ^ k) from) (div-mul-le_self n (10 ^ k)) in
@@ -68,12 +68,12 @@ module _ (k n : ℕ) (small : n < 2 ^ 64) (high : 10 ^ k ≤ n) where
       lowest (suc zero) f = rest_some
       lowest (suc (suc r)) f = f.2 (omega arith)
 
-  pub decimal-more : decimal n ≡ decimal (n / 10 ^ k) ++ last_digits 10 k n
+  pub decimal_more : decimal n ≡ decimal (n / 10 ^ k) ++ last_digits 10 k n
   unfolding decimal
-  decimal-more =
+  decimal_more =
       let m : n / 10 ^ k ≤ n = div-le_self n (10 ^ k) in
       let f = places_fewest 19 (n / 10 ^ k) (omega arith) in
-      sym (decimal_is n (places 19 (n / 10 ^ k) + k) small (more-fewest (places 19 (n / 10 ^ k)) f)) ∙ digits_more (places 19 (n / 10 ^ k)) k n
+      sym (decimal_is n (places 19 (n / 10 ^ k) + k) small (more_fewest (places 19 (n / 10 ^ k)) f)) ∙ digits_more (places 19 (n / 10 ^ k)) k n
 
 -- a number has as many digits as hold it
 pub decimal_long : (k n : ℕ) → n < 2 ^ 64 → IsDigitCount 10 1 n k → length (decimal n) ≡ k
@@ -98,23 +98,23 @@ module _ {at : ℕ} {text : List ℕ} (j k n : ℕ) {r : ℕ} {t : List ℕ} (h 
   roomy : at + length (last_digits 10 j (n / 10 ^ k) ++ last_digits 10 k n) ≤ length text
   roomy = omega (arith, h, length-append (last_digits 10 j (n / 10 ^ k)) (last_digits 10 k n), digits-length j (n / 10 ^ k), digits-length k n)
 
-  pub digits-room : r + k ≤ length t
-  digits-room = omega (arith, room-behind p (last_digits 10 k n) roomy, digits-length k n)
+  pub digits_room : r + k ≤ length t
+  digits_room = omega (arith, room_behind p (last_digits 10 k n) roomy, digits-length k n)
 
-  pub digits-put : {e : ℕ} {exit : List ℕ} → Put r (last_digits 10 k (n % 10 ^ k)) t e exit → Put at (last_digits 10 (j + k) n) text e exit
-  digits-put q = rw (digits_more j k n) (both_put p (last_digits 10 k n) roomy (rw (sym (digits_low k n)) q))
+  pub digits_put : {e : ℕ} {exit : List ℕ} → Put r (last_digits 10 k (n % 10 ^ k)) t e exit → Put at (last_digits 10 (j + k) n) text e exit
+  digits_put q = rw (digits_more j k n) (both_put p (last_digits 10 k n) roomy (rw (sym (digits_low k n)) q))
 
 -- a number of more than k digits is put: what stands before the last k, and those
 module _ (at : ℕ) (text : List ℕ) (k n : ℕ) (small : n < 2 ^ 64) (high : 10 ^ k ≤ n) (h : at + length (decimal n) ≤ length text) where
-  room-for-both : at + length (decimal (n / 10 ^ k) ++ last_digits 10 k n) ≤ length text
-  room-for-both = rw (sym (decimal-more k n small high)) h
+  room_for_both : at + length (decimal (n / 10 ^ k) ++ last_digits 10 k n) ≤ length text
+  room_for_both = rw (sym (decimal_more k n small high)) h
 
-  pub rest-room : at + length (decimal (n / 10 ^ k)) ≤ length text
-  rest-room = omega (arith, room-for-both, length-append (decimal (n / 10 ^ k)) (last_digits 10 k n))
+  pub rest_room : at + length (decimal (n / 10 ^ k)) ≤ length text
+  rest_room = omega (arith, room_for_both, length-append (decimal (n / 10 ^ k)) (last_digits 10 k n))
 
   module _ {r : ℕ} {t : List ℕ} (p : Put at (decimal (n / 10 ^ k)) text r t) where
-    pub last-room : r + k ≤ length t
-    last-room = omega (arith, room-behind p (last_digits 10 k n) room-for-both, digits-length k n)
+    pub last_room : r + k ≤ length t
+    last_room = omega (arith, room_behind p (last_digits 10 k n) room_for_both, digits-length k n)
 
-    pub last-put : {e : ℕ} {exit : List ℕ} → Put r (last_digits 10 k (n % 10 ^ k)) t e exit → Put at (decimal n) text e exit
-    last-put q = rw (decimal-more k n small high) (both_put p (last_digits 10 k n) room-for-both (rw (sym (digits_low k n)) q))
+    pub last_put : {e : ℕ} {exit : List ℕ} → Put r (last_digits 10 k (n % 10 ^ k)) t e exit → Put at (decimal n) text e exit
+    last_put q = rw (decimal_more k n small high) (both_put p (last_digits 10 k n) room_for_both (rw (sym (digits_low k n)) q))

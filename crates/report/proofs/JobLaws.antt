@@ -13,7 +13,7 @@ use Rattle.setfile.specs.Editions.{layout, is_second, head_damage, parsed}
 use Rattle.setfile.specs.inside.Reading.{from_bit}
 use Rattle.setfile.proofs.LayoutLaws.{next_read, none_read}
 use Rattle.setfile.proofs.ContourLaws.{front_length, front_count}
-use Rattle.setfile.proofs.EitherLaws.{parsed-faulty, parsed_on}
+use Rattle.setfile.proofs.EitherLaws.{parsed_faulty, parsed_on}
 
 -- at most k contours, each with an even count of numbers
 pub record Sized (k : ℕ) (l : List Entry) : Type 0 where
@@ -39,4 +39,4 @@ job_sized f = go (head_damage f) refl
 
     go : (r : ℕ) → r ≡ head_damage f → Sized (promised f) (read_contours (parsed f))
     go zero e = subst (λ (w : Parsed). Sized (promised f) (read_contours w)) (sym (parsed_on (is_second f) f refl e)) (behind _ refl)
-    go (suc r) e = rw (parsed-faulty f (suc r) e (λ z. omega arith)) none
+    go (suc r) e = rw (parsed_faulty f (suc r) e (λ z. omega arith)) none

@@ -20,7 +20,7 @@ use Rattle.ring.specs.Walk.{End}
 use Rattle.ring.specs.Walk.End.{kept, collapsed}
 use Rattle.ring.specs.Rule.{goes}
 use Rattle.ring.proofs.Listed.{rising_few}
-use Rattle.ring.proofs.Theorems.{ends-in-4n-9, kept-rising}
+use Rattle.ring.proofs.Theorems.{ends_in_4n_9, kept_rising}
 use Rattle.report.specs.Text.{decimal, signed, dash}
 use Rattle.clean.specs.Outcome.{walked}
 use Rattle.report.specs.Listing.{after, area2, line, lines}
@@ -37,25 +37,25 @@ module _ (rule : R.Rule) (c : List ℤ) (x : Contour c (count c)) where
     where
       go : (w : End) → (walked rule c).end ≡ w → length (after w) ≤ 5
       go (kept s) e =
-          let r = rising_few 0 (count c) s (kept-rising (goes rule c) (count c) e) in
+          let r = rising_few 0 (count c) s (kept_rising (goes rule c) (count c) e) in
           decimal-length (length s) 5 (omega arith) (omega arith) (omega (arith, few))
       go collapsed e = omega arith
 
   decisions-length : length (decimal (walked rule c).tally.decisions) ≤ 6
   decisions-length =
-      let h : (walked rule c).tally.decisions < 10 ^ 6 = omega (arith, few, ends-in-4n-9 (goes rule c) (count c)) in
+      let h : (walked rule c).tally.decisions < 10 ^ 6 = omega (arith, few, ends_in_4n_9 (goes rule c) (count c)) in
       decimal-length _ 6 (omega arith) (omega arith) h
 
-  reported-fits : SFits w64 (reported (points c))
+  reported_fits : SFits w64 (reported (points c))
   unfolding wrapped
-  reported-fits = sfits_to_z (record { fits = mod64_lt (exact (points c)) })
+  reported_fits = sfits_to_z (record { fits = mod64_lt (exact (points c)) })
 
   area-length : length (area2 c) ≤ 20
   area-length = go (eqb (count c) 0)
     where
       go : (b : Bool) → length {A = ℕ} (elim b [ true ↦ dash | false ↦ signed (reported (points c)) ]) ≤ 20
       go true = omega arith
-      go false = signed-length (reported (points c)) reported-fits
+      go false = signed-length (reported (points c)) reported_fits
 
   -- a line has at most 45 characters
   pub line-length : (k : ℕ) → k < 10 ^ 4 → length (line rule k c) ≤ 45

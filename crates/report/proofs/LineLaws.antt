@@ -25,26 +25,26 @@ use Rattle.report.specs.Listing.{after, area2, line}
 use Rattle.report.specs.inside.Lines.{Cleanable, cell, kept_text, figures}
 
 module _ (r : Cleaned) where
-  pub kept-count : r.reply ≡ 0 → kept_text r ≡ decimal r.points
+  pub kept_count : r.reply ≡ 0 → kept_text r ≡ decimal r.points
   unfolding kept_text
-  kept-count e = rw (eq-eqb r.reply 0 e, kept_text)
+  kept_count e = rw (eq-eqb r.reply 0 e, kept_text)
 
-  pub kept-none : (r.reply ≡ 0 → ⊥) → kept_text r ≡ dash
+  pub kept_none : (r.reply ≡ 0 → ⊥) → kept_text r ≡ dash
   unfolding kept_text
-  kept-none n = rw (ne_eqb r.reply 0 n, kept_text)
+  kept_none n = rw (ne_eqb r.reply 0 n, kept_text)
 
 -- the area of a contour as text
 module _ (c : List ℤ) where
-  pub area-none : count c ≡ 0 → area2 c ≡ dash
-  area-none e = rw (eq-eqb (count c) 0 e, area2)
+  pub area_none : count c ≡ 0 → area2 c ≡ dash
+  area_none e = rw (eq-eqb (count c) 0 e, area2)
 
   module _ (n : count c ≡ 0 → ⊥) where
-    pub area-signed : area2 c ≡ signed (reported (points c))
-    area-signed = rw (ne_eqb (count c) 0 n, area2)
+    pub area_signed : area2 c ≡ signed (reported (points c))
+    area_signed = rw (ne_eqb (count c) 0 n, area2)
 
     -- it is not refused
-    pub area-clear : Contour c (count c) → first_of (refusals c) ≡ 0
-    area-clear x = sym (refused_none c (contour_clear c x) n)
+    pub area_clear : Contour c (count c) → first_of (refusals c) ≡ 0
+    area_clear x = sym (refused_none c (contour_clear c x) n)
 
 -- the words of a line
 abbrev pub figure_words : ℕ → List ℤ → Cleaned → List (List ℕ)

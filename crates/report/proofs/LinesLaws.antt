@@ -29,12 +29,12 @@ contour_at s f at = front_points s (from_bit f at)
 
 module _ (s : Bool) (f : List ℕ) (at : ℕ) (h : Header) (e : h ≡ header_in s (from_bit f at)) where
   -- it has as many numbers as its header says
-  pub contour-long : length (contour_at s f at) ≡ 2 * h.count
-  contour-long = omega (arith, front_length s (from_bit f at), ap (λ (h : Header). h.count) e)
+  pub contour_long : length (contour_at s f at) ≡ 2 * h.count
+  contour_long = omega (arith, front_length s (from_bit f at), ap (λ (h : Header). h.count) e)
 
   -- it is what was written in front of a row
-  pub contour-read : (row : List ℤ) → take (2 * h.count) (placed 0 (contour_at s f at) row) ≡ contour_at s f at
-  contour-read row = ap (take (2 * h.count)) (placed_front row (contour_at s f at)) ∙ take_at (contour_at s f at) _ (2 * h.count) contour-long
+  pub contour_read : (row : List ℤ) → take (2 * h.count) (placed 0 (contour_at s f at) row) ≡ contour_at s f at
+  contour_read row = ap (take (2 * h.count)) (placed_front row (contour_at s f at)) ∙ take_at (contour_at s f at) _ (2 * h.count) contour_long
 
 -- behind i of a file's n contours, from bit at on, the lines of the rest are due
 pub record Lining (s : Bool) (f : List ℕ) (n from : ℕ) (text₀ : List ℕ) (behind : ℕ) (text : List ℕ) (i at : ℕ) : Type 0 where
@@ -63,11 +63,11 @@ module _ {s : Bool} {f : List ℕ} {n from : ℕ} {text₀ : List ℕ} {behind :
     coming = next x.due h
 
     -- the contour that is met is all there, and on the grid
-    pub lining-there : Whole s f at
-    lining-there = coming.all_there
+    pub lining_there : Whole s f at
+    lining_there = coming.all_there
 
-    pub lining-on : all_on_grid (bound s) (contour_at s f at) ≡ true
-    lining-on = coming.on
+    pub lining_on : all_on_grid (bound s) (contour_at s f at) ≡ true
+    lining_on = coming.on
 
     all_sound : Contour (contour_at s f at) (count (contour_at s f at)) × Contours (contours_of coming.rest)
     all_sound = subst (λ (l : List Entry). Contours (contours_of l)) coming.is x.sound
@@ -82,38 +82,38 @@ module _ {s : Bool} {f : List ℕ} {n from : ℕ} {text₀ : List ℕ} {behind :
           length-append (contour_at s f at) (joined (contours_of coming.rest)),
         )
 
-    pub lining-few : length (contour_at s f at) ≤ 2 * most_listed
-    lining-few = omega (arith, all_few)
+    pub lining_few : length (contour_at s f at) ≤ 2 * most_listed
+    lining_few = omega (arith, all_few)
 
-    pub lining-cleanable : (next prev mark : List ℕ) → most_listed ≤ length next → most_listed ≤ length prev → most_listed ≤ length mark
+    pub lining_cleanable : (next prev mark : List ℕ) → most_listed ≤ length next → most_listed ≤ length prev → most_listed ≤ length mark
         → Cleanable (contour_at s f at) next prev mark
-    lining-cleanable next prev mark a b c =
-        let k : count (contour_at s f at) ≤ most_listed = omega (arith, all_sound.0.even, lining-few) in
+    lining_cleanable next prev mark a b c =
+        let k : count (contour_at s f at) ≤ most_listed = omega (arith, all_sound.0.even, lining_few) in
         record { contour = all_sound.0; few = k; in_next = omega arith; in_prev = omega arith; in_mark = omega arith }
 
-    lining-next : Going from (lines (rule_of s) 1 (job f)) text₀ behind text
+    lining_next : Going from (lines (rule_of s) 1 (job f)) text₀ behind text
         (line (rule_of s) (i + 1) (contour_at s f at) ∷ lines (rule_of s) (suc (i + 1)) (contours_of coming.rest) ∷ [])
     unfolding joined lines
-    lining-next =
+    lining_next =
         going_same _ (rw (add-one i) (simp append_assoc))
         (subst (λ (l : List Entry). Going from (lines (rule_of s) 1 (job f)) text₀ behind text (lines (rule_of s) (suc i) (contours_of l) ∷ [])) coming.is x.going)
 
-    pub lining-room : behind + length (line (rule_of s) (i + 1) (contour_at s f at)) ≤ length text
-    lining-room = going_room lining-next
+    pub lining_room : behind + length (line (rule_of s) (i + 1) (contour_at s f at)) ≤ length text
+    lining_room = going_room lining_next
 
-    pub lining-more : {r : ℕ} {exit : List ℕ} → Put behind (line (rule_of s) (i + 1) (contour_at s f at)) text r exit
+    pub lining_more : {r : ℕ} {exit : List ℕ} → Put behind (line (rule_of s) (i + 1) (contour_at s f at)) text r exit
         → (head : Header) → head ≡ header_in s (from_bit f at) → (z : ℕ) → z ≡ size_of s head → Lining s f n from text₀ r exit (i + 1) (at + z)
-    lining-more q head e z g = record {
+    lining_more q head e z g = record {
       high = omega arith;
       rest = coming.rest;
       due = subst (λ (y : ℕ). Rest s f n (i + 1) (at + y) coming.rest) (size_is s (from_bit f at) ∙ ap (size_of s) (sym e) ∙ sym g) coming.due;
       few = omega (arith, all_few);
       sound = all_sound.1;
-      going = going_more lining-next q;
+      going = going_more lining_next q;
     }
 
-  pub lining-all : n ≤ i → Put from (lines (rule_of s) 1 (job f)) text₀ behind text
+  pub lining_all : n ≤ i → Put from (lines (rule_of s) 1 (job f)) text₀ behind text
   unfolding joined lines
-  lining-all h =
+  lining_all h =
       let e : x.rest ≡ [] = done x.due (omega (arith, x.high)) in
       going_all (going_same [] (rw e) x.going)

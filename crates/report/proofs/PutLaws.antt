@@ -7,7 +7,7 @@ use lib.ListN.{length, drop, length-append}
 use Rattle.rows.specs.Rows.{front, placed}
 use Rattle.buffer.specs.Sets.{joined}
 use Rattle.rows.proofs.RowLaws.{placed_front}
-use Rattle.rows.proofs.PlacedLaws.{placed-none, placed-long, placed-behind}
+use Rattle.rows.proofs.PlacedLaws.{placed_none, placed_long, placed_behind}
 use Rattle.report.specs.inside.Lines.{Put}
 
 -- of what is put from position at on these words are left, from position e on
@@ -29,15 +29,15 @@ module _ {at : ℕ} {whole text : List ℕ} {e : ℕ} {t b : List ℕ} {words : 
   unfolding joined
   going_more {r} p = record {
     room = g.room;
-    long = ap length p.is ∙ placed-long t e b going_room ∙ g.long;
+    long = ap length p.is ∙ placed_long t e b going_room ∙ g.long;
     end = omega (arith, g.end, p.behind, length-append b (joined words));
-    is = ap (placed r (joined words)) p.is ∙ placed-behind t e b (joined words) r going_room p.behind ∙ g.is;
+    is = ap (placed r (joined words)) p.is ∙ placed_behind t e b (joined words) r going_room p.behind ∙ g.is;
   }
 
 -- nothing is left
 pub going_all : {at : ℕ} {whole text : List ℕ} {e : ℕ} {t : List ℕ} → Going at whole text e t [] → Put at whole text e t
 unfolding joined
-going_all {at} {whole} {text} {e} {t} g = record { behind = omega (arith, g.end); is = sym (placed-none t e) ∙ g.is }
+going_all {at} {whole} {text} {e} {t} g = record { behind = omega (arith, g.end); is = sym (placed_none t e) ∙ g.is }
 
 -- the same, in other words
 pub going_same : {at : ℕ} {whole text : List ℕ} {e : ℕ} {t : List ℕ} {words : List (List ℕ)} (others : List (List ℕ)) → joined words ≡ joined others
@@ -54,8 +54,8 @@ module _ {at : ℕ} {text a : List ℕ} {r : ℕ} {t : List ℕ} (p : Put at a t
   one_put : Going at (a ++ b) text r t (b ∷ [])
   one_put = going_more (going_none at text (a ∷ b ∷ []) (two_words a b) h) p
 
-  pub room-behind : r + length b ≤ length t
-  room-behind = going_room one_put
+  pub room_behind : r + length b ≤ length t
+  room_behind = going_room one_put
 
   pub both_put : {e : ℕ} {exit : List ℕ} → Put r b t e exit → Put at (a ++ b) text e exit
   both_put q = going_all (going_more one_put q)

@@ -14,7 +14,7 @@ use Rattle.grid.specs.Domain.{count}
 use Rattle.replies.specs.Ladder.{first_of, so_far, room}
 use Rattle.replies.proofs.LadderLaws.{Clear, clear, first_is, stopped, past_clear, front_clear, clear_of}
 use Rattle.replies.proofs.LadderLaws.First.{here, past}
-use Rattle.grid.proofs.LimitLaws.{narrow_within, all_on_wider, on-taken, on-dropped}
+use Rattle.grid.proofs.LimitLaws.{narrow_within, all_on_wider, on_taken, on_dropped}
 use Rattle.buffer.specs.Sets.{joined, Even}
 use Rattle.buffer.proofs.Theorems.{points_total}
 use Rattle.setfile.specs.declared.inner.judging.Judged.{Judged}
@@ -51,9 +51,9 @@ all_contours (c ∷ l) x e h =
       record {
         even = x.0;
         few = omega (arith, x.0);
-        on = ap (all_on_grid limit) (sym (take-append_seam c (joined l))) ∙ on-taken limit (length c) (c ++ joined l) e;
+        on = ap (all_on_grid limit) (sym (take-append_seam c (joined l))) ∙ on_taken limit (length c) (c ++ joined l) e;
       },
-      all_contours l x.1 (ap (all_on_grid limit) (sym (drop-append_seam c (joined l))) ∙ on-dropped limit (length c) (c ++ joined l) e) (omega arith),
+      all_contours l x.1 (ap (all_on_grid limit) (sym (drop-append_seam c (joined l))) ∙ on_dropped limit (length c) (c ++ joined l) e) (omega arith),
     )
 
 bound_within : (s : Bool) → bound s ≤ limit

@@ -7,14 +7,14 @@ use mathlib.Core.List.{List, [], ◌∷◌, ◌++◌, append_assoc, append-nil, 
 use mathlib.Core.Bool.{Bool, true, false}
 use lib.ListN.{length, set, length-append}
 use lib.Seq.{get_or-set_same, get_or-set_other}
-use Rattle.ring.specs.Walk.{unmarked, marked, removed, mark_at, Survivor, survivors, others, successor, predecessor, remove, fresh, to-go}
+use Rattle.ring.specs.Walk.{unmarked, marked, removed, mark_at, Survivor, survivors, others, successor, predecessor, remove, fresh, to_go}
 use Rattle.ring.specs.Promises.{NoneToGo}
 use Rattle.ring.proofs.Branches.{same?, true_false}
 use Rattle.ring.proofs.Lists.{Each, cut_cases}
 use Rattle.ring.proofs.Marks.{inside, count_some, fresh_survives, fresh_at}
 use Rattle.ring.proofs.Survivors.{Same, same_refl, same_sym, same_survivor, same_survivors, fresh_count}
-use Rattle.ring.proofs.Neighbours.{turned, others_has, others_only, ring-length, first_other, not-alone, forward, gap-others, far-successor, far-predecessor, same_others, same_successor, same_predecessor}
-use Rattle.ring.proofs.Changes.{same_set, same_remove, gap-survives, remove_keeps, remove-predecessor, remove-successor, remove_counts}
+use Rattle.ring.proofs.Neighbours.{turned, others_has, others_only, ring-length, first_other, not_alone, forward, gap_others, far_successor, far_predecessor, same_others, same_successor, same_predecessor}
+use Rattle.ring.proofs.Changes.{same_set, same_remove, gap_survives, remove_keeps, remove_predecessor, remove_successor, remove_counts}
 use Rattle.ring.proofs.Moments.{Reached, begun, stepped, stayed, went, moment}
 
 -- The ring from p on has every survivor.
@@ -28,13 +28,13 @@ behind_successor m c y q s e h =
     (others_only m (successor m c) q t.survives (rw t.from (mathlib.Core.List.Memᴰ.append_left (c ∷ []) h))).1
 
 module _ (goes : ℕ → ℕ → ℕ → Bool) where
-  pub same-to-go : {m m' : List ℕ} → Same m m' → (q : ℕ) → to-go goes m' q ≡ to-go goes m q
-  same-to-go x q = rw (same_predecessor x q, same_successor x q)
+  pub same_to_go : {m m' : List ℕ} → Same m m' → (q : ℕ) → to_go goes m' q ≡ to_go goes m q
+  same_to_go x q = rw (same_predecessor x q, same_successor x q)
 
   -- After a removal the rule says the same of every vertex but the two beside the gap.
-  far-to-go : (m : List ℕ) (c q : ℕ) → Survivor m c → Survivor m q → (q ≡ c → ⊥) → (q ≡ predecessor m c → ⊥) → (q ≡ successor m c → ⊥)
-      → to-go goes (remove m c) q ≡ to-go goes m q
-  far-to-go m c q s t n i j = same-to-go (same_remove m c) q ∙ rw (far-predecessor m c s q t n j, far-successor m c s q t n i)
+  far_to_go : (m : List ℕ) (c q : ℕ) → Survivor m c → Survivor m q → (q ≡ c → ⊥) → (q ≡ predecessor m c → ⊥) → (q ≡ successor m c → ⊥)
+      → to_go goes (remove m c) q ≡ to_go goes m q
+  far_to_go m c q s t n i j = same_to_go (same_remove m c) q ∙ rw (far_predecessor m c s q t n j, far_successor m c s q t n i)
 
   module _ (n v : ℕ) where
     -- Of the ring from p on, the positions of a run are unmarked, and no vertex behind the run would go.
@@ -43,7 +43,7 @@ module _ (goes : ℕ → ℕ → ℕ → Bool) where
       pub rest : List ℕ
       pub ring : p ∷ others m p ≡ run ++ rest
       pub pending : Each (λ x. mark_at m x ≡ unmarked) run
-      pub would_stay : Each (λ x. to-go goes m x ≡ false) rest
+      pub would_stay : Each (λ x. to_go goes m x ≡ false) rest
       pub room : v + (length run + 2 * length (survivors m)) ≤ 3 * n
 
     -- No vertex would go, and behind the way that remains all are marked.
@@ -81,14 +81,14 @@ module _ (goes : ℕ → ℕ → ℕ → Bool) where
             way = w;
             past = a.past ++ p ∷ [];
             ring = ap (λ l. successor m p ∷ l) (sym (same_others x (successor m p))) ∙ forward m p s ∙ ap (λ l. l ++ p ∷ []) (tail-eq_of_cons-eq f) ∙ append_assoc w a.past (p ∷ []);
-            none_to_go = λ r t. same-to-go x r ∙ a.none_to_go r (same_survivor (same_sym x) r t);
+            none_to_go = λ r t. same_to_go x r ∙ a.none_to_go r (same_survivor (same_sym x) r t);
             all_marked = λ r h. ⊎_elim (λ i. keep r (a.all_marked r i)) (λ i. let z : r ≡ p = mathlib.Core.List.Memᴰ.eq_of_singleton i in rw z now) (mathlib.Core.List.Memᴰ.append_cases a.past h);
             room = omega (arith, a.room, ap length e, ap length (same_survivors 0 x));
           }
 
   module _ (n v : ℕ) (m : List ℕ) (c : ℕ) (s : Survivor m c) where
     -- The vertex at the head of the run stays.
-    ahead_stay : mark_at m c ≡ unmarked → to-go goes m c ≡ false → (w : List ℕ) (a : Ahead n v m c) → a.run ≡ c ∷ w → Ahead n (suc v) (set m c marked) (successor m c)
+    ahead_stay : mark_at m c ≡ unmarked → to_go goes m c ≡ false → (w : List ℕ) (a : Ahead n v m c) → a.run ≡ c ∷ w → Ahead n (suc v) (set m c marked) (successor m c)
     ahead_stay due t w a e =
         let x = same_set m c marked s (omega arith) in
         let f : others m c ≡ w ++ a.rest = tail-eq_of_cons-eq (a.ring ∙ ap (λ l. l ++ a.rest) e) in
@@ -99,7 +99,7 @@ module _ (goes : ℕ → ℕ → ℕ → Bool) where
           pending = λ q h.
               let o = others_only m c q s (rw f (mathlib.Core.List.Memᴰ.append_left a.rest h)) in
               get_or-set_other m c q marked removed o.1 ∙ a.pending q (rw e (mathlib.Core.List.Memᴰ.tail h));
-          would_stay = λ q h. same-to-go x q ∙ ⊎_elim
+          would_stay = λ q h. same_to_go x q ∙ ⊎_elim
               (λ i. a.would_stay q i)
               (λ i. let z : q ≡ c = mathlib.Core.List.Memᴰ.eq_of_singleton i in rw z t)
               (mathlib.Core.List.Memᴰ.append_cases a.rest h);
@@ -109,7 +109,7 @@ module _ (goes : ℕ → ℕ → ℕ → Bool) where
     -- It goes: its predecessor and its successor are undecided again.
     module _ (due : mark_at m c ≡ unmarked) (large : 3 < length (survivors m)) where
       more : others m c ≡ [] → ⊥
-      more = not-alone m c s (omega arith)
+      more = not_alone m c s (omega arith)
 
       -- The others but the predecessor, and but the successor.
       record Between (x y : List ℕ) : Type 0 where
@@ -118,16 +118,16 @@ module _ (goes : ℕ → ℕ → ℕ → Bool) where
         pub gone : others (set m c removed) (predecessor m c) ≡ x
 
       between : (x : List ℕ) × (y : List ℕ) × Between x y
-      between = let i = gap-others m c s more in ⊎_elim
+      between = let i = gap_others m c s more in ⊎_elim
           (λ a. absurd (more a))
           (λ j. (i.0, j.0, record { front = i.1; back = j.1; gone = i.2 }))
           (first_other m c)
 
-      far : {x y : List ℕ} → Between x y → (q : ℕ) → Memᴰ q x → Memᴰ q y → to-go goes m q ≡ false → to-go goes (remove m c) q ≡ false
+      far : {x y : List ℕ} → Between x y → (q : ℕ) → Memᴰ q x → Memᴰ q y → to_go goes m q ≡ false → to_go goes (remove m c) q ≡ false
       far {x} {y} b q i j t =
           let o = others_only m c q s (rw b.front (mathlib.Core.List.Memᴰ.append_left (predecessor m c ∷ []) i)) in
-          let k : q ≡ predecessor m c → ⊥ = (others_only (set m c removed) (predecessor m c) q (gap-survives m c s more) (rw b.gone i)).1 in
-          far-to-go m c q s o.0 o.1 k (behind_successor m c y q s b.back j) ∙ t
+          let k : q ≡ predecessor m c → ⊥ = (others_only (set m c removed) (predecessor m c) q (gap_survives m c s more) (rw b.gone i)).1 in
+          far_to_go m c q s o.0 o.1 k (behind_successor m c y q s b.back j) ∙ t
 
       module _ {x y : List ℕ} (b : Between x y) (w : List ℕ) (a : Ahead n v m c) (e : a.run ≡ c ∷ w) where
         split : others m c ≡ w ++ a.rest
@@ -141,7 +141,7 @@ module _ (goes : ℕ → ℕ → ℕ → Bool) where
           rest = t;
           ring = ap (λ l. predecessor m c ∷ l) (sym (same_others (same_remove m c) (predecessor m c)) ∙ b.gone ∙ d);
           pending = λ q h. ⊎_elim
-              (λ i. let z : q ≡ predecessor m c = i in rw z (remove-predecessor m c s more))
+              (λ i. let z : q ≡ predecessor m c = i in rw z (remove_predecessor m c s more))
               (λ i. pend q i)
               (mathlib.Core.List.Memᴰ.cases_cons h);
           would_stay = λ q h. far b q (rw d (mathlib.Core.List.Memᴰ.append_right u h)) (old q h).1 (a.would_stay q (old q h).0);
@@ -168,7 +168,7 @@ module _ (goes : ℕ → ℕ → ℕ → Bool) where
           short x y b [] a e (z ∷ t) d r =
               let f : z ∷ (t ++ predecessor m c ∷ []) ≡ successor m c ∷ y = sym (b.front ∙ ap (λ l. l ++ predecessor m c ∷ []) d) ∙ b.back in
               run_from b [] a e (z ∷ []) t d (omega arith)
-              (λ q h. let g : q ≡ successor m c = mathlib.Core.List.Memᴰ.eq_of_singleton h ∙ head-eq_of_cons-eq f in rw g (remove-successor m c s more))
+              (λ q h. let g : q ≡ successor m c = mathlib.Core.List.Memᴰ.eq_of_singleton h ∙ head-eq_of_cons-eq f in rw g (remove_successor m c s more))
               (λ q h. (rw r (mathlib.Core.List.Memᴰ.tail (mathlib.Core.List.Memᴰ.append_left (predecessor m c ∷ []) h)), rw (tail-eq_of_cons-eq f) at (mathlib.Core.List.Memᴰ.append_left (predecessor m c ∷ []) h)))
           short x y b (z ∷ w) a e t d r =
               let f : z ∷ (w ++ a.rest) ≡ successor m c ∷ y = sym (split b (z ∷ w) a e) ∙ b.back in
@@ -244,7 +244,7 @@ module _ (goes : ℕ → ℕ → ℕ → Bool) where
     pub visits_room : {v : ℕ} {m : List ℕ} {p k : ℕ} → Reached goes n v m p k → v + length (survivors m) ≤ 3 * n
     visits_room r = ⊎_elim (λ a. omega (arith, a.room)) (λ x. omega (arith, x.room)) (swept r)
 
-    pub going_room : {v : ℕ} {m : List ℕ} {p k : ℕ} → Reached goes n v m p k → to-go goes m p ≡ true → v + 2 * length (survivors m) < 3 * n
+    pub going_room : {v : ℕ} {m : List ℕ} {p k : ℕ} → Reached goes n v m p k → to_go goes m p ≡ true → v + 2 * length (survivors m) < 3 * n
     going_room {v} {m} {p} r t =
         let s = (moment goes n big r).on in
         ⊎_elim
@@ -261,10 +261,10 @@ module _ (goes : ℕ → ℕ → ℕ → Bool) where
     since (stepped r z e) = inr (idle r e)
     since (stayed {m = m} {p = p} r e t) = ⊎_elim
         (λ i. inl (ap suc i))
-        (λ x. let y = same_set m p marked (moment goes n big r).on (omega arith) in inr (λ q s. same-to-go y q ∙ x q (same_survivor (same_sym y) q s)))
+        (λ x. let y = same_set m p marked (moment goes n big r).on (omega arith) in inr (λ q s. same_to_go y q ∙ x q (same_survivor (same_sym y) q s)))
         (since r)
     since (went {m = m} {p = p} r e t h) = ⊎_elim (λ i. inl (ap suc i)) (λ x. true_false t (x p (moment goes n big r).on)) (since r)
 
     -- So where a vertex goes, every visit so far has.
-    pub busy : {v : ℕ} {m : List ℕ} {p k : ℕ} → Reached goes n v m p k → to-go goes m p ≡ true → v ≡ k
+    pub busy : {v : ℕ} {m : List ℕ} {p k : ℕ} → Reached goes n v m p k → to_go goes m p ≡ true → v ≡ k
     busy {m = m} {p = p} r t = ⊎_elim (λ i. i) (λ x. true_false t (x p (moment goes n big r).on)) (since r)

@@ -18,12 +18,12 @@ use Rattle.grid.proofs.PointLaws.{at_on}
 use Rattle.grid.proofs.EdgeLaws.{corner_short}
 use Rattle.grid.proofs.BoxLaws.{ab, bc, cd, da, box_four, box_turns}
 use Rattle.ring.specs.declared.Rule.{Rule}
-use Rattle.ring.specs.Walk.{fresh, successor, predecessor, to-go}
+use Rattle.ring.specs.Walk.{fresh, successor, predecessor, to_go}
 use Rattle.ring.specs.Rule.{goes_along, goes}
 use Rattle.ring.specs.inside.Rows.{FirstStand, Standing}
 use Rattle.ring.proofs.Branches.{same?}
 use Rattle.ring.proofs.Filling.{fresh_next, fresh_round, fresh_before, fresh_last}
-use Rattle.ring.proofs.RuleLaws.{along-turning, goes_edges}
+use Rattle.ring.proofs.RuleLaws.{along_turning, goes_edges}
 
 module _ (rule : Rule) (row : List ℤ) where
   -- no vertex before position i is to go, and one edge leads there
@@ -41,19 +41,19 @@ module _ (rule : Rule) (row : List ℤ) where
       pub short_on : {from : Edge} (j : ℕ) → from ≡ between (at row i) (at row j) → Short limit to from
       short_on j e = rw (w.to_is, e) (corner_short limit _ _ _ (at_on limit row _ c.on) (at_on limit row i c.on) (at_on limit row j c.on))
 
-      told : {from : Edge} (j : ℕ) → from ≡ between (at row i) (at row j) → successor (fresh n) i ≡ j → goes_along rule to from ≡ to-go (goes rule row) (fresh n) i
+      told : {from : Edge} (j : ℕ) → from ≡ between (at row i) (at row j) → successor (fresh n) i ≡ j → goes_along rule to from ≡ to_go (goes rule row) (fresh n) i
       told j e s = ap₂ (goes_along rule) w.to_is e ∙ sym (goes_edges rule (at row (predecessor (fresh n) i)) (at row i) (at row j)) ∙ rw s
 
       -- the vertex at i is to go
-      stopped : to-go (goes rule row) (fresh n) i ≡ true → Standing (goes rule row) n i
+      stopped : to_go (goes rule row) (fresh n) i ≡ true → Standing (goes rule row) n i
       stopped t = record { within = omega (arith, w.within); stand = w.stand; next_goes = λ l. t }
 
       -- it stands
-      one_more : to-go (goes rule row) (fresh n) i ≡ false → FirstStand (goes rule row) n (suc i)
+      one_more : to_go (goes rule row) (fresh n) i ≡ false → FirstStand (goes rule row) n (suc i)
       one_more t j l = ⊎_elim (λ (z : j ≡ i). rw z t) (λ z. w.stand j (omega arith)) (same? j i)
 
       module _ (l : i < n - 1) {from : Edge} (e : from ≡ between (at row i) (at row (i + 1))) where
-        here : goes_along rule to from ≡ to-go (goes rule row) (fresh n) i
+        here : goes_along rule to from ≡ to_go (goes rule row) (fresh n) i
         here = told (i + 1) e (fresh_next n i (omega arith) ∙ omega arith)
 
         pub going_met : goes_along rule to from ≡ true → Standing (goes rule row) n i
@@ -74,7 +74,7 @@ module _ (rule : Rule) (row : List ℤ) where
         pub closing_from : closing ≡ between (at row i) (at row 0)
         closing_from = let e : n - 1 ≡ i = omega (arith, w.within) in rw e at w.closing_is
 
-        last_told : goes_along rule to closing ≡ to-go (goes rule row) (fresh n) i
+        last_told : goes_along rule to closing ≡ to_go (goes rule row) (fresh n) i
         last_told = told 0 closing_from (fresh_round n i at_last)
 
         pub last_met : goes_along rule to closing ≡ true → Standing (goes rule row) n (n - 1)
@@ -89,10 +89,10 @@ module _ (rule : Rule) (row : List ℤ) (b : box row ≡ true) where
   four_stand c =
       let turns = box_turns row b in
       let none = passed_none rule row c (da row) (omega arith) refl in
-      let first = passed_more rule row c none (omega arith) refl (sym (along-turning rule (da row) (ab row) turns.3)) in
-      let second = passed_more rule row c first (omega arith) refl (sym (along-turning rule (ab row) (bc row) turns.0)) in
-      let third = passed_more rule row c second (omega arith) refl (sym (along-turning rule (bc row) (cd row) turns.1)) in
-      passed_all rule row c third (omega arith) (sym (along-turning rule (cd row) (da row) turns.2))
+      let first = passed_more rule row c none (omega arith) refl (sym (along_turning rule (da row) (ab row) turns.3)) in
+      let second = passed_more rule row c first (omega arith) refl (sym (along_turning rule (ab row) (bc row) turns.0)) in
+      let third = passed_more rule row c second (omega arith) refl (sym (along_turning rule (bc row) (cd row) turns.1)) in
+      passed_all rule row c third (omega arith) (sym (along_turning rule (cd row) (da row) turns.2))
 
   pub box_stands : {n : ℕ} → Contour row n → Standing (goes rule row) n n
   box_stands c = let e = box_four row c b in rw e (four_stand (rw e at c))

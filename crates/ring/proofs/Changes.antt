@@ -12,7 +12,7 @@ use Rattle.ring.specs.inside.Rows.{first_marked}
 use Rattle.ring.proofs.Branches.{same?}
 use Rattle.ring.proofs.Marks.{inside, recount, unmark_yes, unmark_no, first_none, first_more, first_due}
 use Rattle.ring.proofs.Survivors.{Same, same_refl, same_trans, same_survivor, same_survivors, survivor_count}
-use Rattle.ring.proofs.Neighbours.{Alone, successor-survives, predecessor-survives, predecessor-other, gap-successor}
+use Rattle.ring.proofs.Neighbours.{Alone, successor_survives, predecessor_survives, predecessor_other, gap_successor}
 
 -- A survivor's mark can change, and it still survives.
 pub same_set : (m : List ℕ) (c v : ℕ) → Survivor m c → v < removed → Same m (set m c v)
@@ -67,20 +67,20 @@ unfolding remove unmark_about
 remove_keeps m c q e n = unmark_keeps _ _ q (unmark_keeps _ _ q (unmark_keeps _ _ q (get_or-set_other m c q removed removed n ∙ e)))
 
 module _ (m : List ℕ) (c : ℕ) (s : Survivor m c) (more : Alone m c → ⊥) where
-  pub gap-survives : Survivor (set m c removed) (predecessor m c)
-  gap-survives = survives_gap m c (predecessor m c) (predecessor-survives m c s) (predecessor-other m c s more)
+  pub gap_survives : Survivor (set m c removed) (predecessor m c)
+  gap_survives = survives_gap m c (predecessor m c) (predecessor_survives m c s) (predecessor_other m c s more)
 
-  pub remove-predecessor : mark_at (remove m c) (predecessor m c) ≡ unmarked
+  pub remove_predecessor : mark_at (remove m c) (predecessor m c) ≡ unmarked
   unfolding remove unmark_about
-  remove-predecessor = unmark_keeps _ _ _ (unmark_keeps _ _ _ (unmark_at (set m c removed) (predecessor m c) gap-survives))
+  remove_predecessor = unmark_keeps _ _ _ (unmark_keeps _ _ _ (unmark_at (set m c removed) (predecessor m c) gap_survives))
 
-  pub remove-successor : mark_at (remove m c) (successor m c) ≡ unmarked
+  pub remove_successor : mark_at (remove m c) (successor m c) ≡ unmarked
   unfolding remove unmark_about
-  remove-successor =
+  remove_successor =
       let r : List ℕ = set m c removed in
       let p : ℕ = predecessor m c in
-      let t : Survivor (unmark r p) (successor r p) = same_survivor (same_unmark r p) (successor r p) (successor-survives r p gap-survives) in
-      rw (← gap-successor m c s more) (unmark_keeps _ _ (successor r p) (unmark_at (unmark r p) (successor r p) t))
+      let t : Survivor (unmark r p) (successor r p) = same_survivor (same_unmark r p) (successor r p) (successor_survives r p gap_survives) in
+      rw (← gap_successor m c s more) (unmark_keeps _ _ (successor r p) (unmark_at (unmark r p) (successor r p) t))
 
 -- How many survive, and how many are unmarked and marked, after a mark and after a removal.
 pub mark_counts : (m : List ℕ) (c : ℕ) → mark_at m c ≡ unmarked

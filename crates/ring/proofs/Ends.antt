@@ -8,19 +8,19 @@ use mathlib.Core.Bool.{Bool, true, false}
 use lib.ListN.{length, set}
 use lib.Seq.{get_or-set_same, get_or-set_other}
 use borrow.Author.Tests.{lt-ltb, le-ltb}
-use Rattle.ring.specs.Walk.{unmarked, marked, removed, mark_at, Survivor, survivors, successor, occurrences, Tally, Walked, Stage, tally, ending, start, come_to, to-go, look, looks, walk}
+use Rattle.ring.specs.Walk.{unmarked, marked, removed, mark_at, Survivor, survivors, successor, occurrences, Tally, Walked, Stage, tally, ending, start, come_to, to_go, look, looks, walk}
 use Rattle.ring.specs.Walk.End.{kept, collapsed}
 use Rattle.ring.specs.Walk.Stage.{under_way, ended}
 use Rattle.ring.specs.Promises.{NoneToGo, idle_round}
 use Rattle.ring.proofs.Branches.{same?}
 use Rattle.ring.proofs.Marks.{inside}
 use Rattle.ring.proofs.Survivors.{Same, same_refl, same_trans, same_sym, same_survivor, same_survivors}
-use Rattle.ring.proofs.Neighbours.{successor-survives}
+use Rattle.ring.proofs.Neighbours.{successor_survives}
 use Rattle.ring.proofs.Changes.{same_set, mark_counts}
-use Rattle.ring.proofs.Looks.{look-done, look-over, look-stay, look-fall}
-use Rattle.ring.proofs.Moments.{Reached, reached-is, moment, history}
-use Rattle.ring.proofs.Ahead.{visits_room, same-to-go}
-use Rattle.ring.proofs.Rounds.{round-done, round-on}
+use Rattle.ring.proofs.Looks.{look_done, look_over, look_stay, look_fall}
+use Rattle.ring.proofs.Moments.{Reached, reached_is, moment, history}
+use Rattle.ring.proofs.Ahead.{visits_room, same_to_go}
+use Rattle.ring.proofs.Rounds.{round_done, round_on}
 
 module _ (goes : ℕ → ℕ → ℕ → Bool) where
   -- Where no vertex would go, each unmarked one is decided once more, up to the last of them, and all survivors are kept.
@@ -42,14 +42,14 @@ module _ (goes : ℕ → ℕ → ℕ → Bool) where
     after_look m p t x = ⊎_elim
         (λ z.
         let sum : t.decisions ≡ t₀.decisions + occurrences unmarked m₀ = omega (arith, x.sum) in
-        let way : t.turns ≡ t₀.turns + idle_round m₀ p₀ = omega (arith, x.way, round-done m p z) in
-        rw (look-done goes m p t z) (ap₂ (λ (s : List ℕ) (i : Tally). ending (kept s) i) (sym (same_survivors 0 x.same)) (ap₂ tally sum way)))
+        let way : t.turns ≡ t₀.turns + idle_round m₀ p₀ = omega (arith, x.way, round_done m p z) in
+        rw (look_done goes m p t z) (ap₂ (λ (s : List ℕ) (i : Tally). ending (kept s) i) (sym (same_survivors 0 x.same)) (ap₂ tally sum way)))
         (λ z. ⊎_elim
-        (λ e. rw (look-over goes m p t z e) (record {
+        (λ e. rw (look_over goes m p t z e) (record {
           same = x.same;
-          on = successor-survives m p x.on;
+          on = successor_survives m p x.on;
           sum = x.sum;
-          way = omega (arith, x.way, round-on m p m x.on (same_refl m) (λ q n. refl) e z);
+          way = omega (arith, x.way, round_on m p m x.on (same_refl m) (λ q n. refl) e z);
         }))
         (λ d. decided z (omega (arith, x.on)))
         (same? (mark_at m p) marked))
@@ -57,16 +57,16 @@ module _ (goes : ℕ → ℕ → ℕ → Bool) where
       where
         decided : (occurrences unmarked m ≡ 0 → ⊥) → mark_at m p ≡ unmarked → After (look goes (under_way m p t))
         decided z e =
-            let g : to-go goes m p ≡ false = same-to-go goes x.same p ∙ still p (same_survivor (same_sym x.same) p x.on) in
+            let g : to_go goes m p ≡ false = same_to_go goes x.same p ∙ still p (same_survivor (same_sym x.same) p x.on) in
             let y = same_set m p marked x.on (omega arith) in
-            rw (look-stay goes m p t e g) (record {
+            rw (look_stay goes m p t e g) (record {
               same = same_trans x.same y;
-              on = same_survivor y (successor m p) (successor-survives m p x.on);
+              on = same_survivor y (successor m p) (successor_survives m p x.on);
               sum = omega (arith, x.sum, mark_counts m p e);
               way = omega (
                 arith,
                 x.way,
-                round-on m p (set m p marked) x.on y (λ q n. get_or-set_other m p q marked removed n) (get_or-set_same m p marked removed (inside m p x.on)) z,
+                round_on m p (set m p marked) x.on y (λ q n. get_or-set_other m p q marked removed n) (get_or-set_same m p marked removed (inside m p x.on)) z,
               );
             })
 
@@ -123,21 +123,21 @@ module _ (goes : ℕ → ℕ → ℕ → Bool) where
       none_to_go_answer {v} {m} {p} {k} r still = walk_many big ∙ answer (looks goes (suc (3 * n)) (start n)) refl (rw (← on) at (after m p (tally k v) still (moment goes n big r).on (suc (3 * n) - v)))
         where
           on : looks goes (suc (3 * n)) (start n) ≡ looks goes (suc (3 * n) - v) (under_way m p (tally k v))
-          on = looks_add (suc (3 * n) - v) v (suc (3 * n)) (omega (arith, visits_room goes n big r)) (start n) ∙ ap (looks goes (suc (3 * n) - v)) (reached-is goes n r)
+          on = looks_add (suc (3 * n) - v) v (suc (3 * n)) (omega (arith, visits_room goes n big r)) (start n) ∙ ap (looks goes (suc (3 * n) - v)) (reached_is goes n r)
 
           answer : (w : Stage) → looks goes (suc (3 * n)) (start n) ≡ w → After m p (tally k v) still w
               → come_to w ≡ ending (kept (survivors m)) (tally (k + occurrences unmarked m) (v + idle_round m p))
           answer (under_way l q t) e x = absurd (not_under_way l q t e)
           answer (ended w) e x = x
 
-      pub fallen_after : {v : ℕ} {m : List ℕ} {p k : ℕ} → Reached goes n v m p k → mark_at m p ≡ unmarked → to-go goes m p ≡ true → length (survivors m) ≤ 3
+      pub fallen_after : {v : ℕ} {m : List ℕ} {p k : ℕ} → Reached goes n v m p k → mark_at m p ≡ unmarked → to_go goes m p ≡ true → length (survivors m) ≤ 3
           → (t : ℕ) → v < t → looks goes t (start n) ≡ ended (ending collapsed (tally (suc k) (suc v)))
       unfolding looks look
       fallen_after {v} {m} {p} {k} r e t h i l =
-          ended_since (suc v) i l (ended (ending collapsed (tally (suc k) (suc v)))) (ap (look goes) (reached-is goes n r) ∙ look-fall goes m p (tally k v) e t h) refl
+          ended_since (suc v) i l (ended (ending collapsed (tally (suc k) (suc v)))) (ap (look goes) (reached_is goes n r) ∙ look_fall goes m p (tally k v) e t h) refl
 
       pub kept_after : {v : ℕ} {m : List ℕ} {p k : ℕ} → Reached goes n v m p k → occurrences unmarked m ≡ 0
           → (t : ℕ) → v < t → looks goes t (start n) ≡ ended (ending (kept (survivors m)) (tally k v))
       unfolding looks look
       kept_after {v} {m} {p} {k} r z i l =
-          ended_since (suc v) i l (ended (ending (kept (survivors m)) (tally k v))) (ap (look goes) (reached-is goes n r) ∙ look-done goes m p (tally k v) z) refl
+          ended_since (suc v) i l (ended (ending (kept (survivors m)) (tally k v))) (ap (look goes) (reached_is goes n r) ∙ look_done goes m p (tally k v) z) refl

@@ -12,8 +12,8 @@ use Rattle.ring.proofs.Branches.{same?}
 use Rattle.rows.proofs.RowLaws.{any_default}
 use Rattle.ring.proofs.Marks.{inside, recount, unmark_yes, unmark_no}
 use Rattle.ring.proofs.Survivors.{Same, same_sym, same_survivor}
-use Rattle.ring.proofs.Neighbours.{successor-survives, predecessor-survives, not-alone, gap-successor, gap-predecessor, far-successor, far-predecessor, same_successor, same_predecessor}
-use Rattle.ring.proofs.Changes.{same_unmark, same_remove, gap-survives}
+use Rattle.ring.proofs.Neighbours.{successor_survives, predecessor_survives, not_alone, gap_successor, gap_predecessor, far_successor, far_predecessor, same_successor, same_predecessor}
+use Rattle.ring.proofs.Changes.{same_unmark, same_remove, gap_survives}
 
 -- What the rows hold at a survivor.
 pub record Here (m next prev : List ℕ) (c : ℕ) : Type 0 where
@@ -34,10 +34,10 @@ here {m} l c s = record {
   inside_prev = omega (arith, inside m c s, l.prev_long);
   next_is = l.to_successor c s;
   prev_is = l.to_predecessor c s;
-  successor_inside = inside m (successor m c) (successor-survives m c s);
-  predecessor_inside = inside m (predecessor m c) (predecessor-survives m c s);
-  successor_lives = successor-survives m c s;
-  predecessor_lives = predecessor-survives m c s;
+  successor_inside = inside m (successor m c) (successor_survives m c s);
+  predecessor_inside = inside m (predecessor m c) (predecessor_survives m c s);
+  successor_lives = successor_survives m c s;
+  predecessor_lives = predecessor_survives m c s;
 }
 
 pub linked_same : {m m' next prev : List ℕ} → Same m m' → Linked m next prev → Linked m' next prev
@@ -60,7 +60,7 @@ linked_unlinked : {m next prev : List ℕ} {c : ℕ} → Removable m next prev c
 linked_unlinked {m} {next} {prev} {c} x =
     let l = x.linked in
     let s : Survivor m c = omega (arith, x.due) in
-    let more = not-alone m c s x.others in
+    let more = not_alone m c s x.others in
     let h = here l c s in
     record {
       next_long = length-set next _ _ ∙ l.next_long ∙ sym (length-set m c removed);
@@ -68,14 +68,14 @@ linked_unlinked {m} {next} {prev} {c} x =
       to_successor = λ q t.
           let o = survived m c q (inside m c s) t in
           ⊎_elim
-          (λ (e : q ≡ predecessor m c). rw (e, get_or-set_same next (predecessor m c) (successor m c) 0 (omega (arith, l.next_long))) (sym (gap-successor m c s more)))
-          (λ n. get_or-set_other next (predecessor m c) q (successor m c) 0 n ∙ l.to_successor q o.0 ∙ sym (far-successor m c s q o.0 o.1 n))
+          (λ (e : q ≡ predecessor m c). rw (e, get_or-set_same next (predecessor m c) (successor m c) 0 (omega (arith, l.next_long))) (sym (gap_successor m c s more)))
+          (λ n. get_or-set_other next (predecessor m c) q (successor m c) 0 n ∙ l.to_successor q o.0 ∙ sym (far_successor m c s q o.0 o.1 n))
           (same? q (predecessor m c));
       to_predecessor = λ q t.
           let o = survived m c q (inside m c s) t in
           ⊎_elim
-          (λ (e : q ≡ successor m c). rw (e, get_or-set_same prev (successor m c) (predecessor m c) 0 (omega (arith, l.prev_long))) (sym (gap-predecessor m c s more)))
-          (λ n. get_or-set_other prev (successor m c) q (predecessor m c) 0 n ∙ l.to_predecessor q o.0 ∙ sym (far-predecessor m c s q o.0 o.1 n))
+          (λ (e : q ≡ successor m c). rw (e, get_or-set_same prev (successor m c) (predecessor m c) 0 (omega (arith, l.prev_long))) (sym (gap_predecessor m c s more)))
+          (λ n. get_or-set_other prev (successor m c) q (predecessor m c) 0 n ∙ l.to_predecessor q o.0 ∙ sym (far_predecessor m c s q o.0 o.1 n))
           (same? q (successor m c));
     }
 
@@ -122,14 +122,14 @@ unmarked_about x y z e f = record {
 
 -- What is unlinked can be unmarked about, and then is removed.
 module _ {m next prev m' next' prev' : List ℕ} {c p : ℕ} (x : Removable m next prev c) (y : Unlinked m c m' next' prev' p) where
-  pub unlinked-before : Survivor m' p × Linked m' next' prev'
-  unlinked-before =
+  pub unlinked_before : Survivor m' p × Linked m' next' prev'
+  unlinked_before =
       let s : Survivor m c = omega (arith, x.due) in
-      (rw (y.marks, y.before) (gap-survives m c s (not-alone m c s x.others)), y.linked)
+      (rw (y.marks, y.before) (gap_survives m c s (not_alone m c s x.others)), y.linked)
 
-  pub removed-now : {d : List ℕ} {t : ℕ} → UnmarkedAbout m' p d t → Removed m c d next' prev' t
+  pub removed_now : {d : List ℕ} {t : ℕ} → UnmarkedAbout m' p d t → Removed m c d next' prev' t
   unfolding remove
-  removed-now {d = d} z =
+  removed_now {d = d} z =
       let e : d ≡ remove m c = z.marks ∙ rw (y.marks, y.before) in
       record {
         marks = e;

@@ -7,8 +7,8 @@ use mathlib.Core.List.{List, [], ◌∷◌, ◌++◌, append_assoc, append-nil, 
 use mathlib.Core.Bool.{Bool}
 use lib.ListN.{length, get_or, set, take, drop, drop_of_length-le, get_or-eq_default}
 use lib.Seq.{split_at, set_at, take-suc, drop-cons, get_or-take, get_or_at}
-use Rattle.ring.specs.Walk.{removed, mark_at, Survivor, survivors_from, survivors, others, last, successor, predecessor, to-go}
-use Rattle.ring.specs.Promises.{Rising, would-go}
+use Rattle.ring.specs.Walk.{removed, mark_at, Survivor, survivors_from, survivors, others, last, successor, predecessor, to_go}
+use Rattle.ring.specs.Promises.{Rising, would_go}
 use Rattle.grid.specs.Neighbours.{preceding, following, leaving_out}
 use Rattle.ring.proofs.Branches.{less?}
 use Rattle.ring.proofs.Lists.{last-append}
@@ -98,5 +98,5 @@ position m x s = found (listed 0 m x x s (omega arith))
     found h = let i = index h in (i.0, rw i.2 at (at m i.0 i.1))
 
 -- The rule says the same of a position in the ring and in the list.
-pub to_go_listed : (goes : ℕ → ℕ → ℕ → Bool) {m : List ℕ} {j x : ℕ} → At m j x → to-go goes m x ≡ would-go goes (survivors m) j
+pub to_go_listed : (goes : ℕ → ℕ → ℕ → Bool) {m : List ℕ} {j x : ℕ} → At m j x → to_go goes m x ≡ would_go goes (survivors m) j
 to_go_listed goes a = rw (a.before, a.after, a.stands)

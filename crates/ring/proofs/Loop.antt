@@ -5,7 +5,7 @@ use mathlib.Core.Path.{◌≡◌, sym, ap, ap₂, ◌∙◌, subst}
 use mathlib.Core.List.{List}
 use mathlib.Core.Bool.{Bool, true, false, true≢false}
 use lib.ListN.{length, get_or, set}
-use Rattle.ring.specs.Walk.{unmarked, marked, removed, mark_at, Survivor, survivors, successor, predecessor, occurrences, tally, ending, to-go}
+use Rattle.ring.specs.Walk.{unmarked, marked, removed, mark_at, Survivor, survivors, successor, predecessor, occurrences, tally, ending, to_go}
 use Rattle.ring.specs.Walk.End.{kept, collapsed}
 use Rattle.ring.specs.Promises.{idle_round}
 use Rattle.ring.specs.declared.Ending.{Ending}
@@ -14,7 +14,7 @@ use Rattle.rows.proofs.RowLaws.{any_default}
 use Rattle.ring.proofs.Marks.{first_unmarked}
 use Rattle.ring.proofs.Survivors.{same_survivors, survivor_count, fresh_count}
 use Rattle.ring.proofs.Changes.{same_set, first_same, mark_counts, remove_counts}
-use Rattle.ring.proofs.Moments.{Reached, reached-first, stayed, went, moment}
+use Rattle.ring.proofs.Moments.{Reached, reached_first, stayed, went, moment}
 use Rattle.ring.proofs.Ahead.{idle, visits_room}
 use Rattle.ring.proofs.Ends.{walk_is, none_to_go_answer, fallen_after}
 use Rattle.ring.proofs.Links.{Here, here, linked_same}
@@ -34,7 +34,7 @@ module _ (goes : ℕ → ℕ → ℕ → Bool) (n : ℕ) where
       let h = x.inside in
       record {
         made = k;
-        reached = rw x.marks (reached-first goes n k h x.stand);
+        reached = rw x.marks (reached_first goes n k h x.stand);
         linked = x.linked;
         remaining_is = rw x.marks (sym (ap length (sym (same_survivors 0 (first_same n k (omega arith)))) ∙ fresh_count n));
         total_is = rw x.marks (omega (arith, first_unmarked n k (omega arith)));
@@ -91,7 +91,7 @@ module _ (goes : ℕ → ℕ → ℕ → Bool) (n : ℕ) where
           }
 
       module _ (due : mark_at mark p ≡ unmarked) where
-        pub turn_stay : to-go goes mark p ≡ false → (q : ℕ) → q ≡ successor mark p → Turn next prev (set mark p marked) remaining total q
+        pub turn_stay : to_go goes mark p ≡ false → (q : ℕ) → q ≡ successor mark p → Turn next prev (set mark p marked) remaining total q
         turn_stay t q e =
             let c = mark_counts mark p due in
             record {
@@ -113,7 +113,7 @@ module _ (goes : ℕ → ℕ → ℕ → Bool) (n : ℕ) where
           one_less : length (survivors mark') + 1 ≡ length (survivors mark)
           one_less = omega (arith, remove_counts mark p due, ap (λ l. length (survivors l)) y.marks)
 
-          pub turn_go : to-go goes mark p ≡ true → 3 < remaining → (q : ℕ) → q ≡ predecessor mark p → Turn next' prev' mark' (remaining - 1) (total + taken) q
+          pub turn_go : to_go goes mark p ≡ true → 3 < remaining → (q : ℕ) → q ≡ predecessor mark p → Turn next' prev' mark' (remaining - 1) (total + taken) q
           turn_go t h q e = record {
             made = suc x.made;
             reached = rw (y.marks, e) (went x.reached due t (omega (arith, x.remaining_is)));
@@ -125,7 +125,7 @@ module _ (goes : ℕ → ℕ → ℕ → Bool) (n : ℕ) where
           pub go_less : 3 < remaining → 3 * (remaining - 1) + occurrences unmarked mark' < 3 * remaining + occurrences unmarked mark
           go_less h = omega (arith, remove_counts mark p due, ap (occurrences unmarked) y.marks)
 
-        pub turn_fall : to-go goes mark p ≡ true → remaining ≤ 3 → (u : ℕ) → u ≡ occurrences unmarked mark → Ended goes n mark prev (record { kept = false; decisions = total + 1 - u; at = p })
+        pub turn_fall : to_go goes mark p ≡ true → remaining ≤ 3 → (u : ℕ) → u ≡ occurrences unmarked mark → Ended goes n mark prev (record { kept = false; decisions = total + 1 - u; at = p })
         turn_fall t h u e =
             let v = visits_room goes n big x.reached in
             let last : suc x.made ≡ total + 1 - u = omega (arith, x.total_is) in

@@ -137,14 +137,14 @@ unfolding predecessor
 alone_predecessor m c a = ap (λ l. last l c) a
 
 module _ (m : List ℕ) (c : ℕ) (s : Survivor m c) where
-  pub not-alone : 1 < length (survivors m) → Alone m c → ⊥
-  not-alone h a = omega (arith, ring-length m c s, ap length a)
+  pub not_alone : 1 < length (survivors m) → Alone m c → ⊥
+  not_alone h a = omega (arith, ring-length m c s, ap length a)
 
-  pub successor-survives : Survivor m (successor m c)
-  successor-survives = ⊎_elim (λ a. rw (alone_successor m c a) s) (λ i. (turned m c [] _ i.0 s i.1).survives) (first_other m c)
+  pub successor_survives : Survivor m (successor m c)
+  successor_survives = ⊎_elim (λ a. rw (alone_successor m c a) s) (λ i. (turned m c [] _ i.0 s i.1).survives) (first_other m c)
 
-  pub predecessor-survives : Survivor m (predecessor m c)
-  predecessor-survives = ⊎_elim (λ a. rw (alone_predecessor m c a) s) (λ i. (turned m c i.0 _ [] s i.1).survives) (last_other m c)
+  pub predecessor_survives : Survivor m (predecessor m c)
+  predecessor_survives = ⊎_elim (λ a. rw (alone_predecessor m c a) s) (λ i. (turned m c i.0 _ [] s i.1).survives) (last_other m c)
 
   -- One step forward turns the ring by one.
   pub forward : successor m c ∷ others m (successor m c) ≡ others m c ++ c ∷ []
@@ -155,43 +155,43 @@ module _ (m : List ℕ) (c : ℕ) (s : Survivor m c) where
 
   -- The neighbours after c is removed. Its own become neighbours of each other.
   module _ (more : Alone m c → ⊥) where
-    pub gap-others : (x : List ℕ) × (others m c ≡ x ++ predecessor m c ∷ []) × (others (set m c removed) (predecessor m c) ≡ x)
-    gap-others = ⊎_elim
+    pub gap_others : (x : List ℕ) × (others m c ≡ x ++ predecessor m c ∷ []) × (others (set m c removed) (predecessor m c) ≡ x)
+    gap_others = ⊎_elim
         (λ a. absurd (more a))
         (λ i. (i.0, i.1, (turned m c i.0 _ [] s i.1).gone))
         (last_other m c)
 
-    pub predecessor-other : predecessor m c ≡ c → ⊥
-    predecessor-other = let i = gap-others in (turned m c i.0 _ [] s i.1).other
+    pub predecessor_other : predecessor m c ≡ c → ⊥
+    predecessor_other = let i = gap_others in (turned m c i.0 _ [] s i.1).other
 
-    pub gap-successor : successor (set m c removed) (predecessor m c) ≡ successor m c
+    pub gap_successor : successor (set m c removed) (predecessor m c) ≡ successor m c
     unfolding successor
-    gap-successor = let i = gap-others in ap (λ l. get_or l 0 (predecessor m c)) i.2 ∙ go i.0 ∙ sym (ap (λ l. get_or l 0 c) i.1)
+    gap_successor = let i = gap_others in ap (λ l. get_or l 0 (predecessor m c)) i.2 ∙ go i.0 ∙ sym (ap (λ l. get_or l 0 c) i.1)
       where
         go : (x : List ℕ) → get_or x 0 (predecessor m c) ≡ get_or (x ++ predecessor m c ∷ []) 0 c
         go [] = refl
         go (z ∷ x) = refl
 
-    pub gap-predecessor : predecessor (set m c removed) (successor m c) ≡ predecessor m c
+    pub gap_predecessor : predecessor (set m c removed) (successor m c) ≡ predecessor m c
     unfolding predecessor
-    gap-predecessor = ⊎_elim
+    gap_predecessor = ⊎_elim
         (λ a. absurd (more a))
         (λ i. ap (λ l. last l (successor m c)) ((turned m c [] _ i.0 s i.1).gone ∙ append-nil i.0) ∙ sym (ap (λ l. last l c) i.1))
         (first_other m c)
 
   -- All other survivors keep theirs.
   module _ (q : ℕ) (t : Survivor m q) (n : q ≡ c → ⊥) where
-    pub far-successor : (q ≡ predecessor m c → ⊥) → successor (set m c removed) q ≡ successor m q
+    pub far_successor : (q ≡ predecessor m c → ⊥) → successor (set m c removed) q ≡ successor m q
     unfolding successor predecessor
-    far-successor k = let i = mem_cut (others_has m c q t n) in go i.0 i.1 i.2 (turned m c i.0 q i.1 s i.2)
+    far_successor k = let i = mem_cut (others_has m c q t n) in go i.0 i.1 i.2 (turned m c i.0 q i.1 s i.2)
       where
         go : (x y : List ℕ) → others m c ≡ x ++ q ∷ y → Turned m c x q y → get_or (others (set m c removed) q) 0 q ≡ get_or (others m q) 0 q
         go x [] e r = absurd (k (sym (ap (λ l. last l c) e ∙ last-append x q [] c)))
         go x (z ∷ y) e r = rw (r.gone, r.from)
 
-    pub far-predecessor : (q ≡ successor m c → ⊥) → predecessor (set m c removed) q ≡ predecessor m q
+    pub far_predecessor : (q ≡ successor m c → ⊥) → predecessor (set m c removed) q ≡ predecessor m q
     unfolding successor predecessor
-    far-predecessor k = let i = mem_cut (others_has m c q t n) in go i.0 i.1 i.2 (turned m c i.0 q i.1 s i.2)
+    far_predecessor k = let i = mem_cut (others_has m c q t n) in go i.0 i.1 i.2 (turned m c i.0 q i.1 s i.2)
       where
         go : (x y : List ℕ) → others m c ≡ x ++ q ∷ y → Turned m c x q y → last (others (set m c removed) q) q ≡ last (others m q) q
         go [] y e r = absurd (k (sym (ap (λ l. get_or l 0 c) e)))

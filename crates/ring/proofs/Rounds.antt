@@ -16,7 +16,7 @@ use Rattle.ring.specs.inside.Rows.{Idling, Halted, turns_of}
 use Rattle.ring.proofs.Lists.{Each, last-append, before_last}
 use Rattle.ring.proofs.Marks.{recount, count_some, fresh_survives, fresh_at}
 use Rattle.ring.proofs.Survivors.{Same, survivor_count, fresh_count}
-use Rattle.ring.proofs.Neighbours.{turned, others_only, ring-length, not-alone, forward, gap-others, same_others}
+use Rattle.ring.proofs.Neighbours.{turned, others_only, ring-length, not_alone, forward, gap_others, same_others}
 use Rattle.ring.proofs.Looks.{some_unmarked}
 use Rattle.ring.proofs.Ahead.{ring_has}
 use Rattle.ring.proofs.Listed.{rising_few, survivors_rise}
@@ -32,32 +32,32 @@ front_some false (suc w) h = refl
 
 module _ (m : List ℕ) where
   -- Behind the last unmarked position none counts.
-  way-none : (l : List ℕ) → NoneUnmarked m l → to_last_unmarked m l ≡ 0
+  way_none : (l : List ℕ) → NoneUnmarked m l → to_last_unmarked m l ≡ 0
   unfolding to_last_unmarked
-  way-none [] h = refl
-  way-none (q ∷ l) h = rw (ne_eqb _ _ (h q (Memᴰ.head refl)), way-none l (λ x i. h x (Memᴰ.tail i)), to_last_unmarked)
+  way_none [] h = refl
+  way_none (q ∷ l) h = rw (ne_eqb _ _ (h q (Memᴰ.head refl)), way_none l (λ x i. h x (Memᴰ.tail i)), to_last_unmarked)
 
   way_end : (l y : List ℕ) → NoneUnmarked m y → to_last_unmarked m (l ++ y) ≡ to_last_unmarked m l
   unfolding to_last_unmarked
-  way_end [] y h = way-none y h
+  way_end [] y h = way_none y h
   way_end (q ∷ l) y h = ap (with_front (eqb (mark_at m q) unmarked)) (way_end l y h)
 
   -- Up to an unmarked position all count.
-  way-some : (l : List ℕ) (x : ℕ) → Memᴰ x l → mark_at m x ≡ unmarked → 0 < to_last_unmarked m l
+  way_some : (l : List ℕ) (x : ℕ) → Memᴰ x l → mark_at m x ≡ unmarked → 0 < to_last_unmarked m l
   unfolding to_last_unmarked
-  way-some [] x x4 u = elim x4 [ ]
-  way-some (q ∷ l) x (Memᴰ.head e) u = let z : mark_at m q ≡ unmarked = rw (← e) u in rw (eq-eqb _ _ z, to_last_unmarked) (omega arith)
-  way-some (q ∷ l) x (Memᴰ.tail i) u = rw (front_some _ _ (way-some l x i u), to_last_unmarked) (omega arith)
+  way_some [] x x4 u = elim x4 [ ]
+  way_some (q ∷ l) x (Memᴰ.head e) u = let z : mark_at m q ≡ unmarked = rw (← e) u in rw (eq-eqb _ _ z, to_last_unmarked) (omega arith)
+  way_some (q ∷ l) x (Memᴰ.tail i) u = rw (front_some _ _ (way_some l x i u), to_last_unmarked) (omega arith)
 
-  way-more : (q : ℕ) (l : List ℕ) (x : ℕ) → Memᴰ x (q ∷ l) → mark_at m x ≡ unmarked → to_last_unmarked m (q ∷ l) ≡ suc (to_last_unmarked m l)
+  way_more : (q : ℕ) (l : List ℕ) (x : ℕ) → Memᴰ x (q ∷ l) → mark_at m x ≡ unmarked → to_last_unmarked m (q ∷ l) ≡ suc (to_last_unmarked m l)
   unfolding to_last_unmarked
-  way-more q l x (Memᴰ.head e) u = let z : mark_at m q ≡ unmarked = rw (← e) u in rw (eq-eqb _ _ z, to_last_unmarked)
-  way-more q l x (Memᴰ.tail i) u = front_some (eqb (mark_at m q) unmarked) _ (way-some l x i u)
+  way_more q l x (Memᴰ.head e) u = let z : mark_at m q ≡ unmarked = rw (← e) u in rw (eq-eqb _ _ z, to_last_unmarked)
+  way_more q l x (Memᴰ.tail i) u = front_some (eqb (mark_at m q) unmarked) _ (way_some l x i u)
 
   -- So where the last unmarked position is known, the way is.
   pub way_at : (x : List ℕ) (q : ℕ) (y : List ℕ) → mark_at m q ≡ unmarked → NoneUnmarked m y → to_last_unmarked m (x ++ q ∷ y) ≡ suc (length x)
   unfolding to_last_unmarked
-  way_at [] q y u h = rw (eq-eqb _ _ u, to_last_unmarked) (ap suc (way-none y h))
+  way_at [] q y u h = rw (eq-eqb _ _ u, to_last_unmarked) (ap suc (way_none y h))
   way_at (z ∷ x) q y u h = let r = way_at x q y u h in front_some (eqb (mark_at m z) unmarked) _ (omega arith) ∙ ap suc r
 
 way_same : (m m' l : List ℕ) → Each (λ x. mark_at m' x ≡ mark_at m x) l → to_last_unmarked m' l ≡ to_last_unmarked m l
@@ -67,13 +67,13 @@ way_same m m' (q ∷ l) h = ap₂ (λ (a w : ℕ). with_front (eqb a unmarked) w
 
 module _ (m : List ℕ) (p : ℕ) where
   -- Where all survivors are marked there is none.
-  pub round-done : occurrences unmarked m ≡ 0 → idle_round m p ≡ 0
-  round-done z = way-none m (p ∷ others m p) (λ x i e. some_unmarked m x e z)
+  pub round_done : occurrences unmarked m ≡ 0 → idle_round m p ≡ 0
+  round_done z = way_none m (p ∷ others m p) (λ x i e. some_unmarked m x e z)
 
   -- A round has no more positions than the ring.
-  pub round-short : Survivor m p → idle_round m p ≤ length (survivors m)
+  pub round_short : Survivor m p → idle_round m p ≤ length (survivors m)
   unfolding to_last_unmarked
-  round-short s = rw (ring-length m p s) (few (p ∷ others m p))
+  round_short s = rw (ring-length m p s) (few (p ∷ others m p))
     where
       front : (b : Bool) (w : ℕ) → with_front b w ≤ suc w
       front true w = omega arith
@@ -85,13 +85,13 @@ module _ (m : List ℕ) (p : ℕ) where
       few (q ∷ l) = omega (arith, front (eqb (mark_at m q) unmarked) (to_last_unmarked m l), few l)
 
   -- A step forward from a position that is marked then makes it one less.
-  pub round-on : (m' : List ℕ) → Survivor m p → Same m m' → ((q : ℕ) → (q ≡ p → ⊥) → mark_at m' q ≡ mark_at m q) → mark_at m' p ≡ marked → (occurrences unmarked m ≡ 0 → ⊥)
+  pub round_on : (m' : List ℕ) → Survivor m p → Same m m' → ((q : ℕ) → (q ≡ p → ⊥) → mark_at m' q ≡ mark_at m q) → mark_at m' p ≡ marked → (occurrences unmarked m ≡ 0 → ⊥)
       → idle_round m p ≡ suc (idle_round m' (successor m p))
-  round-on m' s x else now some =
+  round_on m' s x else now some =
       let q = count_some unmarked m some in
       let ring : successor m p ∷ others m' (successor m p) ≡ others m p ++ p ∷ [] = ap (λ l. successor m p ∷ l) (sym (same_others x (successor m p))) ∙ forward m p s in
       let end : NoneUnmarked m' (p ∷ []) = λ r i u. let z : r ≡ p = Memᴰ.eq_of_singleton i in omega (arith, now, rw z at u) in
-      way-more m p (others m p) q.0 (ring_has m p q.0 (omega (arith, q.1))) q.1
+      way_more m p (others m p) q.0 (ring_has m p q.0 (omega (arith, q.1))) q.1
       ∙ ap suc (sym (ap (to_last_unmarked m') ring ∙ way_end m' (others m p) (p ∷ []) end ∙ way_same m m' (others m p) (λ r i. else r (others_only m p r s i).1)))
 
 -- In a new ring all positions are unmarked, so the round has them all.
@@ -123,7 +123,7 @@ module _ {m prev : List ℕ} {p remaining : ℕ} (x : Idling m prev p remaining)
 
   pub back_start : (q : ℕ) → q ≡ get_or prev p 0 → Backward m p remaining q
   back_start q e =
-      let i = gap-others m p idling_on (not-alone m p idling_on several) in
+      let i = gap_others m p idling_on (not_alone m p idling_on several) in
       let f : q ≡ predecessor m p = e ∙ x.to_predecessor p idling_on in
       record {
         before = i.0;
@@ -172,10 +172,10 @@ module _ {m prev : List ℕ} {p remaining : ℕ} (x : Idling m prev p remaining)
 module _ {m prev : List ℕ} {e : Ending} (x : Halted m prev e) where
   -- Where none is unmarked each of them decided.
   pub all_decided : occurrences unmarked m ≡ 0 → e.decisions ≡ turns_of e m
-  all_decided z = omega (arith, round-done m e.at z)
+  all_decided z = omega (arith, round_done m e.at z)
 
   pub halted_idling : {remaining : ℕ} → remaining ≡ length (survivors m) → (occurrences unmarked m ≡ 0 → ⊥) → Idling m prev e.at remaining
   halted_idling is some = record { prev_long = x.prev_long; to_predecessor = x.to_predecessor; met = x.met; some = some; remaining_is = is }
 
   pub turns_fit : e.decisions + idle_round m e.at < 2 ^ 64
-  turns_fit = omega (arith, x.small, round-short m e.at (omega (arith, x.met)), rising_few 0 (length m) (survivors m) (survivors_rise 0 (length m) m (omega arith)))
+  turns_fit = omega (arith, x.small, round_short m e.at (omega (arith, x.met)), rising_few 0 (length m) (survivors m) (survivors_rise 0 (length m) m (omega arith)))

@@ -16,7 +16,7 @@ use Rattle.ring.proofs.Marks.{fresh_unmarked}
 use Rattle.ring.proofs.Survivors.{same_survivors}
 use Rattle.ring.proofs.Changes.{same_set, same_remove}
 use Rattle.ring.proofs.Looks.{some_unmarked}
-use Rattle.ring.proofs.Moments.{Reached, begun, stepped, stayed, went, reached-is, reached-first, decided-visits, moment, Kept, Collapsed, Finish, history}
+use Rattle.ring.proofs.Moments.{Reached, begun, stepped, stayed, went, reached_is, reached_first, decided_visits, moment, Kept, Collapsed, Finish, history}
 use Rattle.ring.proofs.Ahead.{idle, visits_room, going_room, busy}
 use Rattle.ring.proofs.Rounds.{fresh_idle}
 use Rattle.ring.proofs.Ends.{walk_few, ended_looks, none_to_go_answer, kept_after, fallen_after}
@@ -31,8 +31,8 @@ module _ (goes : ℕ → ℕ → ℕ → Bool) (n : ℕ) where
   past big = rw (ends big) at (history goes n big (suc (3 * n)))
 
   -- It takes at most 4 n - 9 decisions, kept or collapsed; under three positions none.
-  pub ends-in-4n-9 : (walk goes n).tally.decisions ≤ 4 * n - 9
-  ends-in-4n-9 = ⊎_elim
+  pub ends_in_4n_9 : (walk goes n).tally.decisions ≤ 4 * n - 9
+  ends_in_4n_9 = ⊎_elim
       (λ few. rw (walk_few goes n few) (omega arith))
       (λ big. within big (walk goes n).end (walk goes n).tally (past big))
       (less? n 3)
@@ -45,15 +45,15 @@ module _ (goes : ℕ → ℕ → ℕ → Bool) (n : ℕ) where
           omega (arith, y.many, y.paid, ap (λ (t : Tally). t.decisions) x.is)
 
   -- A decision is a turn.
-  pub decisions-at-most-turns : (walk goes n).tally.decisions ≤ (walk goes n).tally.turns
-  decisions-at-most-turns = ⊎_elim
+  pub decisions_at_most_turns : (walk goes n).tally.decisions ≤ (walk goes n).tally.turns
+  decisions_at_most_turns = ⊎_elim
       (λ few. rw (walk_few goes n few) (omega arith))
       (λ big. within big (walk goes n).end (walk goes n).tally (past big))
       (less? n 3)
     where
       within : (big : 3 ≤ n) (e : End) (t : Tally) → Finish goes n big e t → t.decisions ≤ t.turns
-      within big (kept s) t x = decided-visits goes n x.reached
-      within big collapsed t x = rw x.is (omega (arith, decided-visits goes n x.reached))
+      within big (kept s) t x = decided_visits goes n x.reached
+      within big collapsed t x = rw x.is (omega (arith, decided_visits goes n x.reached))
 
   -- What each removal preserves is preserved at every moment.
   preserved : (big : 3 ≤ n) {X : Type 0} (quantity : List ℕ → X) → Preserved goes n quantity → {v : ℕ} {m : List ℕ} {p k : ℕ} → Reached goes n v m p k
@@ -80,16 +80,16 @@ module _ (goes : ℕ → ℕ → ℕ → Bool) (n : ℕ) where
     end = rw is at (past big)
 
     -- The survivors of a ring that is kept are positions below n, in rising order.
-    pub kept-rising : Rising 0 n s
-    kept-rising = rw end.is (survivors_rise 0 n end.m (omega (arith, (moment goes n big end.reached).long)))
+    pub kept_rising : Rising 0 n s
+    kept_rising = rw end.is (survivors_rise 0 n end.m (omega (arith, (moment goes n big end.reached).long)))
 
     -- There are at least three of them.
-    pub kept-at-least-three : 3 ≤ length s
-    kept-at-least-three = rw end.is (moment goes n big end.reached).many
+    pub kept_at_least_three : 3 ≤ length s
+    kept_at_least_three = rw end.is (moment goes n big end.reached).many
 
     -- No survivor would go with its final neighbours.
-    pub kept-clean : Clean goes s
-    kept-clean = rw end.is (λ j h. let a = at end.m j h in sym (to_go_listed goes a) ∙ idle goes n big end.reached all (get_or (survivors end.m) j 0) a.survives)
+    pub kept_clean : Clean goes s
+    kept_clean = rw end.is (λ j h. let a = at end.m j h in sym (to_go_listed goes a) ∙ idle goes n big end.reached all (get_or (survivors end.m) j 0) a.survives)
       where
         all : mark_at end.m end.p ≡ marked
         all = ⊎_elim
@@ -98,27 +98,27 @@ module _ (goes : ℕ → ℕ → ℕ → Bool) (n : ℕ) where
             (same? (mark_at end.m end.p) unmarked)
 
     -- What each removal preserves is preserved.
-    pub kept-preserves : {X : Type 0} (quantity : List ℕ → X) → Preserved goes n quantity → quantity s ≡ quantity (survivors (fresh n))
-    kept-preserves quantity keeps = ap quantity end.is ∙ preserved big quantity keeps end.reached
+    pub kept_preserves : {X : Type 0} (quantity : List ℕ → X) → Preserved goes n quantity → quantity s ≡ quantity (survivors (fresh n))
+    kept_preserves quantity keeps = ap quantity end.is ∙ preserved big quantity keeps end.reached
 
     -- It was kept within 3 n visits, less one for each survivor; one more look sees that all are marked.
-    pub kept-in-3n-visits : looks goes (suc (3 * n - length s)) (start n) ≡ ended (walk goes n)
-    kept-in-3n-visits =
+    pub kept_in_3n_visits : looks goes (suc (3 * n - length s)) (start n) ≡ ended (walk goes n)
+    kept_in_3n_visits =
         let w : ending (kept (survivors end.m)) (walk goes n).tally ≡ walk goes n = ap (λ (e : End). ending e (walk goes n).tally) (ap kept (sym end.is) ∙ sym is) in
         rw end.is (kept_after goes n big end.reached end.all_marked _ (omega (arith, visits_room goes n big end.reached)) ∙ ap ended w)
 
     -- Its turns are those visits.
-    pub kept-in-3n-turns : (walk goes n).tally.turns + length s ≤ 3 * n
-    kept-in-3n-turns = rw end.is (visits_room goes n big end.reached)
+    pub kept_in_3n_turns : (walk goes n).tally.turns + length s ≤ 3 * n
+    kept_in_3n_turns = rw end.is (visits_room goes n big end.reached)
 
   -- Where the first k positions stand, k looks mark them and come to position k, after as many decisions.
-  pub front-marked : (k : ℕ) → k < n → FirstStand goes n k → looks goes k (start n) ≡ under_way (first_marked n k) k (tally k k)
-  front-marked k h f = reached-is goes n (reached-first goes n k h f)
+  pub front_marked : (k : ℕ) → k < n → FirstStand goes n k → looks goes k (start n) ≡ under_way (first_marked n k) k (tally k k)
+  front_marked k h f = reached_is goes n (reached_first goes n k h f)
 
   module _ (big : 3 ≤ n) where
     -- Where no vertex of the ring would go, all is kept, after n decisions in n turns.
-    pub unchanged-after-n : NoneToGo goes (fresh n) → walk goes n ≡ ending (kept (survivors (fresh n))) (tally n n)
-    unchanged-after-n still =
+    pub unchanged_after_n : NoneToGo goes (fresh n) → walk goes n ≡ ending (kept (survivors (fresh n))) (tally n n)
+    unchanged_after_n still =
         let e : 0 + occurrences unmarked (fresh n) ≡ n = omega (arith, fresh_unmarked n) in
         let f : 0 + idle_round (fresh n) 0 ≡ n = omega (arith, fresh_idle n (omega arith)) in
         none_to_go_answer goes n big begun still ∙ ap₂ (λ (k v : ℕ). ending (kept (survivors (fresh n))) (tally k v)) e f
@@ -128,8 +128,8 @@ module _ (goes : ℕ → ℕ → ℕ → Bool) (n : ℕ) where
       fall = rw is at (past big)
 
       -- A ring collapses with three positions remaining, of which one would go, and what each removal preserves is preserved.
-      pub collapsed-at-three : {X : Type 0} (quantity : List ℕ → X) → Preserved goes n quantity → LastThree goes n quantity
-      collapsed-at-three quantity keeps =
+      pub collapsed_at_three : {X : Type 0} (quantity : List ℕ → X) → Preserved goes n quantity → LastThree goes n quantity
+      collapsed_at_three quantity keeps =
           let y = moment goes n big fall.reached in
           let a = position fall.m fall.p y.on in
           record {
@@ -143,8 +143,8 @@ module _ (goes : ℕ → ℕ → ℕ → Bool) (n : ℕ) where
           }
 
       -- It collapsed within 3 n visits, less two for each of the three.
-      pub collapsed-in-3n-visits : looks goes (3 * n - 6) (start n) ≡ ended (walk goes n)
-      collapsed-in-3n-visits =
+      pub collapsed_in_3n_visits : looks goes (3 * n - 6) (start n) ≡ ended (walk goes n)
+      collapsed_in_3n_visits =
           let y = moment goes n big fall.reached in
           let z = going_room goes n big fall.reached fall.goes_now in
           let w : ending collapsed (counted (tally fall.made fall.visits)) ≡ walk goes n =
@@ -152,20 +152,20 @@ module _ (goes : ℕ → ℕ → ℕ → Bool) (n : ℕ) where
           fallen_after goes n big fall.reached fall.due fall.goes_now fall.few _ (omega (arith, y.many)) ∙ ap ended w
 
       -- Its turns are those visits.
-      pub collapsed-in-3n-turns : (walk goes n).tally.turns + 6 ≤ 3 * n
-      collapsed-in-3n-turns = rw fall.is (omega (arith, (moment goes n big fall.reached).many, going_room goes n big fall.reached fall.goes_now))
+      pub collapsed_in_3n_turns : (walk goes n).tally.turns + 6 ≤ 3 * n
+      collapsed_in_3n_turns = rw fall.is (omega (arith, (moment goes n big fall.reached).many, going_room goes n big fall.reached fall.goes_now))
 
       -- A ring that collapses has no idle turn: each of them decided.
-      pub collapsed-without-idle : (walk goes n).tally.turns ≡ (walk goes n).tally.decisions
-      collapsed-without-idle = rw fall.is (ap suc (busy goes n big fall.reached fall.goes_now))
+      pub collapsed_without_idle : (walk goes n).tally.turns ≡ (walk goes n).tally.decisions
+      collapsed_without_idle = rw fall.is (ap suc (busy goes n big fall.reached fall.goes_now))
 
     -- There are at most 3 n - 3 turns, kept or collapsed.
-    pub turns-at-most-3n-3 : (walk goes n).tally.turns + 3 ≤ 3 * n
-    turns-at-most-3n-3 = within (walk goes n).end refl
+    pub turns_at_most_3n_3 : (walk goes n).tally.turns + 3 ≤ 3 * n
+    turns_at_most_3n_3 = within (walk goes n).end refl
       where
         within : (e : End) → (walk goes n).end ≡ e → (walk goes n).tally.turns + 3 ≤ 3 * n
-        within (kept s) is = omega (arith, kept-in-3n-turns is, kept-at-least-three is)
-        within collapsed is = omega (arith, collapsed-in-3n-turns is)
+        within (kept s) is = omega (arith, kept_in_3n_turns is, kept_at_least_three is)
+        within collapsed is = omega (arith, collapsed_in_3n_turns is)
 
     -- After v looks a walk is under way, at position p with marks m.
     module _ (v : ℕ) {m : List ℕ} {p : ℕ} {t : Tally} (now : looks goes v (start n) ≡ under_way m p t) where
@@ -176,24 +176,24 @@ module _ (goes : ℕ → ℕ → ℕ → Bool) (n : ℕ) where
       reached = told.1
 
       -- Each look so far was a turn.
-      pub turns-are-looks : t.turns ≡ v
-      turns-are-looks = told.0
+      pub turns_are_looks : t.turns ≡ v
+      turns_are_looks = told.0
 
       -- If it is at a marked position, nothing goes any more.
-      pub idle-means-none-to-go : mark_at m p ≡ marked → NoneToGo goes m
-      idle-means-none-to-go e = idle goes n big reached e
+      pub idle_means_none_to_go : mark_at m p ≡ marked → NoneToGo goes m
+      idle_means_none_to_go e = idle goes n big reached e
 
       -- So what survives now is kept, each unmarked position is decided once more, and the walk goes round up to the last of them.
-      pub idle-answer : mark_at m p ≡ marked → walk goes n ≡ ending (kept (survivors m)) (tally (t.decisions + occurrences unmarked m) (t.turns + idle_round m p))
-      idle-answer e = none_to_go_answer goes n big reached (idle-means-none-to-go e)
+      pub idle_answer : mark_at m p ≡ marked → walk goes n ≡ ending (kept (survivors m)) (tally (t.decisions + occurrences unmarked m) (t.turns + idle_round m p))
+      idle_answer e = none_to_go_answer goes n big reached (idle_means_none_to_go e)
 
       -- The visits so far, decisions and steps over marked positions alike, are at most 3 n less the survivors.
-      pub visits-at-most-3n : v + length (survivors m) ≤ 3 * n
-      visits-at-most-3n = omega (arith, turns-are-looks, visits_room goes n big reached)
+      pub visits_at_most_3n : v + length (survivors m) ≤ 3 * n
+      visits_at_most_3n = omega (arith, turns_are_looks, visits_room goes n big reached)
 
   -- There are at most 5 n turns, whatever n is: under three positions none.
-  pub turns-at-most-5n : (walk goes n).tally.turns ≤ 5 * n
-  turns-at-most-5n = ⊎_elim
+  pub turns_at_most_5n : (walk goes n).tally.turns ≤ 5 * n
+  turns_at_most_5n = ⊎_elim
       (λ few. rw (walk_few goes n few) (omega arith))
-      (λ big. omega (arith, turns-at-most-3n-3 big))
+      (λ big. omega (arith, turns_at_most_3n_3 big))
       (less? n 3)

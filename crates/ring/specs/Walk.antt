@@ -122,13 +122,13 @@ come_to (ended w) = w
 -- The rule says of a predecessor, a vertex and a successor whether the vertex is to go.
 module _ (goes : ℕ → ℕ → ℕ → Bool) where
   -- The vertex at position p is to go.
-  abbrev pub to-go : List ℕ → ℕ → Bool
-  to-go m p = goes (predecessor m p) p (successor m p)
+  abbrev pub to_go : List ℕ → ℕ → Bool
+  to_go m p = goes (predecessor m p) p (successor m p)
 
   -- A decision at position p, which is counted.
   unfoldable pub decide : List ℕ → ℕ → Tally → Stage
   decide m p t =
-      elim (to-go m p) [
+      elim (to_go m p) [
         -- If the vertex is to go and only three survive, the ring has collapsed. If it is to go otherwise, it is removed, and the walk moves to its predecessor.
         | true ↦ elim (only_three m) [ true ↦ ended (ending collapsed (counted t)) | false ↦ under_way (remove m p) (predecessor m p) (counted t) ]
         -- If it stays, it is marked, and the walk steps forward.

@@ -5,10 +5,10 @@ ghost use Rattle.grid.specs.Edges.{aligned};
 ghost use Rattle.grid.specs.Domain.{Contour};
 ghost use Rattle.grid.specs.inside.Edges.{Short};
 ghost use Rattle.grid.specs.inside.Rows.{Vertices};
-ghost use Rattle.ring.specs.Walk.{unmarked as due-mark, Survivor, survivors, occurrences, fresh};
+ghost use Rattle.ring.specs.Walk.{unmarked as due_mark, Survivor, survivors, occurrences, fresh};
 ghost use Rattle.ring.specs.declared.Rule as R;
-ghost use Rattle.ring.specs.Rule.{by, goes_along as goes-along-by, goes as Goes-by};
-ghost use Rattle.ring.specs.Promises.{idle_round as round-of};
+ghost use Rattle.ring.specs.Rule.{by, goes_along as goes_along_by, goes as goes_by};
+ghost use Rattle.ring.specs.Promises.{idle_round as round_of};
 ghost use Rattle.ring.specs.inside.Rows.{AllLinked, Begun, Ended, FirstStand, Halted, Idling, Level, Linked, Removable, Removed, Standing, Unlinked, Unmarked, UnmarkedAbout, first_marked, turns_of};
 
 use crate::{Ending, Rule};
@@ -110,7 +110,7 @@ pub fn remove(next: &mut [u32], prev: &mut [u32], mark: &mut [u8], c: usize) -> 
 // Whether a vertex where the way does not turn is to go by the rule Spike, by the edges to it and from it.
 fn spike_along(to: Edge, from: Edge) -> bool
     requires { Short limit to from × (aligned to from ≡ true) }
-    ensures { result ≡ goes-along-by R.Rule.Spike to from }
+    ensures { result ≡ goes_along_by R.Rule.Spike to from }
 {
     if grid::still(to) {
         return true;
@@ -126,7 +126,7 @@ fn spike_along(to: Edge, from: Edge) -> bool
 // and no enum.
 fn goes_along(collinear: bool, to: Edge, from: Edge) -> bool
     requires { Short limit to from }
-    ensures { result ≡ goes-along-by (by collinear) to from }
+    ensures { result ≡ goes_along_by (by collinear) to from }
 {
     if !grid::inner::aligned(to, from) {
         return false;
@@ -140,7 +140,7 @@ fn goes_along(collinear: bool, to: Edge, from: Edge) -> bool
 // Whether the vertex at a position is to go, with these neighbours.
 pub fn goes(collinear: bool, points: &[i32], before: usize, at: usize, after: usize) -> bool
     requires { Vertices points.now before at after }
-    ensures { result ≡ Goes-by (by collinear) points.now before at after }
+    ensures { result ≡ goes_by (by collinear) points.now before at after }
 {
     let to = grid::inner::edge_at(points, before, at);
     let from = grid::inner::edge_at(points, at, after);
@@ -151,7 +151,7 @@ pub fn goes(collinear: bool, points: &[i32], before: usize, at: usize, after: us
 // that is to go with its neighbours there, or n.
 pub fn standing_by(collinear: bool, points: &[i32], n: usize) -> usize
     requires { Contour points.now n × (0 < n) }
-    ensures { Standing (Goes-by (by collinear) points.now) n result }
+    ensures { Standing (goes_by (by collinear) points.now) n result }
 {
     let last = n - 1;
     let closing = grid::inner::edge_at(points, last, 0);
@@ -174,7 +174,7 @@ pub fn standing_by(collinear: bool, points: &[i32], n: usize) -> usize
 // The same by a rule. Of a box all stand, which takes no product to tell.
 pub fn standing(rule: Rule, points: &[i32], n: usize) -> usize
     requires { Contour points.now n × (0 < n) }
-    ensures { Standing (Goes-by rule points.now) n result }
+    ensures { Standing (goes_by rule points.now) n result }
 {
     if grid::inner::boxes::is_box(points, n) {
         return n;
@@ -187,8 +187,8 @@ pub fn standing(rule: Rule, points: &[i32], n: usize) -> usize
 
 // How many positions are not marked. They are so few that 16 bits count them, eight at a time.
 pub fn unmarked(mark: &[u8]) -> usize
-    requires { occurrences due-mark mark.now < 2 ^ 16 }
-    ensures { result ≡ occurrences due-mark mark.now }
+    requires { occurrences due_mark mark.now < 2 ^ 16 }
+    ensures { result ≡ occurrences due_mark mark.now }
 {
     let mut found: u16 = 0;
     let mut i: usize = 0;
@@ -207,7 +207,7 @@ pub fn unmarked(mark: &[u8]) -> usize
 // right before it.
 fn idle_round(prev: &[u32], mark: &[u8], remaining: usize, at: usize) -> usize
     requires { Idling mark.now prev.now at remaining }
-    ensures { result ≡ round-of mark.now at }
+    ensures { result ≡ round_of mark.now at }
 {
     let mut turns = remaining;
     let mut last = wide(prev[at]);
@@ -223,7 +223,7 @@ fn idle_round(prev: &[u32], mark: &[u8], remaining: usize, at: usize) -> usize
 pub fn turns(ending: Ending, remaining: usize, pending: usize, prev: &[u32], mark: &[u8]) -> usize
     requires { Halted mark.now prev.now ending
         × (remaining ≡ length (survivors mark.now))
-        × (pending ≡ occurrences due-mark mark.now) }
+        × (pending ≡ occurrences due_mark mark.now) }
     ensures { result ≡ turns_of ending mark.now }
 {
     if pending == 0 {
@@ -245,9 +245,9 @@ fn round(
     mark: &mut [u8],
 ) -> Ending
     requires contour { Contour points.now (length mark.old) × (3 ≤ length mark.old) }
-    requires begun { Begun (Goes-by (by collinear) points.now) (length mark.old) k
+    requires begun { Begun (goes_by (by collinear) points.now) (length mark.old) k
         mark.old next.old prev.old }
-    ensures { Ended (Goes-by (by collinear) points.now) (length mark.old)
+    ensures { Ended (goes_by (by collinear) points.now) (length mark.old)
         mark.new prev.new result }
 {
     let mut remaining = mark.len();
@@ -291,8 +291,8 @@ pub fn walk(
 ) -> Ending
     requires contour { Contour points.now (length mark.old) × (3 ≤ length mark.old) }
     requires next_len { (length next.old ≡ length mark.old) × (length prev.old ≡ length mark.old) }
-    requires k_in_bounds { (k < length mark.old) × FirstStand (Goes-by rule points.now) (length mark.old) k }
-    ensures { Ended (Goes-by rule points.now) (length mark.old)
+    requires k_in_bounds { (k < length mark.old) × FirstStand (goes_by rule points.now) (length mark.old) k }
+    ensures { Ended (goes_by rule points.now) (length mark.old)
         mark.new prev.new result }
 {
     link(next, prev, mark);

@@ -8,18 +8,18 @@ use lib.Seq.{take_at, drop_at, drop-drop, set_split, length-take-le}
 use Rattle.rows.specs.Rows.{placed}
 
 module _ {A : Type 0} (xs : List A) (a : ℕ) where
-  pub placed-none : placed a [] xs ≡ xs
-  placed-none =
+  pub placed_none : placed a [] xs ≡ xs
+  placed_none =
       let z : a + 0 ≡ a = omega arith in
       ap₂ (λ (l : List A) (n : ℕ). l ++ drop n xs) (append-nil (take a xs)) z ∙ take-append-drop a xs
 
-  pub placed-long : (d : List A) → a + length d ≤ length xs → length (placed a d xs) ≡ length xs
-  placed-long d h =
+  pub placed_long : (d : List A) → a + length d ≤ length xs → length (placed a d xs) ≡ length xs
+  placed_long d h =
       length-append (take a xs ++ d) (drop (a + length d) xs)
       ∙ omega (arith, length-append (take a xs) d, length-take-le a xs (omega arith), length-drop (a + length d) xs)
 
-  pub placed-behind : (d e : List A) (b : ℕ) → a + length d ≤ length xs → b ≡ a + length d → placed b e (placed a d xs) ≡ placed a (d ++ e) xs
-  placed-behind d e b h q =
+  pub placed_behind : (d e : List A) (b : ℕ) → a + length d ≤ length xs → b ≡ a + length d → placed b e (placed a d xs) ≡ placed a (d ++ e) xs
+  placed_behind d e b h q =
       let n : length (take a xs ++ d) ≡ b = length-append (take a xs) d ∙ omega (arith, length-take-le a xs (omega arith)) in
       let m : a + length d + length e ≡ a + length (d ++ e) = omega (arith, length-append d e) in
       ap₂ (λ (k l : List A). k ++ e ++ l)

@@ -36,14 +36,14 @@ field_cut : (f : List ℕ) (n j w : ℕ) → j + w ≤ 8 * n → value (take w (
 field_cut f n j w h = ap value (sym (drop-take j w (bits (take n f))) ∙ ap (drop j) (bits_cut f n (j + w) h) ∙ drop-take j w (bits f))
 
 module _ (f : List ℕ) (n : ℕ) (h : 2 ≤ n) where
-  pub edition-cut : edition_of (take n f) ≡ edition_of f
-  edition-cut = ap value (bits_cut f n 4 (omega arith))
+  pub edition_cut : edition_of (take n f) ≡ edition_of f
+  edition_cut = ap value (bits_cut f n 4 (omega arith))
 
-  pub promised-cut : promised (take n f) ≡ promised f
-  promised-cut = field_cut f n 4 12 (omega arith)
+  pub promised_cut : promised (take n f) ≡ promised f
+  promised_cut = field_cut f n 4 12 (omega arith)
 
-  starts-cut : starts (take n f) ≡ starts f
-  starts-cut = ap (λ (l : List Bool). eqb (value l) 1) (bits_cut f n 1 (omega arith))
+  starts_cut : starts (take n f) ≡ starts f
+  starts_cut = ap (λ (l : List Bool). eqb (value l) 1) (bits_cut f n 1 (omega arith))
 
   held_cut : held (take n f) ≡ held f
   held_cut = field_cut f n 1 15 (omega arith)
@@ -64,21 +64,21 @@ decoded_cut k m f =
 
 -- the contour in front, where it is left whole, and where it is not
 module _ (f : List ℕ) (n : ℕ) where
-  entry-cut : size f ≤ n → front_entry (take n f) ≡ front_entry f
-  entry-cut h =
+  entry_cut : size f ≤ n → front_entry (take n f) ≡ front_entry f
+  entry_cut h =
       let m : n ≡ 2 + (4 * (2 * held f) + (n - size f)) = omega arith in
-      ap₂ (λ (b : Bool) (k : ℕ). entry b (decoded (2 * k) (drop 2 (take n f)))) (starts-cut f n (omega arith)) (held_cut f n (omega arith))
+      ap₂ (λ (b : Bool) (k : ℕ). entry b (decoded (2 * k) (drop 2 (take n f)))) (starts_cut f n (omega arith)) (held_cut f n (omega arith))
       ∙ ap (entry (starts f))
       (ap (λ (k : ℕ). decoded (2 * held f) (drop 2 (take k f))) m
       ∙ ap (decoded (2 * held f)) (drop-take 2 (4 * (2 * held f) + (n - size f)) f) ∙ decoded_cut (2 * held f) (n - size f) (drop 2 f))
 
-  there-cut : size f ≤ n → all_there f ≡ true → all_there (take n f) ≡ true
-  there-cut h t =
+  there_cut : size f ≤ n → all_there f ≡ true → all_there (take n f) ≡ true
+  there_cut h t =
       let p : held (take n f) ≡ held f = held_cut f n (omega arith) in
       le-leb (size (take n f)) (length (take n f)) (omega (arith, p, leb-true (size f) (length f) t, length-take n f))
 
-  lost-cut : n < size f → all_there (take n f) ≡ false
-  lost-cut h = go (leb 2 n) refl
+  lost_cut : n < size f → all_there (take n f) ≡ false
+  lost_cut h = go (leb 2 n) refl
     where
       go : (b : Bool) → leb 2 n ≡ b → all_there (take n f) ≡ false
       go true e =
@@ -86,18 +86,18 @@ module _ (f : List ℕ) (n : ℕ) where
           lt-leb (size (take n f)) (length (take n f)) (omega (arith, p, length-take n f))
       go false e = lt-leb (size (take n f)) (length (take n f)) (omega (arith, leb-false 2 n e, length-take n f))
 
-  never-cut : all_there f ≡ false → all_there (take n f) ≡ false
-  never-cut t = go (leb (size f) n) refl
+  never_cut : all_there f ≡ false → all_there (take n f) ≡ false
+  never_cut t = go (leb (size f) n) refl
     where
       go : (b : Bool) → leb (size f) n ≡ b → all_there (take n f) ≡ false
       go true e =
           let m = leb-true (size f) n e in
           let p : held (take n f) ≡ held f = held_cut f n (omega arith) in
           lt-leb (size (take n f)) (length (take n f)) (omega (arith, p, leb-false (size f) (length f) t, length-take n f))
-      go false e = lost-cut (leb-false (size f) n e)
+      go false e = lost_cut (leb-false (size f) n e)
 
-  behind-cut : size f ≤ n → drop (size (take n f)) (take n f) ≡ take (n - size f) (drop (size f) f)
-  behind-cut h =
+  behind_cut : size f ≤ n → drop (size (take n f)) (take n f) ≡ take (n - size f) (drop (size f) f)
+  behind_cut h =
       let p : held (take n f) ≡ held f = held_cut f n (omega arith) in
       let m : n ≡ size f + (n - size f) = omega arith in
       ap (λ (k : ℕ). drop (2 + 8 * k) (take n f)) p ∙ ap (λ (k : ℕ). drop (size f) (take k f)) m ∙ drop-take (size f) (n - size f) f
@@ -125,16 +125,16 @@ arrived_cut (suc k) n f = rw (next_arrived k f, next_arrived k (take n f)) (go (
     lost c t e = rw t (record { contours = sym e; past = omega arith })
 
     go : (t b : Bool) → all_there f ≡ t → leb (size f) n ≡ b → Cut (n - size f) rest (arrived k (take (n - size f) (drop (size f) f))) → Cut n (come_next t (front_entry f) k rest) (next (all_there (take n f)))
-    go false b t e h = lost _ (never-cut f n t) refl
+    go false b t e h = lost _ (never_cut f n t) refl
     go true false t e h =
-        lost _ (lost-cut f n (leb-false (size f) n e))
+        lost _ (lost_cut f n (leb-false (size f) n e))
         (ap (λ (x : Bool). as_long x (front_entry f ∷ all_within (n - length_of (front_entry f)) rest.contours)) (ap (λ (m : ℕ). leb m n) (entry_length f) ∙ e))
     go true true t e h =
         let m = leb-true (size f) n e in
-        rw (there-cut f n m t, behind-cut f n m)
+        rw (there_cut f n m t, behind_cut f n m)
         (record {
           contours =
-              ap₂ (λ (x : Entry) (l : List Entry). x ∷ l) (entry-cut f n m) (h.contours ∙ ap (λ (k : ℕ). all_within (n - k) rest.contours) (sym (entry_length f)))
+              ap₂ (λ (x : Entry) (l : List Entry). x ∷ l) (entry_cut f n m) (h.contours ∙ ap (λ (k : ℕ). all_within (n - k) rest.contours) (sym (entry_length f)))
               ∙ sym (ap (λ (x : Bool). as_long x (front_entry f ∷ all_within (n - length_of (front_entry f)) rest.contours)) (ap (λ (k : ℕ). leb k n) (entry_length f) ∙ e));
           past = h.past;
         })

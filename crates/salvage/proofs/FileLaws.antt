@@ -23,7 +23,7 @@ use Rattle.setfile.specs.Writing.{most_points}
 use Rattle.setfile.specs.Promises.{Each, Started, Carried}
 use Rattle.setfile.proofs.SizeLaws.{promised_few}
 use Rattle.setfile.proofs.CodedLaws.{file_is_coded}
-use Rattle.grid.proofs.LimitLaws.{on-joined}
+use Rattle.grid.proofs.LimitLaws.{on_joined}
 use Rattle.setfile.proofs.RoundTrip.{Matched, come_matched}
 use Rattle.salvage.specs.Fates.{reason, open_behind, fates, kept}
 use Rattle.salvage.specs.Outcome.{fates_of, kept_of, dropped_of, mended}
@@ -70,7 +70,7 @@ kept_on b (e ∷ l) = go (reason b e) refl (kept_on (open_behind e.begins (all_o
     behind = open_behind e.begins (all_on_grid narrow e.points) b
 
     go : (r : ℕ) → reason b e ≡ r → all_on_grid narrow (joined (contours_of (kept (fates behind l) l))) ≡ true → all_on_grid narrow (joined (contours_of (kept (r ∷ fates behind l) (e ∷ l)))) ≡ true
-    go zero z h = on-joined narrow e.points (joined (contours_of (kept (fates behind l) l))) ∙ ap₂ (λ (x y : Bool). x && y) (kept_sound b e z).0 h
+    go zero z h = on_joined narrow e.points (joined (contours_of (kept (fates behind l) l))) ∙ ap₂ (λ (x y : Bool). x && y) (kept_sound b e z).0 h
     go (suc r) z h = h
 
 -- a file with a head
@@ -81,13 +81,13 @@ module _ (f : List ℕ) (h : Bytes f) (e : 2 ≤ length f) where
   counts : length (kept_of f) + length (dropped_of f) ≡ length (come f).contours
   counts = kept_or_dropped 0 (fates_of f) (come f).contours (fates-length false (come f).contours)
 
-  pub the-counts : length (kept_of f) + length (dropped_of f) + (come f).missing ≡ promised f
-  the-counts = omega (arith, counts, found.number)
+  pub the_counts : length (kept_of f) + length (dropped_of f) + (come f).missing ≡ promised f
+  the_counts = omega (arith, counts, found.number)
 
-  pub kept-carried : Carried (kept_of f)
-  kept-carried = record {
+  pub kept_carried : Carried (kept_of f)
+  kept_carried = record {
     small = record {
-      few = omega (arith, the-counts, promised_few f);
+      few = omega (arith, the_counts, promised_few f);
       even = kept_even (fates_of f) (come f).contours found.even;
       short = kept_each (λ (e : Entry). e.points) (λ (c : List ℤ). count c ≤ most_points) (fates_of f) (come f).contours found.short;
     };
@@ -95,11 +95,11 @@ module _ (f : List ℕ) (h : Bytes f) (e : 2 ≤ length f) where
     fitting = kept_each (λ (e : Entry). e.points) (Each (SFits w32)) (fates_of f) (come f).contours found.fitting;
   }
 
-  pub mended-is : mended f ≡ coded (kept_of f)
-  mended-is = file_is_coded (kept_of f) kept-carried.small.few
+  pub mended_is : mended f ≡ coded (kept_of f)
+  mended_is = file_is_coded (kept_of f) kept_carried.small.few
 
-  pub kept-within : 2 + length (coded_contours (kept_of f)) ≤ length f
-  kept-within =
+  pub kept_within : 2 + length (coded_contours (kept_of f)) ≤ length f
+  kept_within =
       omega (
         arith,
         kept_shorter (fates_of f) (come f).contours,

@@ -14,7 +14,7 @@ use Rattle.rows.specs.Rows.{front, placed}
 use Rattle.replies.proofs.LadderLaws.{First, first_is, cleared, clear, stopped, onward}
 use Rattle.replies.proofs.LadderLaws.First.{here, past, foot}
 use Rattle.rows.proofs.RowLaws.{placed_front}
-use Rattle.rows.proofs.PlacedLaws.{placed-long}
+use Rattle.rows.proofs.PlacedLaws.{placed_long}
 use Rattle.setfile.specs.Format.{Come, come}
 use Rattle.bits.specs.Bits.{Bytes}
 use Rattle.bits.specs.inside.Words.{spelled}
@@ -28,7 +28,7 @@ use Rattle.setfile.proofs.ByteLaws.{come_by_bytes}
 use Rattle.salvage.specs.declared.answer.Salvaged.{Salvaged}
 use Rattle.salvage.specs.Outcome.{Outcome, leaving, salvaged, mended, kept_of, dropped_of, answered, outcome}
 use Rattle.salvage.specs.inside.Sifting.{refusals, none_sifted, Roomy, ended, ending}
-use Rattle.salvage.proofs.FileLaws.{the-counts, mended-is, kept-within}
+use Rattle.salvage.proofs.FileLaws.{the_counts, mended_is, kept_within}
 
 -- a row that lacks room, as the code asks
 lacks : (a b : ℕ) → ltb b a ≡ not (leb a b)
@@ -44,8 +44,8 @@ either_lacks false y = refl
 
 -- the refusals, rung by rung
 module _ (f : List ℕ) (out list : ℕ) where
-  pub refused-head : (r : ℕ) → r ≡ first_of (head_refusals f) → (r ≡ 0 → ⊥) → r ≡ first_of (refusals f out list)
-  refused-head r e z = first_is _ _ (stopped (head_refusals f) (room (leb (length f) out && leb (promised f) list)) r e z)
+  pub refused_head : (r : ℕ) → r ≡ first_of (head_refusals f) → (r ≡ 0 → ⊥) → r ≡ first_of (refusals f out list)
+  refused_head r e z = first_is _ _ (stopped (head_refusals f) (room (leb (length f) out && leb (promised f) list)) r e z)
 
   module _ (e : first_of (head_refusals f) ≡ 0) (n : ℕ) (g : n ≡ promised f) where
     beyond : (r : ℕ) → First (room (leb (length f) out && leb (promised f) list)) r → r ≡ first_of (refusals f out list)
@@ -64,9 +64,9 @@ module _ (f : List ℕ) (out list : ℕ) where
     not_refused h = beyond 0 (past (either false h) foot)
 
 module _ (f : List ℕ) (out : List ℕ) (list : List (List ℕ)) where
-  pub mend-refused : (r : ℕ) → r ≡ first_of (refusals f (length out) (length list)) → (r ≡ 0 → ⊥) → {s : Salvaged} → s ≡ salvaged r 0 0 0 0 → leaving s out list ≡ outcome f out list
+  pub mend_refused : (r : ℕ) → r ≡ first_of (refusals f (length out) (length list)) → (r ≡ 0 → ⊥) → {s : Salvaged} → s ≡ salvaged r 0 0 0 0 → leaving s out list ≡ outcome f out list
   unfolding outcome
-  mend-refused r e z {s} g = ap (λ (s : Salvaged). leaving s out list) g ∙ go r z ∙ ap (λ (k : ℕ). answered k f out list) e
+  mend_refused r e z {s} g = ap (λ (s : Salvaged). leaving s out list) g ∙ go r z ∙ ap (λ (k : ℕ). answered k f out list) e
     where
       go : (r : ℕ) → (r ≡ 0 → ⊥) → leaving (salvaged r 0 0 0 0) out list ≡ answered r f out list
       go zero z = absurd (z refl)
@@ -114,14 +114,14 @@ module _ {f out : List ℕ} {list : List (List ℕ)} {n : ℕ} (file : Accepted 
   }
 
   counts : length (kept_of f) + length (dropped_of f) + (come f).missing ≡ n
-  counts = the-counts f file.bytes headed ∙ sym file.count
+  counts = the_counts f file.bytes headed ∙ sym file.count
 
   body : List ℕ
   body = coded_contours (kept_of f)
 
   fits : 2 + length body ≤ length out
   unfolding body
-  fits = omega (arith, kept-within f file.bytes headed, roomy.out_room)
+  fits = omega (arith, kept_within f file.bytes headed, roomy.out_room)
 
   -- what the pass has left
   module _ {r : Salvaged} {mid : List ℕ} {list' : List (List ℕ)} (p : leaving r mid list' ≡ ending n 0 none_sifted f out list) where
@@ -151,16 +151,16 @@ module _ {f out : List ℕ} {list : List (List ℕ)} {n : ℕ} (file : Accepted 
     kept_is = omega (arith, missing_is, dropped_is, counts)
 
     pub head_room : Room 0 (spelled 2 (4096 + (n - r.missing - r.dropped))) mid
-    head_room = omega (arith, ap length mid_is ∙ placed-long out 2 body fits, fits, spelled-length 2 (4096 + (n - r.missing - r.dropped)))
+    head_room = omega (arith, ap length mid_is ∙ placed_long out 2 body fits, fits, spelled-length 2 (4096 + (n - r.missing - r.dropped)))
 
     pub mend_done : {b : ℕ} {out' : List ℕ} → Put 0 (spelled 2 (4096 + (n - r.missing - r.dropped))) mid b out' → leaving r out' list' ≡ outcome f out list
     unfolding outcome body spelled
     mend_done {b} {out'} u =
         let o : out' ≡ front (mended f) out =
         u.is ∙ ap₂ (λ (k : ℕ) (l : List ℕ). placed 0 (spelled 2 (4096 + k)) l) kept_is mid_is
-        ∙ placed_before (spelled 2 (4096 + length (kept_of f))) body out fits ∙ placed_front out (coded (kept_of f)) ∙ ap (λ (l : List ℕ). front l out) (sym (mended-is f file.bytes headed)) in
+        ∙ placed_before (spelled 2 (4096 + length (kept_of f))) body out fits ∙ placed_front out (coded (kept_of f)) ∙ ap (λ (l : List ℕ). front l out) (sym (mended_is f file.bytes headed)) in
         same_outcome
-        (answer_is ∙ same_salvaged (sym (ap length (mended-is f file.bytes headed) ∙ omega arith)) (omega arith) refl refl)
+        (answer_is ∙ same_salvaged (sym (ap length (mended_is f file.bytes headed) ∙ omega arith)) (omega arith) refl refl)
         o
         (ap (λ (o : Outcome). o.list) by_bits ∙ placed_front list (dropped_of f))
         ∙ ap (λ (k : ℕ). answered k f out list) (sym file.free)

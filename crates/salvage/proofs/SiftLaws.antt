@@ -12,14 +12,14 @@ use borrow.Author.Tests.{leb-true, le-leb, lt-leb}
 use Rattle.grid.specs.Limits.{narrow, all_on_grid}
 use Rattle.replies.specs.Ladder.{first_of}
 use Rattle.rows.specs.Rows.{placed}
-use Rattle.rows.proofs.PlacedLaws.{placed-none, placed-long, placed-behind, set_placed}
+use Rattle.rows.proofs.PlacedLaws.{placed_none, placed_long, placed_behind, set_placed}
 use Rattle.setfile.specs.Entries.{Entry}
 use Rattle.setfile.specs.Format.{Come, come_next}
 use Rattle.bits.specs.Bits.{Bytes}
 use Rattle.setfile.specs.inside.Bytes.{decoded, starts, held, front_entry, all_there, arrived, coded_contours}
 use Rattle.setfile.proofs.ByteLaws.{dropped, none_arrived, next_arrived}
 use Rattle.setfile.proofs.CodedLaws.{none_coded, coded_next}
-use Rattle.setfile.proofs.RoundTrip.{contour-read}
+use Rattle.setfile.proofs.RoundTrip.{contour_read}
 use Rattle.salvage.specs.declared.inner.sifting.Sifted.{Sifted}
 use Rattle.salvage.specs.Fates.{reason, open_behind, fates, keep, kept, note}
 use Rattle.salvage.specs.Fates as F
@@ -45,35 +45,35 @@ reason_is f at h on b keeping w p q o e =
 
 -- a contour is kept or noted, as the code does it
 module _ (f : List ℕ) (s : Sifted) (i : ℕ) (out : List ℕ) (list : List (List ℕ)) where
-  abbrev there-on : List ℕ
-  there-on = drop s.at f
+  abbrev there_on : List ℕ
+  there_on = drop s.at f
 
-  by-reason : (w : ℕ) → w ≡ reason s.keeping (front_entry there-on) → {r : Sifted} {out' : List ℕ} {list' : List (List ℕ)}
-      → r ≡ sifted w there-on s → out' ≡ copied w there-on s.to out → list' ≡ noted w i s.dropped list → Sifts f s i out list r out' list'
-  by-reason w e a b c = record {
-    is = a ∙ ap (λ (n : ℕ). sifted n there-on s) e;
-    bytes = b ∙ ap (λ (n : ℕ). copied n there-on s.to out) e;
+  by_reason : (w : ℕ) → w ≡ reason s.keeping (front_entry there_on) → {r : Sifted} {out' : List ℕ} {list' : List (List ℕ)}
+      → r ≡ sifted w there_on s → out' ≡ copied w there_on s.to out → list' ≡ noted w i s.dropped list → Sifts f s i out list r out' list'
+  by_reason w e a b c = record {
+    is = a ∙ ap (λ (n : ℕ). sifted n there_on s) e;
+    bytes = b ∙ ap (λ (n : ℕ). copied n there_on s.to out) e;
     notes = c ∙ ap (λ (n : ℕ). noted n i s.dropped list) e;
   }
 
-  module _ (h : ℕ) (p : h ≡ held there-on) (w : ℕ) (e : w ≡ reason s.keeping (front_entry there-on)) where
-    pub sifts-kept : w ≡ 0 → {out' : List ℕ} → out' ≡ placed s.to (take (s.at + (2 + 8 * h) - s.at) there-on) out
+  module _ (h : ℕ) (p : h ≡ held there_on) (w : ℕ) (e : w ≡ reason s.keeping (front_entry there_on)) where
+    pub sifts_kept : w ≡ 0 → {out' : List ℕ} → out' ≡ placed s.to (take (s.at + (2 + 8 * h) - s.at) there_on) out
         → Sifts f s i out list (record { at = s.at + (2 + 8 * h); to = s.to + (2 + 8 * h); dropped = s.dropped; keeping = true }) out' list
-    sifts-kept z o =
-        let n : s.at + (2 + 8 * h) - s.at ≡ size there-on = omega arith in
-        by-reason 0 (sym z ∙ e)
+    sifts_kept z o =
+        let n : s.at + (2 + 8 * h) - s.at ≡ size there_on = omega arith in
+        by_reason 0 (sym z ∙ e)
         (ap (λ (b : ℕ). record { at = s.at + (2 + 8 * b); to = s.to + (2 + 8 * b); dropped = s.dropped; keeping = true }) p)
-        (o ∙ ap (λ (m : ℕ). placed s.to (take m there-on) out) n) refl
+        (o ∙ ap (λ (m : ℕ). placed s.to (take m there_on) out) n) refl
 
-    pub sifts-noted : (w ≡ 0 → ⊥) → (b : Bool) → b ≡ starts there-on
+    pub sifts_noted : (w ≡ 0 → ⊥) → (b : Bool) → b ≡ starts there_on
         → Sifts f s i out list (record { at = s.at + (2 + 8 * h); to = s.to; dropped = s.dropped + 1; keeping = s.keeping && not b }) out (set list s.dropped (i ∷ w ∷ []))
-    sifts-noted z b g = go w e z
+    sifts_noted z b g = go w e z
       where
-        go : (w : ℕ) → w ≡ reason s.keeping (front_entry there-on) → (w ≡ 0 → ⊥)
+        go : (w : ℕ) → w ≡ reason s.keeping (front_entry there_on) → (w ≡ 0 → ⊥)
             → Sifts f s i out list (record { at = s.at + (2 + 8 * h); to = s.to; dropped = s.dropped + 1; keeping = s.keeping && not b }) out (set list s.dropped (i ∷ w ∷ []))
         go zero e z = absurd (z refl)
         go (suc r) e z =
-            by-reason (suc r) e
+            by_reason (suc r) e
             (ap₂ (λ (k : ℕ) (t : Bool). record { at = s.at + (2 + 8 * k); to = s.to; dropped = s.dropped + 1; keeping = s.keeping && not t }) p g)
             refl refl
 
@@ -110,10 +110,10 @@ module _ (c : Come) (e : Entry) (k i : ℕ) (s : Sifted) (out : List ℕ) (list 
       (placed s.to (coded_contours (keep w e (kept (fates b c.contours) c.contours))) out)
       (placed s.dropped (note i w (F.dropped (suc i) (fates b c.contours))) list)
 
-  ended-next : (b : Bool) (w : ℕ) → w ≡ reason s.keeping e → open_behind e.begins (all_on_grid narrow e.points) s.keeping ≡ b
+  ended_next : (b : Bool) (w : ℕ) → w ≡ reason s.keeping e → open_behind e.begins (all_on_grid narrow e.points) s.keeping ≡ b
       → ended (come_next true e k c) i s out list ≡ behind b w
   unfolding behind fates kept F.dropped
-  ended-next b w p q = ap₂ behind q (sym p)
+  ended_next b w p q = ap₂ behind q (sym p)
 
 -- a complete contour that is sifted
 module _ (f : List ℕ) (h : Bytes f) (k i : ℕ) (s : Sifted) (out : List ℕ) (list : List (List ℕ)) (ready : Ready f s out list) where
@@ -123,11 +123,11 @@ module _ (f : List ℕ) (h : Bytes f) (k i : ℕ) (s : Sifted) (out : List ℕ) 
   abbrev found : Come
   found = arrived k (drop (size here) here)
 
-  here-long : size here ≤ length here
-  here-long = omega (arith, ready.within, length-drop s.at f)
+  here_long : size here ≤ length here
+  here_long = omega (arith, ready.within, length-drop s.at f)
 
   whole : arrived (suc k) here ≡ come_next true (front_entry here) k found
-  whole = next_arrived k here ∙ ap (λ (t : Bool). come_next t (front_entry here) k found) (le-leb (size here) (length here) here-long)
+  whole = next_arrived k here ∙ ap (λ (t : Bool). come_next t (front_entry here) k found) (le-leb (size here) (length here) here_long)
 
   on : (i : ℕ) (to n : ℕ) (b : Bool) (out : List ℕ) (list : List (List ℕ))
       → ended found i (record { at = s.at + size here; to = to; dropped = n; keeping = b }) out list
@@ -140,30 +140,30 @@ module _ (f : List ℕ) (h : Bytes f) (k i : ℕ) (s : Sifted) (out : List ℕ) 
   step zero e =
       let rest : List ℕ = coded_contours (kept (fates true found.contours) found.contours) in
       let part : coded_contours (front_entry here ∷ kept (fates true found.contours) found.contours) ≡ take (size here) here ++ rest =
-      coded_next (front_entry here) (kept (fates true found.contours) found.contours) ∙ ap (λ (l : List ℕ). l ++ rest) (contour-read here (dropped s.at f h) here-long) in
-      let long : length (take (size here) here) ≡ size here = length-take-le (size here) here here-long in
+      coded_next (front_entry here) (kept (fates true found.contours) found.contours) ∙ ap (λ (l : List ℕ). l ++ rest) (contour_read here (dropped s.at f h) here_long) in
+      let long : length (take (size here) here) ≡ size here = length-take-le (size here) here here_long in
       let room : s.to + length (take (size here) here) ≤ length out = omega (arith, ready.out_room) in
       ap (λ (c : Come). ended c i s out list) whole
-      ∙ ended-next found (front_entry here) k i s out list true 0 e (open_kept _ (starts here) s.keeping e)
+      ∙ ended_next found (front_entry here) k i s out list true 0 e (open_kept _ (starts here) s.keeping e)
       ∙ same_outcome
       (ap (λ (l : List ℕ). s.to + length l) part ∙ omega (arith, length-append (take (size here) here) rest))
       refl refl refl
       (ap (λ (l : List ℕ). placed s.to l out) part
-      ∙ sym (placed-behind out s.to (take (size here) here) rest (s.to + size here) room (omega arith)))
+      ∙ sym (placed_behind out s.to (take (size here) here) rest (s.to + size here) room (omega arith)))
       refl
       ∙ on (suc i) (s.to + size here) s.dropped true (placed s.to (take (size here) here) out) list
   step (suc r) e =
       let rest : List (List ℕ) = F.dropped (suc i) (fates (s.keeping && not (starts here)) found.contours) in
       let row : List ℕ = i ∷ suc r ∷ [] in
       ap (λ (c : Come). ended c i s out list) whole
-      ∙ ended-next found (front_entry here) k i s out list (s.keeping && not (starts here)) (suc r) e (open_dropped _ (starts here) s.keeping r e)
+      ∙ ended_next found (front_entry here) k i s out list (s.keeping && not (starts here)) (suc r) e (open_dropped _ (starts here) s.keeping r e)
       ∙ same_outcome refl (omega arith) refl refl refl
       (sym (ap (placed (s.dropped + 1) rest) (set_placed list s.dropped row ready.list_room)
-      ∙ placed-behind list s.dropped (row ∷ []) rest (s.dropped + 1) (omega (arith, ready.list_room)) (omega arith)))
+      ∙ placed_behind list s.dropped (row ∷ []) rest (s.dropped + 1) (omega (arith, ready.list_room)) (omega arith)))
       ∙ on (suc i) s.to (s.dropped + 1) (s.keeping && not (starts here)) out (set list s.dropped row)
 
-  sifted-on : {r : Sifted} {out' : List ℕ} {list' : List (List ℕ)} → Sifts f s i out list r out' list' → ending (suc k) i s f out list ≡ ending k (suc i) r f out' list'
-  sifted-on x = rw (x.is, x.bytes, x.notes) (step _ refl)
+  sifted_on : {r : Sifted} {out' : List ℕ} {list' : List (List ℕ)} → Sifts f s i out list r out' list' → ending (suc k) i s f out list ≡ ending k (suc i) r f out' list'
+  sifted_on x = rw (x.is, x.bytes, x.notes) (step _ refl)
 
 -- a pass that has come to contour i of n
 pub record Sifting (f : List ℕ) (n : ℕ) (out₀ : List ℕ) (list₀ : List (List ℕ)) (i : ℕ) (s : Sifted) (out : List ℕ) (list : List (List ℕ)) : Type 0 where
@@ -201,8 +201,8 @@ module _ {f : List ℕ} {n : ℕ} {out₀ : List ℕ} {list₀ : List (List ℕ)
           list_room = omega (arith, x.few, x.list_long, room.list_room);
         }
 
-    pub sifting-more : Bytes f → {r : Sifted} {out' : List ℕ} {list' : List (List ℕ)} → Sifts f s i out list r out' list' → Sifting f n out₀ list₀ (i + 1) r out' list'
-    sifting-more h {r} {out'} {list'} y = go (reason s.keeping (front_entry here)) y.is y.bytes y.notes
+    pub sifting_more : Bytes f → {r : Sifted} {out' : List ℕ} {list' : List (List ℕ)} → Sifts f s i out list r out' list' → Sifting f n out₀ list₀ (i + 1) r out' list'
+    sifting_more h {r} {out'} {list'} y = go (reason s.keeping (front_entry here)) y.is y.bytes y.notes
       where
         here : List ℕ
         here = drop s.at f
@@ -211,7 +211,7 @@ module _ {f : List ℕ} {n : ℕ} {out₀ : List ℕ} {list₀ : List (List ℕ)
         next =
             let e : n - i ≡ suc (n - (i + 1)) = omega arith in
             ap (λ (j : ℕ). ending (n - (i + 1)) j r f out' list') (add-one i)
-            ∙ sym (sifted-on f h (n - (i + 1)) i s out list ready y)
+            ∙ sym (sifted_on f h (n - (i + 1)) i s out list ready y)
             ∙ ap (λ (k : ℕ). ending k i s f out list) (sym e) ∙ x.is
 
         go : (w : ℕ) → r ≡ sifted w here s → out' ≡ copied w here s.to out → list' ≡ noted w i s.dropped list → Sifting f n out₀ list₀ (i + 1) r out' list'
@@ -222,7 +222,7 @@ module _ {f : List ℕ} {n : ℕ} {out₀ : List ℕ} {list₀ : List (List ℕ)
               within = omega (arith, ap (λ (v : Sifted). v.at) a, ready.within);
               behind_it = omega (arith, ap (λ (v : Sifted). v.at) a, ap (λ (v : Sifted). v.to) a, x.behind_it);
               few = omega (arith, ap (λ (v : Sifted). v.dropped) a, x.few);
-              out_long = ap length b ∙ placed-long out s.to (take (size here) here) (omega (arith, m, ready.out_room)) ∙ x.out_long;
+              out_long = ap length b ∙ placed_long out s.to (take (size here) here) (omega (arith, m, ready.out_room)) ∙ x.out_long;
               list_long = ap length c ∙ x.list_long;
               is = next;
             }
@@ -240,7 +240,7 @@ module _ {f : List ℕ} {n : ℕ} {out₀ : List ℕ} {list₀ : List (List ℕ)
   nothing_more : (m p : ℕ) → leaving (salvaged 0 s.to s.dropped m p) out list ≡ ended (record { contours = []; missing = m; past = p }) i s out list
   unfolding fates kept F.dropped
   nothing_more m p =
-      same_outcome (omega (arith, ap length none_coded)) (omega arith) refl refl (sym (ap (λ (l : List ℕ). placed s.to l out) none_coded ∙ placed-none out s.to)) (sym (placed-none list s.dropped))
+      same_outcome (omega (arith, ap length none_coded)) (omega arith) refl refl (sym (ap (λ (l : List ℕ). placed s.to l out) none_coded ∙ placed_none out s.to)) (sym (placed_none list s.dropped))
 
   pub stopped : i < n → false ≡ all_there (drop s.at f) → leaving (salvaged 0 s.to s.dropped (n - i) 0) out list ≡ ending n 0 none_sifted f out₀ list₀
   stopped l t =

@@ -27,20 +27,20 @@ use Rattle.setfile.specs.Editions as Either
 use Rattle.setfile.specs.Editions.{bound, is_second}
 use Rattle.setfile.specs.Reading as R
 use Rattle.setfile.specs.Promises.{Started}
-use Rattle.grid.proofs.LimitLaws.{on-joined}
+use Rattle.grid.proofs.LimitLaws.{on_joined}
 use Rattle.bits.proofs.BitLaws.{bytes_are}
 use Rattle.setfile.proofs.ByteLaws.{come_by_bytes}
 use Rattle.setfile.proofs.CodedLaws.{contours_joined}
-use Rattle.setfile.proofs.RoundTrip.{come_matched, Whole, read_whole, read-carried, read_back, written_back}
+use Rattle.setfile.proofs.RoundTrip.{come_matched, Whole, read_whole, read_carried, read_back, written_back}
 use Rattle.setfile.proofs.EitherLaws.{first_parsed, first_taken}
 use Rattle.setfile.proofs.Theorems.{right, whole}
 use Rattle.salvage.specs.Fates.{reason, open_behind, fates, keep, kept, note, dropped}
 use Rattle.salvage.specs.Outcome.{fates_of, kept_of, dropped_of, mended, refusals, Outcome, leaving, salvaged, answered, outcome}
 use Rattle.salvage.specs.Promises.{written_file, written_list, Parted, SameBytes, sound_shapes, as_long, length_of, all_within}
 use Rattle.salvage.specs.Promises.Parted.{all-parted, one_kept, one-dropped}
-use Rattle.salvage.proofs.FileLaws.{the-counts, kept-carried, kept_on, mended-is, kept-within}
+use Rattle.salvage.proofs.FileLaws.{the_counts, kept_carried, kept_on, mended_is, kept_within}
 use Rattle.salvage.proofs.ShapeLaws.{kept_shapes}
-use Rattle.salvage.proofs.CutLaws.{drop-take, edition-cut, promised-cut, Cut, arrived_cut}
+use Rattle.salvage.proofs.CutLaws.{drop-take, edition_cut, promised_cut, Cut, arrived_cut}
 
 -- where nothing is refused
 not_refused : (f out : List ℕ) (list : List (List ℕ)) → Clear (refusals f out list) → outcome f out list ≡ answered 0 f out list
@@ -89,7 +89,7 @@ sound_kept : (b : Bool) (l : List Entry) → (b ≡ false → Started l) → all
 unfolding joined reason
 sound_kept b [] s h = tt
 sound_kept b (e ∷ l) s h =
-    let both : (all_on_grid narrow e.points && all_on_grid narrow (joined (contours_of l))) ≡ true = sym (on-joined narrow e.points (joined (contours_of l))) ∙ h in
+    let both : (all_on_grid narrow e.points && all_on_grid narrow (joined (contours_of l))) ≡ true = sym (on_joined narrow e.points (joined (contours_of l))) ∙ h in
     let on = and_left (all_on_grid narrow e.points) _ both in
     let shape = or_begun e.begins b s in
     let still = stays_open e.begins (all_on_grid narrow e.points) b on shape in (
@@ -147,19 +147,19 @@ module _ (f : List ℕ) (h : Bytes f) (ok : first_of (R.refusals f) ≡ 0) (firs
   headed : 2 ≤ length f
   headed = ltb-false (length f) 2 head_clear.0
 
-  each-kept : AllKept false read
-  each-kept =
-      sound_kept false read (λ z. (read-carried f h read reads_so).started)
+  each_kept : AllKept false read
+  each_kept =
+      sound_kept false read (λ z. (read_carried f h read reads_so).started)
       (ap₂ (λ (b : Bool) (w : Parsed). all_on_grid (bound b) (joined (contours_of (read_contours w)))) (sym first) (sym same) ∙ not-false _ (right f h ok).1.1.0)
 
-  pub a-sound-file-comes-back-byte-for-byte : (out : List ℕ) (list : List (List ℕ)) → length f ≤ length out → promised f ≤ length list
+  pub a_sound_file_comes_back_byte_for_byte : (out : List ℕ) (list : List (List ℕ)) → length f ≤ length out → promised f ≤ length list
       → outcome f out list ≡ leaving (salvaged 0 (length f) 0 0 0) (front f out) list
-  a-sound-file-comes-back-byte-for-byte out list p q =
+  a_sound_file_comes_back_byte_for_byte out list p q =
       let e : (come f).contours ≡ read = sym taken.is in
       not_refused f out list (le-ltb R.most_bytes (length f) short, (head_clear.0, (head_clear.1.0, (room_enough (length f) (length out) (promised f) (length list) p q, tt))))
       ∙ answered_so f out list
-      (ap (λ (l : List Entry). file (kept (fates false l) l)) e ∙ ap file (all_kept false read each-kept) ∙ written_back f h read reads_so)
-      (ap (λ (l : List Entry). dropped 0 (fates false l)) e ∙ none_dropped false 0 read each-kept)
+      (ap (λ (l : List Entry). file (kept (fates false l) l)) e ∙ ap file (all_kept false read each_kept) ∙ written_back f h read reads_so)
+      (ap (λ (l : List Entry). dropped 0 (fates false l)) e ∙ none_dropped false 0 read each_kept)
       taken.none_missing (omega (arith, taken.none_past))
 
 -- a call that is not refused
@@ -172,119 +172,119 @@ module _ (f : List ℕ) (h : Bytes f) (out : List ℕ) (list : List (List ℕ)) 
       go zero z g = clear (refusals f out list) tt z
       go (suc r) z g = let n : suc r ≡ 0 = ap (λ (o : Outcome). o.answer.reply) (sym g) ∙ done in absurd (omega arith)
 
-  outcome-is : o ≡ answered 0 f out list
-  outcome-is = e ∙ not_refused f out list pass
+  outcome_is : o ≡ answered 0 f out list
+  outcome_is = e ∙ not_refused f out list pass
 
-  with-head : 2 ≤ length f
-  with-head = ltb-false (length f) 2 pass.1.0
+  with_head : 2 ≤ length f
+  with_head = ltb-false (length f) 2 pass.1.0
 
   file_is : written_file o ≡ mended f
-  file_is = ap written_file outcome-is ∙ take_at (mended f) (drop (length (mended f)) out) (length (mended f)) refl
+  file_is = ap written_file outcome_is ∙ take_at (mended f) (drop (length (mended f)) out) (length (mended f)) refl
 
   list_is : written_list o ≡ dropped_of f
-  list_is = ap written_list outcome-is ∙ take_at (dropped_of f) (drop (length (dropped_of f)) list) (length (dropped_of f)) refl
+  list_is = ap written_list outcome_is ∙ take_at (dropped_of f) (drop (length (dropped_of f)) list) (length (dropped_of f)) refl
 
   reads : parsed (written_file o) ≡ carries (kept_of f)
-  reads = ap parsed file_is ∙ read_back (kept_of f) (kept-carried f h with-head)
+  reads = ap parsed file_is ∙ read_back (kept_of f) (kept_carried f h with_head)
 
   kept_is : read_contours (parsed (written_file o)) ≡ kept_of f
   kept_is = ap read_contours reads
 
-  in-bytes-is : written_file o ≡ coded (kept_of f)
-  in-bytes-is = file_is ∙ mended-is f h with-head
+  in_bytes_is : written_file o ≡ coded (kept_of f)
+  in_bytes_is = file_is ∙ mended_is f h with_head
 
   no_longer : length (written_file o) ≤ length f
-  no_longer = omega (arith, ap length in-bytes-is ∙ length-append (spelled 2 (4096 + length (kept_of f))) _, spelled-length 2 (4096 + length (kept_of f)), kept-within f h with-head)
+  no_longer = omega (arith, ap length in_bytes_is ∙ length-append (spelled 2 (4096 + length (kept_of f))) _, spelled-length 2 (4096 + length (kept_of f)), kept_within f h with_head)
 
-  pub what-is-written-is-of-edition-1 : is_second (written_file o) ≡ false
-  what-is-written-is-of-edition-1 = first_taken (written_file o) (kept_of f) reads
+  pub what_is_written_is_of_edition_1 : is_second (written_file o) ≡ false
+  what_is_written_is_of_edition_1 = first_taken (written_file o) (kept_of f) reads
 
-  pub what-is-written-is-always-taken-by-the-reader : first_of (R.refusals (written_file o)) ≡ 0
-  what-is-written-is-always-taken-by-the-reader =
+  pub what_is_written_is_always_taken_by_the_reader : first_of (R.refusals (written_file o)) ≡ 0
+  what_is_written_is_always_taken_by_the_reader =
       let a : ltb R.most_bytes (length (written_file o)) ≡ false = le-ltb R.most_bytes (length (written_file o)) (omega (arith, no_longer, ltb-false R.most_bytes (length f) pass.0)) in
-      let so : Either.parsed (written_file o) ≡ carries (kept_of f) = first_parsed (written_file o) what-is-written-is-of-edition-1 ∙ reads in
+      let so : Either.parsed (written_file o) ≡ carries (kept_of f) = first_parsed (written_file o) what_is_written_is_of_edition_1 ∙ reads in
       let b : not (eqb (damage (Either.parsed (written_file o))) 0) ≡ false = rw so in
       let c : not (all_on_grid (bound (is_second (written_file o))) (joined (contours_of (read_contours (Either.parsed (written_file o)))))) ≡ false =
-      ap₂ (λ (b : Bool) (w : Parsed). not (all_on_grid (bound b) (joined (contours_of (read_contours w))))) what-is-written-is-of-edition-1 so ∙ ap not (kept_on false (come f).contours) in
+      ap₂ (λ (b : Bool) (w : Parsed). not (all_on_grid (bound b) (joined (contours_of (read_contours w))))) what_is_written_is_of_edition_1 so ∙ ap not (kept_on false (come f).contours) in
       sym (first_is (R.refusals (written_file o)) 0 (past a (past b (past c foot))))
 
-  pub every-contour-is-kept-or-dropped-once-and-in-order : Parted 0 (come f).contours (read_contours (parsed (written_file o))) (written_list o)
-  every-contour-is-kept-or-dropped-once-and-in-order = rw (kept_is, list_is) (parted false 0 (come f).contours)
+  pub every_contour_is_kept_or_dropped_once_and_in_order : Parted 0 (come f).contours (read_contours (parsed (written_file o))) (written_list o)
+  every_contour_is_kept_or_dropped_once_and_in_order = rw (kept_is, list_is) (parted false 0 (come f).contours)
 
-  pub kept-dropped-and-missing-are-as-many-as-promised : length (read_contours (parsed (written_file o))) + o.answer.dropped + o.answer.missing ≡ promised f
-  kept-dropped-and-missing-are-as-many-as-promised = rw (kept_is, outcome-is) (the-counts f h with-head)
+  pub kept_dropped_and_missing_are_as_many_as_promised : length (read_contours (parsed (written_file o))) + o.answer.dropped + o.answer.missing ≡ promised f
+  kept_dropped_and_missing_are_as_many_as_promised = rw (kept_is, outcome_is) (the_counts f h with_head)
 
-  pub every-kept-contour-has-the-bytes-it-had : SameBytes f o
+  pub every_kept_contour_has_the_bytes_it_had : SameBytes f o
   unfolding spelled
-  every-kept-contour-has-the-bytes-it-had =
+  every_kept_contour_has_the_bytes_it_had =
       let m = come_matched f h in
       record {
         rest = m.rest;
         before = sym m.same ∙ ap (λ (l : List ℕ). l ++ m.rest) (sym (contours_joined (come f).contours));
-        after = ap (drop 2) in-bytes-is ∙ sym (contours_joined (kept_of f)) ∙ ap joined (sym (kept_map coded_contour (fates_of f) (come f).contours));
+        after = ap (drop 2) in_bytes_is ∙ sym (contours_joined (kept_of f)) ∙ ap joined (sym (kept_map coded_contour (fates_of f) (come f).contours));
       }
 
-  pub a-hole-never-follows-another-outline : shapes_of (read_contours (parsed (written_file o))) ≡ sound_shapes (shapes_of (come f).contours)
-  a-hole-never-follows-another-outline = ap shapes_of kept_is ∙ kept_shapes false (come f).contours
+  pub a_hole_never_follows_another_outline : shapes_of (read_contours (parsed (written_file o))) ≡ sound_shapes (shapes_of (come f).contours)
+  a_hole_never_follows_another_outline = ap shapes_of kept_is ∙ kept_shapes false (come f).contours
 
-  bytes-written : Bytes (written_file o)
+  bytes_written : Bytes (written_file o)
   unfolding file
-  bytes-written = rw file_is (bytes_are _ _)
+  bytes_written = rw file_is (bytes_are _ _)
 
-  pub what-is-written-needs-no-more-room : (length (written_file o) ≤ length f) × (promised (written_file o) ≤ promised f)
-  what-is-written-needs-no-more-room =
+  pub what_is_written_needs_no_more_room : (length (written_file o) ≤ length f) × (promised (written_file o) ≤ promised f)
+  what_is_written_needs_no_more_room =
       let t = read_whole (written_file o) (kept_of f) reads in
-      let n = (come_matched (written_file o) bytes-written).number in
-      (no_longer, omega (arith, n, t.none_missing, ap length t.is, the-counts f h with-head))
+      let n = (come_matched (written_file o) bytes_written).number in
+      (no_longer, omega (arith, n, t.none_missing, ap length t.is, the_counts f h with_head))
 
-  pub salvaging-what-was-salvaged-changes-nothing : (out' : List ℕ) (list' : List (List ℕ)) → length (written_file o) ≤ length out' → promised (written_file o) ≤ length list'
+  pub salvaging_what_was_salvaged_changes_nothing : (out' : List ℕ) (list' : List (List ℕ)) → length (written_file o) ≤ length out' → promised (written_file o) ≤ length list'
       → outcome (written_file o) out' list' ≡ leaving (salvaged 0 (length (written_file o)) 0 0 0) (front (written_file o) out') list'
-  salvaging-what-was-salvaged-changes-nothing = a-sound-file-comes-back-byte-for-byte (written_file o) bytes-written what-is-written-is-always-taken-by-the-reader what-is-written-is-of-edition-1
+  salvaging_what_was_salvaged_changes_nothing = a_sound_file_comes_back_byte_for_byte (written_file o) bytes_written what_is_written_is_always_taken_by_the_reader what_is_written_is_of_edition_1
 
 -- a file that is cut off behind its head
 module _ (f : List ℕ) (h : Bytes f) (e : 2 ≤ length f) (n : ℕ) (m : 2 ≤ n) where
   bytes_cut : Bytes (take n f)
   bytes_cut i l = rw (get_or-take n f i 0 (omega (arith, length-take n f, l))) (h i (omega (arith, length-take n f, l)))
 
-  head-cut : 2 ≤ length (take n f)
-  head-cut = omega (arith, length-take n f)
+  head_cut : 2 ≤ length (take n f)
+  head_cut = omega (arith, length-take n f)
 
-  same-promise : promised (take n f) ≡ promised f
-  same-promise = promised-cut f n m
+  same_promise : promised (take n f) ≡ promised f
+  same_promise = promised_cut f n m
 
   cut_off : Cut (n - 2) (in_bytes (come f)) (in_bytes (come (take n f)))
   cut_off =
       let k : n ≡ 2 + (n - 2) = omega arith in
       let d : drop 2 (take n f) ≡ take (n - 2) (drop 2 f) = ap (λ (k : ℕ). drop 2 (take k f)) k ∙ drop-take 2 (n - 2) f in
-      rw (come_by_bytes f, come_by_bytes (take n f), same-promise, d) (arrived_cut (promised f) (n - 2) (drop 2 f))
+      rw (come_by_bytes f, come_by_bytes (take n f), same_promise, d) (arrived_cut (promised f) (n - 2) (drop 2 f))
 
-  pub a-file-that-is-cut-off-yields-the-contours-whose-bytes-are-all-there : (come (take n f)).contours ≡ all_within (n - 2) (come f).contours
-  a-file-that-is-cut-off-yields-the-contours-whose-bytes-are-all-there = cut_off.contours
+  pub a_file_that_is_cut_off_yields_the_contours_whose_bytes_are_all_there : (come (take n f)).contours ≡ all_within (n - 2) (come f).contours
+  a_file_that_is_cut_off_yields_the_contours_whose_bytes_are_all_there = cut_off.contours
 
 -- a file of edition 1 that the reader takes, and that is cut off
 module _ (f : List ℕ) (h : Bytes f) (ok : first_of (R.refusals f) ≡ 0) (first : is_second f ≡ false) (n : ℕ) (m : 2 ≤ n) where
   abbrev there : List Entry
   there = all_within (n - 2) (read f h ok first)
 
-  pub a-sound-file-that-is-cut-off-loses-no-other-contour : (out : List ℕ) (list : List (List ℕ)) → length f ≤ length out → promised f ≤ length list
+  pub a_sound_file_that_is_cut_off_loses_no_other_contour : (out : List ℕ) (list : List (List ℕ)) → length f ≤ length out → promised f ≤ length list
       → outcome (take n f) out list ≡ leaving (salvaged 0 (length (file there)) 0 (length (read f h ok first) - length there) 0) (front (file there) out) list
-  a-sound-file-that-is-cut-off-loses-no-other-contour out list p q =
+  a_sound_file_that_is_cut_off_loses_no_other_contour out list p q =
       let x = headed f h ok first in
       let t = taken f h ok first in
       let g : List ℕ = take n f in
       let b = bytes_cut f h x n m in
-      let hl = head-cut f h x n m in
+      let hl = head_cut f h x n m in
       let c = cut_off f h x n m in
       let is : (come g).contours ≡ there = c.contours ∙ ap (all_within (n - 2)) (sym t.is) in
-      let all = within_kept false (n - 2) (read f h ok first) (each-kept f h ok first) in
+      let all = within_kept false (n - 2) (read f h ok first) (each_kept f h ok first) in
       let number = (come_matched g b).number in
       let all-came = (come_matched f h).number in
       let l : length g ≤ length f = omega (arith, length-take n f) in
       let a : ltb R.most_bytes (length g) ≡ false = le-ltb R.most_bytes (length g) (omega (arith, short f h ok first)) in
-      let hd : Clear (bad_head g) = (le-ltb (length g) 2 hl, (ap (λ (k : ℕ). not (eqb k 1)) (edition-cut f n m) ∙ (head_clear f h ok first).1.0, tt)) in
-      not_refused g out list (a, (hd.0, (hd.1.0, (room_enough (length g) (length out) (promised g) (length list) (omega arith) (omega (arith, same-promise f h x n m)), tt))))
+      let hd : Clear (bad_head g) = (le-ltb (length g) 2 hl, (ap (λ (k : ℕ). not (eqb k 1)) (edition_cut f n m) ∙ (head_clear f h ok first).1.0, tt)) in
+      not_refused g out list (a, (hd.0, (hd.1.0, (room_enough (length g) (length out) (promised g) (length list) (omega arith) (omega (arith, same_promise f h x n m)), tt))))
       ∙ answered_so g out list
       (ap (λ (l : List Entry). file (kept (fates false l) l)) is ∙ ap file (all_kept false there all))
       (ap (λ (l : List Entry). dropped 0 (fates false l)) is ∙ none_dropped false 0 there all)
-      (omega (arith, number, all-came, same-promise f h x n m, t.none_missing, ap length is, ap length t.is))
+      (omega (arith, number, all-came, same_promise f h x n m, t.none_missing, ap length is, ap length t.is))
       (omega (arith, c.past, t.none_past))

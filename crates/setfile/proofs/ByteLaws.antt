@@ -3,7 +3,7 @@ use Rattle.std.proofs.Common.{◌≡◌, ℕ, suc, ◌+◌, ◌*◌, ◌/◌, �
 use borrow.Author.Tests.{lt-leb}
 use Rattle.bits.specs.Bits.{Bytes, bits}
 use Rattle.bits.specs.Signs.{numbers}
-use Rattle.bits.proofs.BitLaws.{taken-below, high_bits, low_bits, bits-length, bits_dropped}
+use Rattle.bits.proofs.BitLaws.{taken_below, high_bits, low_bits, bits-length, bits_dropped}
 use Rattle.setfile.specs.Entries.{Entry, entry}
 use Rattle.setfile.specs.Layouts.{edition_of, promised}
 use Rattle.setfile.specs.Format.{contour_size, contour_in, is_complete, Come, come_next, complete, come}
@@ -17,38 +17,38 @@ module _ (f : List ℕ) (e : 2 ≤ length f) where
   sixteen : 16 ≤ length (bits f)
   sixteen = omega (arith, bits-length f)
 
-  pub pair-below : pair f < 65536
-  pair-below = taken-below 16 (bits f) sixteen
+  pub pair_below : pair f < 65536
+  pair_below = taken_below 16 (bits f) sixteen
 
-  pub starts-by-pair : leb 32768 (pair f) ≡ starts f
-  starts-by-pair = sym (ap (λ (n : ℕ). eqb n 1) (high_bits (bits f) 1 15 sixteen) ∙ go (leb 32768 (pair f)) refl)
+  pub starts_by_pair : leb 32768 (pair f) ≡ starts f
+  starts_by_pair = sym (ap (λ (n : ℕ). eqb n 1) (high_bits (bits f) 1 15 sixteen) ∙ go (leb 32768 (pair f)) refl)
     where
       go : (t : Bool) → leb 32768 (pair f) ≡ t → eqb (pair f / 32768) 1 ≡ t
-      go true g = eq-eqb (pair f / 32768) 1 (omega (arith, leb-true 32768 (pair f) g, pair-below))
+      go true g = eq-eqb (pair f / 32768) 1 (omega (arith, leb-true 32768 (pair f) g, pair_below))
       go false g = ne_eqb (pair f / 32768) 1 (λ z. omega (arith, leb-false 32768 (pair f) g))
 
-  pub held-by-pair : pair f % 32768 ≡ held f
-  held-by-pair = sym (low_bits (bits f) 1 15 sixteen)
+  pub held_by_pair : pair f % 32768 ≡ held f
+  held_by_pair = sym (low_bits (bits f) 1 15 sixteen)
 
   pub held_few : held f ≤ 32767
-  held_few = omega (arith, held-by-pair)
+  held_few = omega (arith, held_by_pair)
 
-  pub edition-by-pair : pair f / 4096 ≡ edition_of f
-  edition-by-pair = sym (high_bits (bits f) 4 12 sixteen)
+  pub edition_by_pair : pair f / 4096 ≡ edition_of f
+  edition_by_pair = sym (high_bits (bits f) 4 12 sixteen)
 
-  pub promised-by-pair : pair f % 4096 ≡ promised f
-  promised-by-pair = sym (low_bits (bits f) 4 12 sixteen)
+  pub promised_by_pair : pair f % 4096 ≡ promised f
+  promised_by_pair = sym (low_bits (bits f) 4 12 sixteen)
 
 -- the contour in front, and what stands behind it
 module _ (f : List ℕ) where
   pub front_is : contour_in (bits f) ≡ front_entry f
   front_is = ap (λ (l : List Bool). entry (starts f) (numbers 32 (2 * held f) l)) (bits_dropped 2 f)
 
-  pub size-in-bytes : contour_size (bits f) ≡ 8 * (2 + 8 * held f)
-  size-in-bytes = omega arith
+  pub size_in_bytes : contour_size (bits f) ≡ 8 * (2 + 8 * held f)
+  size_in_bytes = omega arith
 
   pub behind_it : drop (contour_size (bits f)) (bits f) ≡ bits (drop (2 + 8 * held f) f)
-  behind_it = ap (λ (n : ℕ). drop n (bits f)) size-in-bytes ∙ bits_dropped (2 + 8 * held f) f
+  behind_it = ap (λ (n : ℕ). drop n (bits f)) size_in_bytes ∙ bits_dropped (2 + 8 * held f) f
 
 -- contours that are complete
 leb_eight : (a b m n : ℕ) → m ≡ 8 * a → n ≡ 8 * b → leb m n ≡ leb a b
@@ -65,7 +65,7 @@ complete_there f = go (leb 2 (length f)) refl
     header = leb_eight 2 (length f) 16 (length (bits f)) refl (bits-length f)
 
     go : (t : Bool) → leb 2 (length f) ≡ t → is_complete (bits f) ≡ all_there f
-    go true g = rw (header, g) (leb_eight (2 + 8 * held f) (length f) (contour_size (bits f)) (length (bits f)) (size-in-bytes f) (bits-length f))
+    go true g = rw (header, g) (leb_eight (2 + 8 * held f) (length f) (contour_size (bits f)) (length (bits f)) (size_in_bytes f) (bits-length f))
     go false g = rw (header, g) (sym (lt-leb (2 + 8 * held f) (length f) (omega (arith, leb-false 2 (length f) g))))
 
 next_in_bytes : (t : Bool) (e : Entry) (k : ℕ) (c : Come) → in_bytes (come_next t e k c) ≡ come_next t e k (in_bytes c)

@@ -9,15 +9,15 @@ use Rattle.replies.specs.Ladder.{first_of}
 use Rattle.grid.specs.Domain.{Contour, count}
 use Rattle.replies.proofs.LadderLaws.{clear, first_is}
 use Rattle.replies.proofs.LadderLaws.First.{past, foot}
-use Rattle.grid.proofs.LimitLaws.{all_on_wider, on-grid-in, on-dropped, on-taken}
+use Rattle.grid.proofs.LimitLaws.{all_on_wider, on_grid_in, on_dropped, on_taken}
 use Rattle.buffer.specs.declared.ranges.Span.{Span}
 use Rattle.buffer.specs.Spans.{span, spans, sound, sound_from, size, total, laid}
 use Rattle.buffer.specs.Sets.{cut, joined, contour, contours, shapes, contour_spans, shape_spans, Even}
 use Rattle.buffer.proofs.SpanLaws.{range_within, first_starts, first_forward, others_sound, rises}
 use Rattle.buffer.proofs.SetLaws.{contours_even, sizes_are, sound_laid}
 use Rattle.buffer.proofs.RowLaws.{spans-length}
-use Rattle.buffer.proofs.PartLaws.{names_of, part-contour, contours_at}
-use Rattle.buffer.proofs.Theorems.{a-sound-set's-contours-laid-end-to-end-are-its-points, and-its-ranges-are-theirs, a-sound-set's-shapes-laid-end-to-end-are-its-contours, the_counts_add_up}
+use Rattle.buffer.proofs.PartLaws.{names_of, part_contour, contours_at}
+use Rattle.buffer.proofs.Theorems.{a_sound_set's_contours_laid_end_to_end_are_its_points, and_its_ranges_are_theirs, a_sound_set's_shapes_laid_end_to_end_are_its_contours, the_counts_add_up}
 use Rattle.setfile.specs.Entries.{Entry, contours_of, entries, Gathered, shapes_of}
 use Rattle.setfile.specs.Format.{file-length}
 use Rattle.setfile.specs.Reading.{most_bytes}
@@ -32,14 +32,14 @@ module _ {A B : Type 0} (f : A → B) (P : B → Type 0) where
   each_of [] h = tt
   each_of (a ∷ l) h = (h.0, each_of l h.1)
 
-  of-each : (l : List A) → Each (λ (a : A). P (f a)) l → Each P (map f l)
-  of-each [] h = tt
-  of-each (a ∷ l) h = (h.0, of-each l h.1)
+  of_each : (l : List A) → Each (λ (a : A). P (f a)) l → Each P (map f l)
+  of_each [] h = tt
+  of_each (a ∷ l) h = (h.0, of_each l h.1)
 
 -- what holds of one list holds of another with the same images
 pub each_like : {A B C : Type 0} (f : A → B) (g : C → B) (P : B → Type 0) (k : List C) (l : List A) → map g k ≡ map f l
     → Each (λ (c : C). P (g c)) k → Each (λ (a : A). P (f a)) l
-each_like f g P k l e h = each_of f P l (subst (Each P) e (of-each g P k h))
+each_like f g P k l e h = each_of f P l (subst (Each P) e (of_each g P k h))
 
 -- the tests over spans
 pub none_over : (n : ℕ) (l : List Span) → some_over n l ≡ false → Each (λ (s : Span). size s ≤ n) l
@@ -86,23 +86,23 @@ laid_sizes p (n ∷ sizes) = ap₂ (λ (a : ℕ) (l : List ℕ). a ∷ l) (omega
 
 -- parts cut at sound spans
 module _ {A : Type 0} (a : List A) where
-  cut-sizes : (q : ℕ) (l : List Span) → sound_from q l (length a) ≡ true → map length (map (cut a) l) ≡ map size l
-  cut-sizes q [] e = refl
-  cut-sizes q (s ∷ l) e =
+  cut_sizes : (q : ℕ) (l : List Span) → sound_from q l (length a) ≡ true → map length (map (cut a) l) ≡ map size l
+  cut_sizes q [] e = refl
+  cut_sizes q (s ∷ l) e =
       let o = others_sound q (length a) s l e in
       let f = first_forward q (length a) s l e in
       let r = rises s.end (length a) l o in
-      ap₂ (λ (n : ℕ) (k : List ℕ). n ∷ k) (length-take-le (s.end - s.start) (drop s.start a) (omega (arith, length-drop s.start a))) (cut-sizes s.end l o)
+      ap₂ (λ (n : ℕ) (k : List ℕ). n ∷ k) (length-take-le (s.end - s.start) (drop s.start a) (omega (arith, length-drop s.start a))) (cut_sizes s.end l o)
 
 -- coordinates on the grid are i32
 on_fits : (c : List ℤ) → all_on_grid narrow c ≡ true → Each (SFits w32) c
 unfolding all_on_grid narrow
 on_fits [] e = tt
-on_fits (z ∷ c) e = (in_fits (on-grid-in narrow z (and_left (on_grid narrow z) _ e)) tt, on_fits c (and_right (on_grid narrow z) _ e))
+on_fits (z ∷ c) e = (in_fits (on_grid_in narrow z (and_left (on_grid narrow z) _ e)) tt, on_fits c (and_right (on_grid narrow z) _ e))
 
 contours_fit : (p : List ℤ) (l : List Span) → all_on_grid narrow p ≡ true → Each (Each (SFits w32)) (contours p l)
 contours_fit p [] e = tt
-contours_fit p (s ∷ l) e = (on_fits (contour p s) (on-taken narrow (2 * s.end - 2 * s.start) (drop (2 * s.start) p) (on-dropped narrow (2 * s.start) p e)), contours_fit p l e)
+contours_fit p (s ∷ l) e = (on_fits (contour p s) (on_taken narrow (2 * s.end - 2 * s.start) (drop (2 * s.start) p) (on_dropped narrow (2 * s.start) p e)), contours_fit p l e)
 
 -- exactly these sets are not refused
 module _ (p : List ℤ) (cs ss : List (List ℕ)) where
@@ -161,50 +161,50 @@ module _ (bound : ℕ) (p : List ℤ) (cs ss : List (List ℕ)) (h : Regular bou
   abbrev all_entries : List Entry
   all_entries = entries (shapes p (spans cs) (spans ss))
 
-  pub regular-contours : contours_of all_entries ≡ contours p (spans cs)
-  regular-contours =
+  pub regular_contours : contours_of all_entries ≡ contours p (spans cs)
+  regular_contours =
       contours_entries (shapes p (spans cs) (spans ss))
-      ∙ a-sound-set's-shapes-laid-end-to-end-are-its-contours p (spans cs) (spans ss) h.even h.contours (rw (spans-length cs) h.shapes)
+      ∙ a_sound_set's_shapes_laid_end_to_end_are_its_contours p (spans cs) (spans ss) h.even h.contours (rw (spans-length cs) h.shapes)
 
-  pub regular-even : Even (contours p (spans cs))
-  regular-even = contours_even p 0 (spans cs) h.even h.contours
+  pub regular_even : Even (contours p (spans cs))
+  regular_even = contours_even p 0 (spans cs) h.even h.contours
 
-  pub regular-short : Short (contours p (spans cs))
-  regular-short =
+  pub regular_short : Short (contours p (spans cs))
+  regular_short =
       each_like count size (λ (n : ℕ). n ≤ most_points) (spans cs) (contours p (spans cs)) (sym (sizes_are p 0 (spans cs) h.even h.contours)) h.short
 
-  pub regular-count : length all_entries ≡ length cs
-  regular-count =
-      sym (length-map all_entries (λ (e : Entry). e.points)) ∙ ap length regular-contours ∙ length-map (spans cs) (contour p) ∙ spans-length cs
+  pub regular_count : length all_entries ≡ length cs
+  regular_count =
+      sym (length-map all_entries (λ (e : Entry). e.points)) ∙ ap length regular_contours ∙ length-map (spans cs) (contour p) ∙ spans-length cs
 
-  pub regular-total : total (map count (contours p (spans cs))) ≡ count p
-  regular-total =
-      sym (the_counts_add_up (contours p (spans cs)) regular-even)
-      ∙ ap count (a-sound-set's-contours-laid-end-to-end-are-its-points p (spans cs) h.even h.contours)
+  pub regular_total : total (map count (contours p (spans cs))) ≡ count p
+  regular_total =
+      sym (the_counts_add_up (contours p (spans cs)) regular_even)
+      ∙ ap count (a_sound_set's_contours_laid_end_to_end_are_its_points p (spans cs) h.even h.contours)
 
   grouped : sound (spans ss) (length (spans cs)) ≡ true
   grouped = rw (spans-length cs) h.shapes
 
-  shape-sizes : map length (shapes p (spans cs) (spans ss)) ≡ map size (spans ss)
-  shape-sizes = cut-sizes (contours p (spans cs)) 0 (spans ss) (rw (length-map (spans cs) (contour p)) grouped)
+  shape_sizes : map length (shapes p (spans cs) (spans ss)) ≡ map size (spans ss)
+  shape_sizes = cut_sizes (contours p (spans cs)) 0 (spans ss) (rw (length-map (spans cs) (contour p)) grouped)
 
-  filled-shapes : Filled (shapes p (spans cs) (spans ss))
-  filled-shapes = each_like length size (λ (n : ℕ). 0 < n) (spans ss) (shapes p (spans cs) (spans ss)) (sym shape-sizes) h.filled
+  filled_shapes : Filled (shapes p (spans cs) (spans ss))
+  filled_shapes = each_like length size (λ (n : ℕ). 0 < n) (spans ss) (shapes p (spans cs) (spans ss)) (sym shape_sizes) h.filled
 
-  pub regular-started : Started all_entries
-  regular-started = entries_started (shapes p (spans cs) (spans ss)) filled-shapes
+  pub regular_started : Started all_entries
+  regular_started = entries_started (shapes p (spans cs) (spans ss)) filled_shapes
 
   -- its points and its ranges
-  pub regular-points : joined (contours_of all_entries) ≡ p
-  regular-points = ap joined regular-contours ∙ a-sound-set's-contours-laid-end-to-end-are-its-points p (spans cs) h.even h.contours
+  pub regular_points : joined (contours_of all_entries) ≡ p
+  regular_points = ap joined regular_contours ∙ a_sound_set's_contours_laid_end_to_end_are_its_points p (spans cs) h.even h.contours
 
-  pub regular-ranges : contour_spans (contours_of all_entries) ≡ spans cs
-  regular-ranges = ap contour_spans regular-contours ∙ and-its-ranges-are-theirs p (spans cs) h.even h.contours
+  pub regular_ranges : contour_spans (contours_of all_entries) ≡ spans cs
+  regular_ranges = ap contour_spans regular_contours ∙ and_its_ranges_are_theirs p (spans cs) h.even h.contours
 
-  pub regular-groups : shape_spans (shapes_of all_entries) ≡ spans ss
-  regular-groups =
-      ap (λ (g : Gathered). shape_spans g.shapes) (gathered_entries (shapes p (spans cs) (spans ss)) filled-shapes)
-      ∙ ap (laid 0) shape-sizes ∙ sound_laid 0 (length (spans cs)) (spans ss) grouped
+  pub regular_groups : shape_spans (shapes_of all_entries) ≡ spans ss
+  regular_groups =
+      ap (λ (g : Gathered). shape_spans g.shapes) (gathered_entries (shapes p (spans cs) (spans ss)) filled_shapes)
+      ∙ ap (laid 0) shape_sizes ∙ sound_laid 0 (length (spans cs)) (spans ss) grouped
 
   -- its ranges name contours that a file can count, and its shapes end within them
   module _ (within : bound ≤ limit) where
@@ -212,10 +212,10 @@ module _ (bound : ℕ) (p : List ℤ) (cs ss : List (List ℕ)) (h : Regular bou
     all_named k l =
         let n = names_of p cs k h.even h.contours l in
         let d : Contour p (count p) = record { even = h.even; few = h.within; on = all_on_wider bound limit p within h.on } in
-        let c = part-contour p cs k d n in
+        let c = part_contour p cs k d n in
         let m : length (contours p (spans cs)) ≡ length cs = length-map (spans cs) (contour p) ∙ spans-length cs in
-        let s : count (contour p (span (get_or cs k []))) ≤ most_points = rw (contours_at p cs k l) at (each_at (λ (c : List ℤ). count c ≤ most_points) (contours p (spans cs)) regular-short k [] (omega arith)) in
+        let s : count (contour p (span (get_or cs k []))) ≤ most_points = rw (contours_at p cs k l) at (each_at (λ (c : List ℤ). count c ≤ most_points) (contours p (spans cs)) regular_short k [] (omega arith)) in
         (n, record { even = c.even; short = s; on = c.on })
 
-    pub all-grouped : Grouped ss (length cs)
-    all-grouped i l = (range_within ss (length cs) i h.shapes l).ends
+    pub all_grouped : Grouped ss (length cs)
+    all_grouped i l = (range_within ss (length cs) i h.shapes l).ends

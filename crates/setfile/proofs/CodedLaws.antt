@@ -11,11 +11,11 @@ use Rattle.bits.proofs.WordLaws.{spelled-length, padded_field}
 use Rattle.bits.proofs.SignLaws.{unsigned_word}
 use Rattle.steps.specs.Steps.{differences}
 use Rattle.steps.specs.Bodies.{contour_width, body}
-use Rattle.steps.proofs.BodyLaws.{width-within-32}
+use Rattle.steps.proofs.BodyLaws.{width_within_32}
 use Rattle.buffer.specs.Spans.{span, spans, total}
 use Rattle.buffer.specs.Sets.{joined, cut, contour, contours, shapes, Even}
 use Rattle.buffer.proofs.PartLaws.{contours_at}
-use Rattle.rows.proofs.PlacedLaws.{placed-long}
+use Rattle.rows.proofs.PlacedLaws.{placed_long}
 use Rattle.setfile.specs.Entries.{Entry, entry, contours_of, shape_entries, entries}
 use Rattle.setfile.specs.Layouts.{Layout, all_coded, file_bits}
 use Rattle.setfile.specs.Format.{contour_bits, edition_1, file-length, file}
@@ -47,15 +47,15 @@ coordinates_next z c =
 
 -- the coordinates from number i on: the next of them, or none
 module _ (c : List ℤ) (i : ℕ) where
-  pub next-coordinate : {n : ℕ} → n ≡ of_z w32 (to_z w32 (of_z w32 (get_or c i (pos 0)))) → mag (get_or c i (pos 0)) < 2 ^ 31 → i < length c
+  pub next_coordinate : {n : ℕ} → n ≡ of_z w32 (to_z w32 (of_z w32 (get_or c i (pos 0)))) → mag (get_or c i (pos 0)) < 2 ^ 31 → i < length c
       → Parted (coded_coordinates (drop i c)) (spelled 4 n) (coded_coordinates (drop (i + 1) c))
-  next-coordinate {n} e f h =
+  next_coordinate {n} e f h =
       let z : n ≡ of_z w32 (get_or c i (pos 0)) = e ∙ ap (of_z w32) (to_z-of_z {w = w32} {z = get_or c i (pos 0)} (record { sfits = f })) in
       record { is = rw (drop-cons c i (pos 0) h, add-one i, z) (coordinates_next (get_or c i (pos 0)) (drop (suc i) c)) }
 
-  pub no-coordinate : length c ≤ i → coded_coordinates (drop i c) ≡ []
+  pub no_coordinate : length c ≤ i → coded_coordinates (drop i c) ≡ []
   unfolding fields
-  no-coordinate h = rw (drop_of_length-le c {i = i} h) padded_none
+  no_coordinate h = rw (drop_of_length-le c {i = i} h) padded_none
 
 -- the header of a contour in bytes: its two fields are one number of two
 abbrev header : Entry → List ℕ
@@ -69,25 +69,25 @@ whole_bytes e = contour-length e ∙ omega arith
 
 -- a contour that is put: there is room for its header, and behind that for its coordinates
 module _ (e : Entry) (at : ℕ) (row : List ℕ) (short : count e.points ≤ most_points) (h : Room at (coded_contour e) row) where
-  both-room : Room at (header e ++ coded_coordinates e.points) row
-  both-room = rw (coded_contour_is e short) at h
+  both_room : Room at (header e ++ coded_coordinates e.points) row
+  both_room = rw (coded_contour_is e short) at h
 
-  pub header-room : Room at (header e) row
-  header-room = omega (arith, both-room, length-append (header e) (coded_coordinates e.points))
+  pub header_room : Room at (header e) row
+  header_room = omega (arith, both_room, length-append (header e) (coded_coordinates e.points))
 
   module _ {b : ℕ} {mid : List ℕ} (p : Put at (header e) row b mid) where
-    pub coordinates-room : Room b (coded_coordinates e.points) mid
-    coordinates-room =
+    pub coordinates_room : Room b (coded_coordinates e.points) mid
+    coordinates_room =
         omega (
           arith,
-          both-room,
+          both_room,
           length-append (header e) (coded_coordinates e.points),
           p.behind,
-          ap length p.is ∙ placed-long row at (header e) header-room,
+          ap length p.is ∙ placed_long row at (header e) header_room,
         )
 
-    pub contour-put : {c : ℕ} {exit : List ℕ} → Put b (coded_coordinates e.points) mid c exit → Put at (coded_contour e) row c exit
-    contour-put q = rw (coded_contour_is e short) (both_put both-room p q)
+    pub contour_put : {c : ℕ} {exit : List ℕ} → Put b (coded_coordinates e.points) mid c exit → Put at (coded_contour e) row c exit
+    contour_put q = rw (coded_contour_is e short) (both_put both_room p q)
 
 -- contours in bytes, and one more in front
 pub none_coded : coded_contours [] ≡ []
@@ -138,37 +138,37 @@ coded-append y (e ∷ a) b =
 
 -- a shape's contours from number k to number n, of which the first is number `from`: the next of them, or none
 module _ (y : Layout) (p : List ℤ) (cs : List (List ℕ)) (from k n : ℕ) where
-  next-between : k < n → k < length cs → between p cs k n ≡ contour p (span (get_or cs k [])) ∷ between p cs (k + 1) n
-  next-between h g =
+  next_between : k < n → k < length cs → between p cs k n ≡ contour p (span (get_or cs k [])) ∷ between p cs (k + 1) n
+  next_between h g =
       let l : List (List ℤ) = contours p (spans cs) in
       let m : length l ≡ length cs = length-map (spans cs) (contour p) ∙ length-map cs span in
       let d : n - k ≡ suc (n - (k + 1)) = omega arith in
       rw (d, drop-cons l k [] (omega arith), contours_at p cs k g, add-one k)
 
-  pub next-contour : from ≤ k → k < n → k < length cs → (c : List ℤ) → c ≡ contour p (span (get_or cs k []))
+  pub next_contour : from ≤ k → k < n → k < length cs → (c : List ℤ) → c ≡ contour p (span (get_or cs k []))
       → Parted (all_coded y (marked (eqb k from) (between p cs k n))) (y.coded (entry (eqb k from) c)) (all_coded y (marked (eqb (k + 1) from) (between p cs (k + 1) n)))
   unfolding joined
-  next-contour f h g c e =
+  next_contour f h g c e =
       let b : eqb (k + 1) from ≡ false = ne_eqb (k + 1) from (λ z. omega arith) in
       record {
         is =
-            rw (next-between h g, e, b)
+            rw (next_between h g, e, b)
             (ap (λ (l : List Entry). y.coded (entry (eqb k from) (contour p (span (get_or cs k [])))) ++ all_coded y l) (others_follow (between p cs (k + 1) n)));
       }
 
-  pub no-contour : n ≤ k → all_coded y (marked (eqb k from) (between p cs k n)) ≡ []
+  pub no_contour : n ≤ k → all_coded y (marked (eqb k from) (between p cs k n)) ≡ []
   unfolding joined
-  no-contour h = let z : n - k ≡ 0 = omega arith in rw z
+  no_contour h = let z : n - k ≡ 0 = omega arith in rw z
 
 pub first_contour : (y : Layout) (p : List ℤ) (cs : List (List ℕ)) (from n : ℕ) → all_coded y (marked (eqb from from) (between p cs from n)) ≡ all_coded y (shape_entries (between p cs from n))
 first_contour y p cs from n = rw (eq-eqb from from refl) (ap (all_coded y) (first_begins (between p cs from n)))
 
 -- the shapes from number i on: the next of them, or none
 module _ (second : Bool) (p : List ℤ) (cs ss : List (List ℕ)) (i : ℕ) where
-  pub next-shape : i < length ss
+  pub next_shape : i < length ss
       → Parted (shapes_bits second p cs (drop i ss)) (shape_bits second p cs (get_or (get_or ss i []) 0 0) (get_or (get_or ss i []) 1 0)) (shapes_bits second p cs (drop (i + 1) ss))
   unfolding joined
-  next-shape h = record {
+  next_shape h = record {
     is =
         rw (drop-cons ss i [] h, add-one i)
         (coded-append (layout second) (shape_entries (cut (contours p (spans cs)) (span (get_or ss i [])))) (entries (shapes p (spans cs) (spans (drop (suc i) ss)))));
@@ -184,7 +184,7 @@ header_2 e = digit e.begins * 2097152 + (count e.points * 64 + contour_width e.p
 
 module _ (e : Entry) (short : count e.points ≤ most_points) where
   width_small : contour_width e.points < 64
-  width_small = omega (arith, width-within-32 (differences e.points))
+  width_small = omega (arith, width_within_32 (differences e.points))
 
   pub header_small : header_2 e < 2 ^ 22
   header_small = omega (arith, width_small, digit_below e.begins)

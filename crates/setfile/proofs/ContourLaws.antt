@@ -6,11 +6,11 @@ use Rattle.grid.specs.Domain.{count}
 use Rattle.bits.specs.Bits.{bits}
 use Rattle.bits.specs.Signs.{numbers}
 use Rattle.bits.specs.Widths.{width_of}
-use Rattle.bits.proofs.BitLaws.{bits-length, bits_dropped, taken-below}
+use Rattle.bits.proofs.BitLaws.{bits-length, bits_dropped, taken_below}
 use Rattle.bits.proofs.SignLaws.{numbers-length}
 use Rattle.steps.specs.Bodies.{body_size, steps_in, points_of_width}
 use Rattle.steps.specs.inside.Asked.{Width}
-use Rattle.steps.proofs.BodyLaws.{points-length, width_some, width-within-32}
+use Rattle.steps.proofs.BodyLaws.{points-length, width_some, width_within_32}
 use Rattle.setfile.specs.declared.inner.headers.Header.{Header}
 use Rattle.setfile.specs.Entries.{entry}
 use Rattle.setfile.specs.Format.{begins, points_in}
@@ -19,7 +19,7 @@ use Rattle.setfile.specs.Editions.{layout}
 use Rattle.setfile.specs.inside.Bytes.{decoded}
 use Rattle.steps.specs.inside.Asked.{Stands}
 use Rattle.setfile.specs.inside.Reading.{from_bit, At, header_size, number_width, header_in, size_of, front_points, Whole}
-use Rattle.setfile.proofs.EditionLaws.{clear_begun, count-short}
+use Rattle.setfile.proofs.EditionLaws.{clear_begun, count_short}
 
 pub size_is : (s : Bool) (l : List Bool) → (layout s).size l ≡ size_of s (header_in s l)
 size_is true l = refl
@@ -47,14 +47,14 @@ module _ (s : Bool) (l : List Bool) (h : header_size s ≤ length l) where
   points_few = go s h
     where
       go : (s : Bool) → header_size s ≤ length l → points_in l ≤ 32767
-      go true h = count-short l (omega arith)
-      go false h = count-short l (omega arith)
+      go true h = count_short l (omega arith)
+      go false h = count_short l (omega arith)
 
   pub width_few : number_width s l ≤ 63
   width_few = go s h
     where
       go : (s : Bool) → header_size s ≤ length l → number_width s l ≤ 63
-      go true h = omega (arith, taken-below 6 (drop 16 l) (omega (arith, length-drop 16 l)))
+      go true h = omega (arith, taken_below 6 (drop 16 l) (omega (arith, length-drop 16 l)))
       go false h = omega arith
 
 pub header_small : (s : Bool) (l : List Bool) → header_size s ≤ length l → (h : Header) → h ≡ header_in s l → (h.count ≤ 32767) × (h.width ≤ 63)
@@ -86,7 +86,7 @@ right true first n l e =
       headed = ltb-false _ _ c.0;
       ends = ltb-false _ _ c.1.1.1.0;
       begun = clear_begun first (begins l) c.1.0;
-      wide = λ z. record { some = some; few = rw w (width-within-32 (steps_in (points_in l) (width_in l) (drop 22 l))) };
+      wide = λ z. record { some = some; few = rw w (width_within_32 (steps_in (points_in l) (width_in l) (drop 22 l))) };
       counted = omega (arith, many (points_in l) (width_in l) some);
       some = omega arith;
     }
@@ -124,14 +124,14 @@ module _ {s : Bool} {f : List ℕ} {at : ℕ} (here : At s f at) where
 
 -- a contour that is all there, by its header
 module _ {s : Bool} {f : List ℕ} {at : ℕ} (w : Whole s f at) where
-  pub whole-headed : header_size s ≤ length (from_bit f at)
-  whole-headed = omega (arith, from-length f at w.here.within, w.headed)
+  pub whole_headed : header_size s ≤ length (from_bit f at)
+  whole_headed = omega (arith, from-length f at w.here.within, w.headed)
 
-  pub whole-small : (h : Header) → h ≡ header_in s (from_bit f at) → (h.count ≤ 32767) × (h.width ≤ 63)
-  whole-small = header_small s (from_bit f at) whole-headed
+  pub whole_small : (h : Header) → h ≡ header_in s (from_bit f at) → (h.count ≤ 32767) × (h.width ≤ 63)
+  whole_small = header_small s (from_bit f at) whole_headed
 
-  pub whole-ends : (h : Header) → h ≡ header_in s (from_bit f at) → (z : ℕ) → z ≡ size_of s h → at + z ≤ 8 * length f
-  whole-ends h e z q = omega (arith, w.ends, size_is s (from_bit f at) ∙ ap (size_of s) (sym e) ∙ sym q)
+  pub whole_ends : (h : Header) → h ≡ header_in s (from_bit f at) → (z : ℕ) → z ≡ size_of s h → at + z ≤ 8 * length f
+  whole_ends h e z q = omega (arith, w.ends, size_is s (from_bit f at) ∙ ap (size_of s) (sym e) ∙ sym q)
 
 -- the position behind a contour
 pub behind : {s : Bool} {f : List ℕ} {at : ℕ} → Whole s f at → At s f (at + (layout s).size (from_bit f at))
@@ -182,7 +182,7 @@ second_there {s} {f} {at} w {h} e z = go s z w e
         let v : h.width ≡ width_in l = ap (λ (h : Header). h.width) e in
         let b : body_size h.count h.width ≡ body_size (points_in l) (width_in l) = ap₂ body_size k v in
         record {
-          stands = record { few = (whole-small w h e).0; short = w.here.short; room = omega (arith, b, w.ends) };
+          stands = record { few = (whole_small w h e).0; short = w.here.short; room = omega (arith, b, w.ends) };
           width = rw v (w.wide refl);
           points = ap₂ (λ (n i : ℕ). points_of_width n i (from_bit f (at + 22))) k v ∙ ap (points_of_width (points_in l) (width_in l)) (sym (drop-drop 22 at (bits f)));
         }

@@ -8,16 +8,16 @@ use Rattle.grid.specs.Domain.{count}
 use Rattle.bits.specs.Bits.{digit, value, field}
 use Rattle.bits.specs.Signs.{all_fit, fields}
 use Rattle.bits.specs.Widths.{width_of}
-use Rattle.bits.proofs.BitLaws.{field-length, front-value, front-gone, field_back}
+use Rattle.bits.proofs.BitLaws.{field-length, front_value, front_gone, field_back}
 use Rattle.steps.specs.Steps.{differences}
 use Rattle.steps.specs.Bodies.{contour_width, body, body_size, steps_in, points_of_width}
-use Rattle.steps.proofs.BodyLaws.{body-length, steps_back, points_back, points-length, points-steps, body_back, point-fits, steps-fit, width_some, width-within-32, width-fitting}
+use Rattle.steps.proofs.BodyLaws.{body-length, steps_back, points_back, points-length, points_steps, body_back, point_fits, steps_fit, width_some, width_within_32, width_fitting}
 use Rattle.setfile.specs.Entries.{Entry, entry}
 use Rattle.setfile.specs.Format.{begins, points_in}
 use Rattle.setfile.specs.Edition2.{contour_bits, width_in, contour_size, edition_2}
 use Rattle.setfile.specs.Writing.{most_points}
 use Rattle.setfile.proofs.LayoutLaws.{Back, Forth, Faithful}
-use Rattle.setfile.proofs.EditionLaws.{begun_clear, clear_begun, begins-back, count-back, head-gone, count-short, head-back}
+use Rattle.setfile.proofs.EditionLaws.{begun_clear, clear_begun, begins_back, count_back, head_gone, count_short, head_back}
 
 -- a contour that edition 2 can hold, behind n points
 pub record Held (first : Bool) (n : ℕ) (e : Entry) : Type 0 where
@@ -48,19 +48,19 @@ back first n e more g =
     let p : List ℤ = e.points in
     let w : ℕ = contour_width p in
     let some : 0 < w = width_some (differences p) in
-    let within_32 : w ≤ 32 = width-within-32 (differences p) in
-    let fit : all_fit w (differences p) ≡ true = width-fitting (differences p) g.near in
+    let within_32 : w ≤ 32 = width_within_32 (differences p) in
+    let fit : all_fit w (differences p) ≡ true = width_fitting (differences p) g.near in
     let rest : List Bool = body p ++ more in
     let whole : List Bool = contour_bits e ++ more in
     let a : contour_bits e ++ more ≡ field 1 (digit e.begins) ++ (field 15 (count p) ++ (field 6 w ++ rest)) =
     append_assoc (field 1 (digit e.begins)) (field 15 (count p) ++ (field 6 w ++ body p)) more
     ∙ ap (λ (l : List Bool). field 1 (digit e.begins) ++ l)
     (append_assoc (field 15 (count p)) (field 6 w ++ body p) more ∙ ap (λ (l : List Bool). field 15 (count p) ++ l) (append_assoc (field 6 w) (body p) more)) in
-    let b : begins whole ≡ e.begins = ap begins a ∙ begins-back e.begins (count p) (field 6 w ++ rest) g.short in
-    let h : points_in whole ≡ count p = ap points_in a ∙ count-back e.begins (count p) (field 6 w ++ rest) g.short in
-    let d : drop 16 whole ≡ field 6 w ++ rest = ap (drop 16) a ∙ head-gone e.begins (count p) (field 6 w ++ rest) g.short in
-    let v : width_in whole ≡ w = ap (λ (l : List Bool). value (take 6 l)) d ∙ front-value 6 w rest (omega arith) in
-    let z : drop 22 whole ≡ rest = sym (drop-drop 6 16 whole) ∙ ap (drop 6) d ∙ front-gone 6 w rest in
+    let b : begins whole ≡ e.begins = ap begins a ∙ begins_back e.begins (count p) (field 6 w ++ rest) g.short in
+    let h : points_in whole ≡ count p = ap points_in a ∙ count_back e.begins (count p) (field 6 w ++ rest) g.short in
+    let d : drop 16 whole ≡ field 6 w ++ rest = ap (drop 16) a ∙ head_gone e.begins (count p) (field 6 w ++ rest) g.short in
+    let v : width_in whole ≡ w = ap (λ (l : List Bool). value (take 6 l)) d ∙ front_value 6 w rest (omega arith) in
+    let z : drop 22 whole ≡ rest = sym (drop-drop 6 16 whole) ∙ ap (drop 6) d ∙ front_gone 6 w rest in
     let own : length (contour_bits e) ≡ 22 + body_size (count p) w = contour_bits_length e g.even in
     let long : length whole ≡ length (contour_bits e) + length more = length-append (contour_bits e) more in
     let s : contour_size whole ≡ 22 + body_size (count p) w = ap₂ (λ (m k : ℕ). 22 + body_size m k) h v in
@@ -94,11 +94,11 @@ forth first n l e =
     let s : 22 + body_size k w ≤ length l = ltb-false (length l) (22 + body_size k w) c.1.1.1.0 in
     let u : w ≡ width_of (steps_in k w t) = eqb-true w (width_of (steps_in k w t)) (not-false _ c.1.1.1.1.0) in
     let some : 0 < w = rw u (width_some (steps_in k w t)) in
-    let within_32 : w ≤ 32 = rw u (width-within-32 (steps_in k w t)) in
+    let within_32 : w ≤ 32 = rw u (width_within_32 (steps_in k w t)) in
     let room : body_size k w ≤ length t = omega (arith, length-drop 22 l) in
     let m : length p ≡ 2 * k = points-length w t k in
     let q : count p ≡ k = omega (arith, m) in
-    let ds : differences p ≡ steps_in k w t = points-steps w t k in
+    let ds : differences p ≡ steps_in k w t = points_steps w t k in
     let v : contour_width p ≡ w = ap width_of ds ∙ sym u in
     let f : field 6 (contour_width p) ++ body p ≡ take (6 + body_size k w) (drop 16 l) =
     ap₂ (λ (i : ℕ) (r : List ℤ). field 6 i ++ (fields 32 (take 2 p) ++ fields i r)) v ds
@@ -108,15 +108,15 @@ forth first n l e =
     record {
       held = record {
         even = omega (arith, m);
-        short = omega (arith, q, count-short l headed);
+        short = omega (arith, q, count_short l headed);
         begun = clear_begun first (begins l) c.1.0;
         few = omega (arith, q, ltb-false most (n + k) c.1.1.0);
-        point = point-fits w t k room;
-        near = rw ds (steps-fit w t k some within_32 room);
+        point = point_fits w t k room;
+        near = rw ds (steps_fit w t k some within_32 room);
       };
       same =
           ap (λ (i : ℕ). field 1 (digit (begins l)) ++ (field 15 i ++ (field 6 (contour_width p) ++ body p))) q
-          ∙ head-back l headed (6 + body_size k w) (field 6 (contour_width p) ++ body p) f
+          ∙ head_back l headed (6 + body_size k w) (field 6 (contour_width p) ++ body p) f
           ∙ ap (λ (i : ℕ). take i l) z;
     }
 

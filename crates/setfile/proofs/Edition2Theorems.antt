@@ -4,7 +4,7 @@ use lib.ListN.{length-map}
 use Rattle.replies.specs.Ladder.{first_of}
 use Rattle.replies.proofs.LadderLaws.{first_is, clear, cleared, stopped, onward}
 use Rattle.replies.proofs.LadderLaws.First.{past, foot}
-use Rattle.replies.proofs.OneOutcome.{Determined, by-its-definition, four}
+use Rattle.replies.proofs.OneOutcome.{Determined, by_its_definition, four}
 use Rattle.grid.specs.Limits.{limit}
 use Rattle.grid.specs.Domain.{count}
 use Rattle.steps.specs.Bodies.{contour_width, body_size}
@@ -20,18 +20,18 @@ use Rattle.setfile.specs.Writing.{most_points, some_over, leaving}
 use Rattle.setfile.specs.Writing2.{file_of, set_refusals, refusals}
 use Rattle.setfile.specs.Promises.{Each, Regular}
 use Rattle.setfile.specs.inside.Writing.{written_size}
-use Rattle.setfile.proofs.CarryLaws.{each_like, regular-total}
+use Rattle.setfile.proofs.CarryLaws.{each_like, regular_total}
 use Rattle.setfile.proofs.MeasureLaws.{size_within}
-use Rattle.setfile.proofs.Outcome2Laws.{both_sound, regular-set, set_free, set_long, too-long-contour}
+use Rattle.setfile.proofs.Outcome2Laws.{both_sound, regular-set, set_free, set_long, too_long_contour}
 use Rattle.setfile.proofs.writing_2.write_2.Reads as write-2·contract
 
 -- any two outcomes that the contract of `write_2` allows are identical
 pub a_set_is_written_in_one_way : Determined write-2·contract.Learnt (λ κs r e. four e (λ points contours shapes bytes. leaving r.reply r.bytes bytes.now))
-a_set_is_written_in_one_way = by-its-definition _ (λ κs a r e h. h)
+a_set_is_written_in_one_way = by_its_definition _ (λ κs a r e h. h)
 
 module _ (p : List ℤ) (cs ss : List (List ℕ)) where
-  pub edition-2-can-carry : (first_of (refusals p cs ss) ≡ 0) ↔ (Regular limit p cs ss × (length (file_of p cs ss) ≤ most_bytes))
-  edition-2-can-carry = (there, back)
+  pub edition_2_can_carry : (first_of (refusals p cs ss) ≡ 0) ↔ (Regular limit p cs ss × (length (file_of p cs ss) ≤ most_bytes))
+  edition_2_can_carry = (there, back)
     where
       n : ℕ
       n = length (file_of p cs ss)
@@ -45,9 +45,9 @@ module _ (p : List ℤ) (cs ss : List (List ℕ)) where
       back h = sym (first_is _ 0 (onward (set_refusals p cs ss) (long n) 0 tt (set_free p cs ss h.0) (past (le-ltb most_bytes n h.1) foot)))
 
   -- over 32,767 points in a contour are 12, however long the file would be
-  pub a-long-contour-cannot-be-carried : first_of (set limit p (both_sound p cs ss)) ≡ 0 → some_over most_points (spans cs) ≡ true → first_of (refusals p cs ss) ≡ 12
-  a-long-contour-cannot-be-carried e over =
-      sym (first_is _ 12 (stopped (set_refusals p cs ss) (long (length (file_of p cs ss))) 12 (too-long-contour p cs ss e over) (λ z. omega arith)))
+  pub a_long_contour_cannot_be_carried : first_of (set limit p (both_sound p cs ss)) ≡ 0 → some_over most_points (spans cs) ≡ true → first_of (refusals p cs ss) ≡ 12
+  a_long_contour_cannot_be_carried e over =
+      sym (first_is _ 12 (stopped (set_refusals p cs ss) (long (length (file_of p cs ss))) 12 (too_long_contour p cs ss e over) (λ z. omega arith)))
 
 -- contours at the most, and those of which none has a step
 all_within : (l : List (List ℤ)) → total (map written_size l) ≤ 22 * length l + 64 * total (map count l)
@@ -67,10 +67,10 @@ module _ (p : List ℤ) (cs ss : List (List ℕ)) (h : Regular limit p cs ss) wh
   number : length (contours p (spans cs)) ≡ length cs
   number = length-map (spans cs) (contour p) ∙ spans-length cs
 
-  pub six-bits-a-contour-at-the-most : length (file_of p cs ss) ≤ file-length (length cs) (count p) + (6 * length cs + 7) / 8
-  six-bits-a-contour-at-the-most = omega (arith, set_long p cs ss h, all_within (contours p (spans cs)), number, regular-total limit p cs ss h)
+  pub six_bits_a_contour_at_the_most : length (file_of p cs ss) ≤ file-length (length cs) (count p) + (6 * length cs + 7) / 8
+  six_bits_a_contour_at_the_most = omega (arith, set_long p cs ss h, all_within (contours p (spans cs)), number, regular_total limit p cs ss h)
 
-  pub and-just-these-where-no-contour-has-two-points : Each (λ (s : Span). size s ≤ 1) (spans cs) → length (file_of p cs ss) ≡ file-length (length cs) (count p) + (6 * length cs + 7) / 8
-  and-just-these-where-no-contour-has-two-points lone =
+  pub and_just_these_where_no_contour_has_two_points : Each (λ (s : Span). size s ≤ 1) (spans cs) → length (file_of p cs ss) ≡ file-length (length cs) (count p) + (6 * length cs + 7) / 8
+  and_just_these_where_no_contour_has_two_points lone =
       let e = each_like count size (λ (n : ℕ). n ≤ 1) (spans cs) (contours p (spans cs)) (sym (sizes_are p 0 (spans cs) h.even h.contours)) lone in
-      omega (arith, set_long p cs ss h, all_points (contours p (spans cs)) e, number, regular-total limit p cs ss h)
+      omega (arith, set_long p cs ss h, all_points (contours p (spans cs)) e, number, regular_total limit p cs ss h)

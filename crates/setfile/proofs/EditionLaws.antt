@@ -5,7 +5,7 @@ use Rattle.replies.proofs.LadderLaws.First.{past, foot}
 use Rattle.grid.specs.Domain.{count}
 use Rattle.bits.specs.Bits.{digit, value, field}
 use Rattle.bits.specs.Signs.{all_fit, fields, numbers}
-use Rattle.bits.proofs.BitLaws.{digit_below, bit_digit, digit_bit, field-length, front-value, front-gone, field_back, taken-below}
+use Rattle.bits.proofs.BitLaws.{digit_below, bit_digit, digit_bit, field-length, front_value, front_gone, field_back, taken_below}
 use Rattle.bits.proofs.SignLaws.{fields-length, numbers-length, numbers_fields, fields_numbers, numbers_fit}
 use Rattle.setfile.specs.Entries.{Entry, entry}
 use Rattle.setfile.specs.Format.{contour_bits, begins, points_in, contour_size, edition_1}
@@ -27,25 +27,25 @@ module _ (b : Bool) (n : ℕ) (more : List Bool) (short : n ≤ most_points) whe
   abbrev headed : List Bool
   headed = field 1 (digit b) ++ (field 15 n ++ more)
 
-  pub begins-back : begins headed ≡ b
-  begins-back = ap (λ (m : ℕ). eqb m 1) (front-value 1 (digit b) (field 15 n ++ more) (digit_below b)) ∙ bit_digit b
+  pub begins_back : begins headed ≡ b
+  begins_back = ap (λ (m : ℕ). eqb m 1) (front_value 1 (digit b) (field 15 n ++ more) (digit_below b)) ∙ bit_digit b
 
-  pub count-back : points_in headed ≡ n
-  count-back = ap (λ (l : List Bool). value (take 15 l)) (front-gone 1 (digit b) (field 15 n ++ more)) ∙ front-value 15 n more (omega arith)
+  pub count_back : points_in headed ≡ n
+  count_back = ap (λ (l : List Bool). value (take 15 l)) (front_gone 1 (digit b) (field 15 n ++ more)) ∙ front_value 15 n more (omega arith)
 
-  pub head-gone : drop 16 headed ≡ more
-  head-gone = sym (drop-drop 15 1 headed) ∙ ap (drop 15) (front-gone 1 (digit b) (field 15 n ++ more)) ∙ front-gone 15 n more
+  pub head_gone : drop 16 headed ≡ more
+  head_gone = sym (drop-drop 15 1 headed) ∙ ap (drop 15) (front_gone 1 (digit b) (field 15 n ++ more)) ∙ front_gone 15 n more
 
 -- and as they are read
 module _ (l : List Bool) (h : 16 ≤ length l) where
-  pub count-short : points_in l ≤ most_points
-  count-short = omega (arith, taken-below 15 (drop 1 l) (omega (arith, length-drop 1 l)))
+  pub count_short : points_in l ≤ most_points
+  count_short = omega (arith, taken_below 15 (drop 1 l) (omega (arith, length-drop 1 l)))
 
-  pub head-back : (j : ℕ) (more : List Bool) → more ≡ take j (drop 16 l) → field 1 (digit (begins l)) ++ (field 15 (points_in l) ++ more) ≡ take (16 + j) l
-  head-back j more e =
+  pub head_back : (j : ℕ) (more : List Bool) → more ≡ take j (drop 16 l) → field 1 (digit (begins l)) ++ (field 15 (points_in l) ++ more) ≡ take (16 + j) l
+  head_back j more e =
       let s : 16 + j ≡ 1 + (15 + j) = omega arith in
       ap₂ (λ (a c : List Bool). a ++ c)
-      (ap (field 1) (digit_bit (value (take 1 l)) (taken-below 1 l (omega arith))) ∙ field_back 1 l (omega arith))
+      (ap (field 1) (digit_bit (value (take 1 l)) (taken_below 1 l (omega arith))) ∙ field_back 1 l (omega arith))
       (ap₂ (λ (a c : List Bool). a ++ c) (field_back 15 (drop 1 l) (omega (arith, length-drop 1 l))) (e ∙ ap (take j) (sym (drop-drop 15 1 l))) ∙ sym (take-add 15 j (drop 1 l)))
       ∙ sym (ap (λ (m : ℕ). take m l) s ∙ take-add 1 (15 + j) l)
 
@@ -73,9 +73,9 @@ back first n e more g =
     let rest : List Bool = fields 32 p ++ more in
     let whole : List Bool = contour_bits e ++ more in
     let a : contour_bits e ++ more ≡ field 1 (digit e.begins) ++ (field 15 (count p) ++ rest) = simp append_assoc in
-    let b : begins whole ≡ e.begins = ap begins a ∙ begins-back e.begins (count p) rest g.short in
-    let h : points_in whole ≡ count p = ap points_in a ∙ count-back e.begins (count p) rest g.short in
-    let d : drop 16 whole ≡ rest = ap (drop 16) a ∙ head-gone e.begins (count p) rest g.short in
+    let b : begins whole ≡ e.begins = ap begins a ∙ begins_back e.begins (count p) rest g.short in
+    let h : points_in whole ≡ count p = ap points_in a ∙ count_back e.begins (count p) rest g.short in
+    let d : drop 16 whole ≡ rest = ap (drop 16) a ∙ head_gone e.begins (count p) rest g.short in
     let own : length (contour_bits e) ≡ 16 + 32 * length p = contour-length e in
     let long : length whole ≡ length (contour_bits e) + length more = length-append (contour_bits e) more in
     let k : 2 * points_in whole ≡ length p = omega (arith, h, g.even) in
@@ -101,20 +101,20 @@ module _ (l : List Bool) (h : 16 ≤ length l) (s : contour_size l ≤ length l)
   room : 32 * (2 * points_in l) ≤ length (drop 16 l)
   room = omega (arith, length-drop 16 l)
 
-  pub even-read : length points ≡ 2 * count points
-  even-read = omega (arith, numbers-length 32 (2 * points_in l) (drop 16 l))
+  pub even_read : length points ≡ 2 * count points
+  even_read = omega (arith, numbers-length 32 (2 * points_in l) (drop 16 l))
 
-  pub count-read : count points ≡ points_in l
-  count-read = omega (arith, numbers-length 32 (2 * points_in l) (drop 16 l))
+  pub count_read : count points ≡ points_in l
+  count_read = omega (arith, numbers-length 32 (2 * points_in l) (drop 16 l))
 
   pub points_fit : all_fit 32 points ≡ true
   points_fit = numbers_fit 32 (omega arith) (2 * points_in l) (drop 16 l) room
 
-  pub contour-same : contour_bits (entry (begins l) points) ≡ take (contour_size l) l
-  contour-same =
+  pub contour_same : contour_bits (entry (begins l) points) ≡ take (contour_size l) l
+  contour_same =
       let e : 16 + there ≡ contour_size l = omega arith in
-      ap (λ (k : ℕ). field 1 (digit (begins l)) ++ (field 15 k ++ fields 32 points)) count-read
-      ∙ head-back l h there (fields 32 points) (fields_numbers 32 (omega arith) (2 * points_in l) (drop 16 l) room)
+      ap (λ (k : ℕ). field 1 (digit (begins l)) ++ (field 15 k ++ fields 32 points)) count_read
+      ∙ head_back l h there (fields 32 points) (fields_numbers 32 (omega arith) (2 * points_in l) (drop 16 l) room)
       ∙ ap (λ (k : ℕ). take k l) e
 
 forth : (first : Bool) (n : ℕ) (l : List Bool) → edition_1.wrong first n l ≡ 0 → Forth edition_1 Held first n l
@@ -124,12 +124,12 @@ forth first n l e =
     let s : contour_size l ≤ length l = ltb-false (length l) (contour_size l) c.1.1.0 in
     record {
       held = record {
-        even = even-read l a s;
-        short = omega (arith, count-read l a s, count-short l a);
+        even = even_read l a s;
+        short = omega (arith, count_read l a s, count_short l a);
         begun = clear_begun first (begins l) c.1.0;
         fitting = points_fit l a s;
       };
-      same = contour-same l a s;
+      same = contour_same l a s;
     }
 
 pub edition_1_is_faithful : Faithful edition_1 Held

@@ -9,7 +9,7 @@ use Rattle.setfile.specs.Layouts.{file_in, edition_of, read_in}
 use Rattle.setfile.specs.Editions.{number, layout, is_second, head_damage, parsed}
 use Rattle.setfile.specs.Writing.{most_contours}
 use Rattle.setfile.proofs.LayoutLaws.{Faithful, All, the_file_has_its_edition, the_file_has_a_head, the_file_is_read_back, what_is_read_can_be_held, what_is_read_is_few, the_file_is_written_back}
-use Rattle.setfile.proofs.EitherLaws.{parsed-faulty, parsed_on}
+use Rattle.setfile.proofs.EitherLaws.{parsed_faulty, parsed_on}
 use Rattle.setfile.proofs.EditionLaws as E1
 use Rattle.setfile.proofs.Edition2Laws as E2
 
@@ -84,26 +84,26 @@ right f l h = go (head_damage f) refl
     go zero e =
         let c = clear _ tt (sym e) in
         record { long = ltb-false (length f) 2 c.0; edition = told_number (edition_of f) c.1.0; reads = sym (parsed_on (is_second f) f refl e) ∙ h }
-    go (suc r) e = let b : parsed f ≡ damaged (suc r) = parsed-faulty f (suc r) e (λ z. omega arith) in let z : ◌≡◌ {A = ℕ} 0 1 = cc in absurd (omega arith)
+    go (suc r) e = let b : parsed f ≡ damaged (suc r) = parsed_faulty f (suc r) e (λ z. omega arith) in let z : ◌≡◌ {A = ℕ} 0 1 = cc in absurd (omega arith)
 
 module _ (f : List ℕ) (h : Bytes f) (l : List Entry) (e : parsed f ≡ carries l) where
   abbrev own : Bool
   own = is_second f
 
-  pub what-is-read-can-be-carried : Carried own l
-  what-is-read-can-be-carried =
+  pub what_is_read_can_be_carried : Carried own l
+  what_is_read_can_be_carried =
       let r = right f l e in
       record {
         few = what_is_read_is_few (layout own) (Holds own) (faithful own) f h r.long l r.reads;
         all = what_is_read_can_be_held (layout own) (Holds own) (faithful own) f h r.long l r.reads;
       }
 
-  pub what-is-read-was-written : file own l ≡ f
-  what-is-read-was-written =
+  pub what_is_read_was_written : file own l ≡ f
+  what_is_read_was_written =
       let r = right f l e in
       ap (λ (v : ℕ). file_in v (layout own) l) (sym r.edition)
       ∙ the_file_is_written_back (layout own) (Holds own) (faithful own) f h r.long l r.reads
 
 pub no_two_files_of_an_edition_carry_the_same_contours : (f g : List ℕ) (l : List Entry) → Bytes f → Bytes g → parsed f ≡ carries l → parsed g ≡ carries l → edition_of f ≡ edition_of g → f ≡ g
 no_two_files_of_an_edition_carry_the_same_contours f g l a b h k e =
-    sym (what-is-read-was-written f a l h) ∙ ap (λ (v : ℕ). file (eqb v 2) l) e ∙ what-is-read-was-written g b l k
+    sym (what_is_read_was_written f a l h) ∙ ap (λ (v : ℕ). file (eqb v 2) l) e ∙ what_is_read_was_written g b l k

@@ -14,25 +14,25 @@ use Rattle.setfile.proofs.ReadLaws.{parsed_right}
 use Rattle.setfile.proofs.ContourLaws.{front_length}
 
 module _ (f : List ℕ) where
-  pub parsed-faulty : (r : ℕ) → r ≡ head_damage f → (r ≡ 0 → ⊥) → parsed f ≡ damaged r
+  pub parsed_faulty : (r : ℕ) → r ≡ head_damage f → (r ≡ 0 → ⊥) → parsed f ≡ damaged r
   unfolding parsed
-  parsed-faulty zero e z = absurd (z refl)
-  parsed-faulty (suc r) e z = rw (sym e, parsed)
+  parsed_faulty zero e z = absurd (z refl)
+  parsed_faulty (suc r) e z = rw (sym e, parsed)
 
-  parsed-behind : 0 ≡ head_damage f → parsed f ≡ read_in (layout (is_second f)) f
+  parsed_behind : 0 ≡ head_damage f → parsed f ≡ read_in (layout (is_second f)) f
   unfolding parsed
-  parsed-behind e = rw (sym e, parsed)
+  parsed_behind e = rw (sym e, parsed)
 
-  pub parsed-numbered : Numbered (parsed f)
+  pub parsed_numbered : Numbered (parsed f)
   unfolding parsed
-  parsed-numbered = go (head_damage f)
+  parsed_numbered = go (head_damage f)
     where
       go : (r : ℕ) → Numbered (elim r [ suc r ↦ damaged (suc r) | zero ↦ read_in (layout (is_second f)) f ])
       go zero = contours_numbered (layout (is_second f)) (promised f) true 0 (from_bit f 16)
       go (suc r) = tt
 
 pub parsed_on : (s : Bool) (f : List ℕ) → s ≡ is_second f → 0 ≡ head_damage f → parsed f ≡ contours_in (layout s) (promised f) true 0 (from_bit f 16)
-parsed_on s f e h = parsed-behind f h ∙ ap (λ (b : Bool). read_in (layout b) f) (sym e)
+parsed_on s f e h = parsed_behind f h ∙ ap (λ (b : Bool). read_in (layout b) f) (sym e)
 
 -- what is read has two numbers for each point
 contours_even : (s : Bool) (k : ℕ) (first : Bool) (n : ℕ) (b : List Bool) (l : List Entry) → contours_in (layout s) k first n b ≡ carries l → length (joined (contours_of l)) ≡ 2 * (length (joined (contours_of l)) / 2)
@@ -47,8 +47,8 @@ pub read_even : (f : List ℕ) (l : List Entry) → parsed f ≡ carries l → l
 read_even f l h = go (head_damage f) refl
   where
     go : (r : ℕ) → r ≡ head_damage f → length (joined (contours_of l)) ≡ 2 * (length (joined (contours_of l)) / 2)
-    go zero e = contours_even (is_second f) (promised f) true 0 (from_bit f 16) l (sym (parsed-behind f e) ∙ h)
-    go (suc r) e = let d = parsed-faulty f (suc r) e (λ z. omega arith) in let o : ◌≡◌ {A = ℕ} 0 1 = cc in absurd (omega arith)
+    go zero e = contours_even (is_second f) (promised f) true 0 (from_bit f 16) l (sym (parsed_behind f e) ∙ h)
+    go (suc r) e = let d = parsed_faulty f (suc r) e (λ z. omega arith) in let o : ◌≡◌ {A = ℕ} 0 1 = cc in absurd (omega arith)
 
 -- a file that is not of edition 2 is read as one of edition 1
 pub first_parsed : (f : List ℕ) → is_second f ≡ false → parsed f ≡ Format.parsed f
@@ -61,8 +61,8 @@ first_parsed f e = go (head_damage f) refl
         ∙ ap (λ (b : Bool). first_of ((ltb (length f) 2, 10) ∷ (b, 9) ∷ [])) (and-true (not (eqb (edition_of f) 1)))
 
     go : (r : ℕ) → r ≡ head_damage f → parsed f ≡ Format.parsed f
-    go zero h = parsed-behind f h ∙ ap (λ (b : Bool). read_in (layout b) f) e ∙ sym (rw (sym (h ∙ same), Format.parsed))
-    go (suc r) h = parsed-faulty f (suc r) h (λ z. omega arith) ∙ sym (rw (sym (h ∙ same), Format.parsed))
+    go zero h = parsed_behind f h ∙ ap (λ (b : Bool). read_in (layout b) f) e ∙ sym (rw (sym (h ∙ same), Format.parsed))
+    go (suc r) h = parsed_faulty f (suc r) h (λ z. omega arith) ∙ sym (rw (sym (h ∙ same), Format.parsed))
 
 pub first_taken : (f : List ℕ) (l : List Entry) → Format.parsed f ≡ carries l → is_second f ≡ false
 first_taken f l e = ap (λ (v : ℕ). eqb v 2) (parsed_right f l e).edition

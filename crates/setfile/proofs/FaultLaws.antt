@@ -14,7 +14,7 @@ use Rattle.setfile.specs.Edition2.{width_in}
 use Rattle.setfile.specs.Editions.{layout, is_second}
 use Rattle.setfile.specs.inside.Bytes.{pair}
 use Rattle.setfile.specs.inside.Reading.{head_refusals, either_refusals, header_size}
-use Rattle.setfile.proofs.ByteLaws.{edition-by-pair}
+use Rattle.setfile.proofs.ByteLaws.{edition_by_pair}
 
 -- a contour of either edition, rung by rung
 module _ (first : Bool) (n : ℕ) (l : List Bool) where
@@ -88,41 +88,41 @@ module _ (l : List Bool) where
 
 -- what is refused of a file by its length and its head
 module _ (f : List ℕ) where
-  pub over-long : 65536 < length f → 2 ≡ first_of (head_refusals f)
-  over-long h = first_is _ _ (here (lt-ltb _ _ h))
+  pub over_long : 65536 < length f → 2 ≡ first_of (head_refusals f)
+  over_long h = first_is _ _ (here (lt-ltb _ _ h))
 
   module _ (few : length f ≤ 65536) where
-    pub head-short : length f < 2 → 10 ≡ first_of (head_refusals f)
-    head-short h = first_is _ _ (past (le-ltb _ _ few) (here (lt-ltb _ _ h)))
+    pub head_short : length f < 2 → 10 ≡ first_of (head_refusals f)
+    head_short h = first_is _ _ (past (le-ltb _ _ few) (here (lt-ltb _ _ h)))
 
     module _ (long : 2 ≤ length f) (h : ℕ) (e : h ≡ pair f) where
-      pub head-edition : (h / 4096 ≡ 1 → ⊥) → 9 ≡ first_of (head_refusals f)
-      head-edition z = first_is _ _ (past (le-ltb _ _ few) (past (le-ltb _ _ long) (here (ap not (ne_eqb (edition_of f) 1 (λ k. z (omega (arith, edition-by-pair f long))))))))
+      pub head_edition : (h / 4096 ≡ 1 → ⊥) → 9 ≡ first_of (head_refusals f)
+      head_edition z = first_is _ _ (past (le-ltb _ _ few) (past (le-ltb _ _ long) (here (ap not (ne_eqb (edition_of f) 1 (λ k. z (omega (arith, edition_by_pair f long))))))))
 
       pub head_right : h / 4096 ≡ 1 → 0 ≡ first_of (head_refusals f)
-      head_right z = first_is _ _ (past (le-ltb _ _ few) (past (le-ltb _ _ long) (past (ap not (eq-eqb (edition_of f) 1 (omega (arith, edition-by-pair f long)))) foot)))
+      head_right z = first_is _ _ (past (le-ltb _ _ few) (past (le-ltb _ _ long) (past (ap not (eq-eqb (edition_of f) 1 (omega (arith, edition_by_pair f long)))) foot)))
 
   pub head_long : first_of (head_refusals f) ≡ 0 → 2 ≤ length f
   head_long e = ltb-false _ _ (clear (head_refusals f) tt e).1.0
 
 -- the same, where either edition is taken
 module _ (f : List ℕ) where
-  pub over-long-either : 65536 < length f → 2 ≡ first_of (either_refusals f)
-  over-long-either h = first_is _ _ (here (lt-ltb _ _ h))
+  pub over_long_either : 65536 < length f → 2 ≡ first_of (either_refusals f)
+  over_long_either h = first_is _ _ (here (lt-ltb _ _ h))
 
   module _ (few : length f ≤ 65536) where
-    pub head-short-either : length f < 2 → 10 ≡ first_of (either_refusals f)
-    head-short-either h = first_is _ _ (past (le-ltb _ _ few) (here (lt-ltb _ _ h)))
+    pub head_short_either : length f < 2 → 10 ≡ first_of (either_refusals f)
+    head_short_either h = first_is _ _ (past (le-ltb _ _ few) (here (lt-ltb _ _ h)))
 
     module _ (long : 2 ≤ length f) (v : ℕ) (e : v ≡ edition_of f) where
       neither : (b : Bool) → (not (eqb v 1) && not (eqb v 2)) ≡ b → (not (eqb (edition_of f) 1) && not (is_second f)) ≡ b
       neither b h = ap (λ (v : ℕ). not (eqb v 1) && not (eqb v 2)) (sym e) ∙ h
 
-      pub head-neither : (not (eqb v 1) && not (eqb v 2)) ≡ true → 9 ≡ first_of (either_refusals f)
-      head-neither z = first_is _ _ (past (le-ltb _ _ few) (past (le-ltb _ _ long) (here (neither true z))))
+      pub head_neither : (not (eqb v 1) && not (eqb v 2)) ≡ true → 9 ≡ first_of (either_refusals f)
+      head_neither z = first_is _ _ (past (le-ltb _ _ few) (past (le-ltb _ _ long) (here (neither true z))))
 
-      pub head-either : (not (eqb v 1) && not (eqb v 2)) ≡ false → 0 ≡ first_of (either_refusals f)
-      head-either z = first_is _ _ (past (le-ltb _ _ few) (past (le-ltb _ _ long) (past (neither false z) foot)))
+      pub head_either : (not (eqb v 1) && not (eqb v 2)) ≡ false → 0 ≡ first_of (either_refusals f)
+      head_either z = first_is _ _ (past (le-ltb _ _ few) (past (le-ltb _ _ long) (past (neither false z) foot)))
 
-  pub either-long : first_of (either_refusals f) ≡ 0 → 2 ≤ length f
-  either-long e = ltb-false _ _ (clear (either_refusals f) tt e).1.0
+  pub either_long : first_of (either_refusals f) ≡ 0 → 2 ≤ length f
+  either_long e = ltb-false _ _ (clear (either_refusals f) tt e).1.0

@@ -26,14 +26,14 @@ abbrev quad : List ℕ → ℕ
 quad f = get_or f 0 0 * 16777216 + get_or f 1 0 * 65536 + get_or f 2 0 * 256 + get_or f 3 0
 
 module _ (f : List ℕ) (b : EachByte f) where
-  quad-below : quad f < 2 ^ 32
-  quad-below = omega (arith, b 0, b 1, b 2, b 3)
+  quad_below : quad f < 2 ^ 32
+  quad_below = omega (arith, b 0, b 1, b 2, b 3)
 
   pub word_below : low_first f < 2 ^ 32
   word_below = omega (arith, b 0, b 1, b 2, b 3)
 
-  word-swapped : swapped (low_first f) ≡ quad f
-  word-swapped =
+  word_swapped : swapped (low_first f) ≡ quad f
+  word_swapped =
       let w : low_first f % 256 ≡ get_or f 0 0 = omega (arith, b 0) in
       let x : low_first f / 256 ≡ get_or f 1 0 + get_or f 2 0 * 256 + get_or f 3 0 * 65536 = omega (arith, b 0) in
       let x-low : (get_or f 1 0 + get_or f 2 0 * 256 + get_or f 3 0 * 65536) % 256 ≡ get_or f 1 0 = omega (arith, b 1) in
@@ -43,10 +43,10 @@ module _ (f : List ℕ) (b : EachByte f) where
       rw (w, x, x-low, y, y-low, z)
 
   -- a first byte of which the first three bits are equal is that of a coordinate on the grid
-  quad-on-grid : (low_first f + 32) % 2 ^ 32 % 2 ^ 8 < 64 → on_grid narrow (to_z w32 (quad f)) ≡ true
+  quad_on_grid : (low_first f + 32) % 2 ^ 32 % 2 ^ 8 < 64 → on_grid narrow (to_z w32 (quad f)) ≡ true
   unfolding raised narrow
-  quad-on-grid h =
-      let fits : Fits w32 (quad f) = record { fits = quad-below } in
+  quad_on_grid h =
+      let fits : Fits w32 (quad f) = record { fits = quad_below } in
       let low : (get_or f 0 0 + 32) % 256 < 64 = omega (arith, b 0) in
       let rest : get_or f 1 0 * 65536 + get_or f 2 0 * 256 + get_or f 3 0 < 16777216 = omega (arith, b 1, b 2, b 3) in
       let e : quad f + narrow ≡ (get_or f 0 0 + 32) * 16777216 + (get_or f 1 0 * 65536 + get_or f 2 0 * 256 + get_or f 3 0) = omega arith in
@@ -56,9 +56,9 @@ module _ (f : List ℕ) (b : EachByte f) where
       ∙ le-ltb (2 * narrow) (raised narrow (to_z w32 (quad f))) (omega arith))
 
   module _ (four : 4 ≤ length f) where
-    quad-value : value (take 32 (bits f)) ≡ quad f
+    quad_value : value (take 32 (bits f)) ≡ quad f
     unfolding word
-    quad-value =
+    quad_value =
         word_whole 4 f b four
         ∙ omega (
           arith,
@@ -67,20 +67,20 @@ module _ (f : List ℕ) (b : EachByte f) where
           ap (λ (g : List ℕ). get_or (drop 1 g) 0 0) (drop-drop 1 1 f) ∙ ap (λ (g : List ℕ). get_or g 0 0) (drop-drop 1 2 f) ∙ get_or-drop 3 f 0 0,
         )
 
-    pub coordinate-swapped : to_z w32 (swapped (low_first f)) ≡ signed 32 (value (take 32 (bits f)))
-    coordinate-swapped = ap (to_z w32) (word-swapped ∙ sym quad-value)
+    pub coordinate_swapped : to_z w32 (swapped (low_first f)) ≡ signed 32 (value (take 32 (bits f)))
+    coordinate_swapped = ap (to_z w32) (word_swapped ∙ sym quad_value)
 
-    pub first-byte-on-grid : (low_first f + 32) % 2 ^ 32 % 2 ^ 8 < 64 → on_grid narrow (signed 32 (value (take 32 (bits f)))) ≡ true
-    first-byte-on-grid h = ap (λ (n : ℕ). on_grid narrow (to_z w32 n)) quad-value ∙ quad-on-grid h
+    pub first_byte_on_grid : (low_first f + 32) % 2 ^ 32 % 2 ^ 8 < 64 → on_grid narrow (signed 32 (value (take 32 (bits f)))) ≡ true
+    first_byte_on_grid h = ap (λ (n : ℕ). on_grid narrow (to_z w32 n)) quad_value ∙ quad_on_grid h
 
 module _ (f : List ℕ) (at : ℕ) where
   -- the byte at i of what is left
   byte_at : (i j : ℕ) → at + i ≡ j → get_or f j 0 ≡ get_or (drop at f) i 0
   byte_at i j e = sym (get_or-drop at f i 0 ∙ ap (λ (k : ℕ). get_or f k 0) e)
 
-  pub pair-at : EachByte f → at + 1 < length f → get_or f at 0 * 256 + get_or f (at + 1) 0 ≡ pair (drop at f)
+  pub pair_at : EachByte f → at + 1 < length f → get_or f at 0 * 256 + get_or f (at + 1) 0 ≡ pair (drop at f)
   unfolding word
-  pair-at h e =
+  pair_at h e =
       sym (word_whole 2 (drop at f) (byte_drop at f h) (omega (arith, length-drop at f))
       ∙ omega (arith, byte_at 0 at (omega arith), byte_at 1 (at + 1) (omega arith), get_or-drop 1 (drop at f) 0 0))
 

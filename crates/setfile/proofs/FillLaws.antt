@@ -63,27 +63,27 @@ abbrev pub points_made : List Entry → List ℤ
 points_made l = joined (contours_of l)
 
 module _ {s : Bool} {f : List ℕ} {n i at to : ℕ} {row₀ wanted row : List ℤ} (x : Filling s f n row₀ wanted points_made i at to row) (l : i < n) where
-  abbrev next-points : List ℤ
-  next-points = front_points s (from_bit f at)
+  abbrev next_points : List ℤ
+  next_points = front_points s (from_bit f at)
 
-  points-rest : List Entry
-  points-rest = (coming x l).rest
+  points_rest : List Entry
+  points_rest = (coming x l).rest
 
-  points-to-come : Ahead row₀ wanted to (next-points ++ points_made points-rest) row
-  unfolding joined points-rest
-  points-to-come = to_come x l
+  points_to_come : Ahead row₀ wanted to (next_points ++ points_made points_rest) row
+  unfolding joined points_rest
+  points_to_come = to_come x l
 
   pub points_room : to + 2 * points_in (from_bit f at) ≤ length row
-  points_room = omega (arith, points-to-come.room, length-append next-points (points_made points-rest), front_length s (from_bit f at))
+  points_room = omega (arith, points_to_come.room, length-append next_points (points_made points_rest), front_length s (from_bit f at))
 
-  pub points-more : (h : Header) → h ≡ header_in s (from_bit f at) → (z : ℕ) → z ≡ size_of s h → (new : List ℤ) → new ≡ placed to next-points row
+  pub points_more : (h : Header) → h ≡ header_in s (from_bit f at) → (z : ℕ) → z ≡ size_of s h → (new : List ℤ) → new ≡ placed to next_points row
       → Filling s f n row₀ wanted points_made (i + 1) (at + z) (to + 2 * h.count) new
-  unfolding points-rest
-  points-more h e z q new g =
+  unfolding points_rest
+  points_more h e z q new g =
       let k : h.count ≡ points_in (from_bit f at) = ap (λ (h : Header). h.count) e in
-      let a : to + 2 * h.count ≡ to + length next-points = omega (arith, front_length s (from_bit f at)) in
+      let a : to + 2 * h.count ≡ to + length next_points = omega (arith, front_length s (from_bit f at)) in
       filled x l points_made (to + 2 * h.count) new
-      (subst (Ahead row₀ wanted (to + 2 * h.count) (points_made points-rest)) (sym g) (ahead_more next-points (points_made points-rest) (to + 2 * h.count) a points-to-come)) h e z q
+      (subst (Ahead row₀ wanted (to + 2 * h.count) (points_made points_rest)) (sym g) (ahead_more next_points (points_made points_rest) (to + 2 * h.count) a points_to_come)) h e z q
 
 -- the contour ranges, the first of which starts at this point
 abbrev pub contours_made : ℕ → List Entry → List (List ℕ)
@@ -96,20 +96,20 @@ pub contours_made_length : (p : ℕ) (l : List Entry) → length (contours_made 
 contours_made_length p l = length-map (laid p (map count (contours_of l))) row ∙ contours_laid p l
 
 module _ {s : Bool} {f : List ℕ} {n i at : ℕ} (start : ℕ) {row₀ wanted now : List (List ℕ)} (x : Filling s f n row₀ wanted (contours_made start) i at i now) (l : i < n) where
-  contours-rest : List Entry
-  contours-rest = (coming x l).rest
+  contours_rest : List Entry
+  contours_rest = (coming x l).rest
 
-  contours-to-come : (k : ℕ) → k ≡ points_in (from_bit f at) → Ahead row₀ wanted i ((start ∷ (start + k) ∷ []) ∷ contours_made (start + k) contours-rest) now
-  unfolding laid contours-rest
-  contours-to-come k e =
-      subst (λ (k : ℕ). Ahead row₀ wanted i ((start ∷ (start + k) ∷ []) ∷ contours_made (start + k) contours-rest) now) (front_count s (from_bit f at) ∙ sym e) (to_come x l)
+  contours_to_come : (k : ℕ) → k ≡ points_in (from_bit f at) → Ahead row₀ wanted i ((start ∷ (start + k) ∷ []) ∷ contours_made (start + k) contours_rest) now
+  unfolding laid contours_rest
+  contours_to_come k e =
+      subst (λ (k : ℕ). Ahead row₀ wanted i ((start ∷ (start + k) ∷ []) ∷ contours_made (start + k) contours_rest) now) (front_count s (from_bit f at) ∙ sym e) (to_come x l)
 
-  pub contours-room : i < length now
-  contours-room = omega (arith, (contours-to-come (points_in (from_bit f at)) refl).room)
+  pub contours_room : i < length now
+  contours_room = omega (arith, (contours_to_come (points_in (from_bit f at)) refl).room)
 
-  pub contours-more : (h : Header) → h ≡ header_in s (from_bit f at) → (z : ℕ) → z ≡ size_of s h
+  pub contours_more : (h : Header) → h ≡ header_in s (from_bit f at) → (z : ℕ) → z ≡ size_of s h
       → Filling s f n row₀ wanted (contours_made (start + h.count)) (i + 1) (at + z) (i + 1) (set now i (start ∷ (start + h.count) ∷ []))
-  unfolding contours-rest
-  contours-more h e z q =
+  unfolding contours_rest
+  contours_more h e z q =
       filled x l (contours_made (start + h.count)) (i + 1) _
-      (ahead_one (start ∷ (start + h.count) ∷ []) _ (contours_made (start + h.count) contours-rest) (i + 1) refl refl (contours-to-come h.count (ap (λ (h : Header). h.count) e))) h e z q
+      (ahead_one (start ∷ (start + h.count) ∷ []) _ (contours_made (start + h.count) contours_rest) (i + 1) refl refl (contours_to_come h.count (ap (λ (h : Header). h.count) e))) h e z q

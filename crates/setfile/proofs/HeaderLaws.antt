@@ -2,7 +2,7 @@
 use Rattle.std.proofs.Common.{◌≡◌, ℕ, zero, suc, ◌+◌, ◌-◌, ◌*◌, ◌/◌, ◌%◌, ◌<◌, ◌≤◌, Bool, true, false, eqb, leb, List, [], ◌∷◌, length, get_or, take, drop, sym, refl, ap, ◌∙◌, mul-le-mul, arith, length-drop, eq-eqb, ne_eqb, leb-false, leb-true}
 use Rattle.bits.specs.Bits.{value, bits}
 use Rattle.bits.specs.inside.Words.{word}
-use Rattle.bits.proofs.BitLaws.{taken-below, high_bits, low_bits, bits-length}
+use Rattle.bits.proofs.BitLaws.{taken_below, high_bits, low_bits, bits-length}
 use Rattle.bits.proofs.WordLaws.{EachByte, word_whole}
 use Rattle.steps.specs.Bodies.{body_size}
 use Rattle.setfile.specs.declared.inner.headers.Header.{Header}
@@ -11,7 +11,7 @@ use Rattle.setfile.specs.Format.{begins, points_in}
 use Rattle.setfile.specs.Edition2.{width_in}
 use Rattle.setfile.specs.inside.Bytes.{pair}
 use Rattle.setfile.specs.inside.Reading.{from_bit, header_in}
-use Rattle.setfile.proofs.ByteLaws.{starts-by-pair, held-by-pair}
+use Rattle.setfile.proofs.ByteLaws.{starts_by_pair, held_by_pair}
 use Rattle.setfile.proofs.ContourLaws.{from_byte}
 
 same_header : {a b : Bool} {k l v w : ℕ} → a ≡ b → k ≡ l → v ≡ w → ◌≡◌ {A = Header} (record { begins = a; count = k; width = v }) (record { begins = b; count = l; width = w })
@@ -23,15 +23,15 @@ pub first_header : (f : List ℕ) (at : ℕ) → 8 * (at / 8) ≡ at → at + 16
 first_header f at e h p q =
     let g : List ℕ = drop (at / 8) f in
     let two : 2 ≤ length g = omega (arith, length-drop (at / 8) f) in
-    same_header (ap (leb 32768) q ∙ starts-by-pair g two) (ap (λ (n : ℕ). n % 32768) q ∙ held-by-pair g two) refl ∙ ap (header_in false) (sym (from_byte f at e))
+    same_header (ap (leb 32768) q ∙ starts_by_pair g two) (ap (λ (n : ℕ). n % 32768) q ∙ held_by_pair g two) refl ∙ ap (header_in false) (sym (from_byte f at e))
 
 -- in edition 2 a field of 22 bits
 module _ (l : List Bool) (h : 22 ≤ length l) (n : ℕ) (e : n ≡ value (take 22 l)) where
   below : n < 4194304
-  below = omega (arith, e, taken-below 22 l h)
+  below = omega (arith, e, taken_below 22 l h)
 
-  begins-is : leb 2097152 n ≡ begins l
-  begins-is = sym (ap (λ (k : ℕ). eqb k 1) (high_bits l 1 21 h ∙ ap (λ (k : ℕ). k / 2097152) (sym e)) ∙ go (leb 2097152 n) refl)
+  begins_is : leb 2097152 n ≡ begins l
+  begins_is = sym (ap (λ (k : ℕ). eqb k 1) (high_bits l 1 21 h ∙ ap (λ (k : ℕ). k / 2097152) (sym e)) ∙ go (leb 2097152 n) refl)
     where
       go : (t : Bool) → leb 2097152 n ≡ t → eqb (n / 2097152) 1 ≡ t
       go true g = eq-eqb (n / 2097152) 1 (omega (arith, leb-true 2097152 n g, below))
@@ -45,8 +45,8 @@ module _ (l : List Bool) (h : 22 ≤ length l) (n : ℕ) (e : n ≡ value (take 
   width_is : n % 64 ≡ width_in l
   width_is = sym (low_bits l 16 6 h ∙ ap (λ (k : ℕ). k % 64) (sym e))
 
-  pub second-header : record { begins = leb 2097152 n; count = n / 64 % 32768; width = n % 64 } ≡ header_in true l
-  second-header = same_header begins-is count_is width_is
+  pub second_header : record { begins = leb 2097152 n; count = n / 64 % 32768; width = n % 64 } ≡ header_in true l
+  second_header = same_header begins_is count_is width_is
 
 -- how many bits a contour of edition 2 has
 pub wide_steps : (k w : ℕ) → k ≤ 32767 → w ≤ 63 → w * (2 * (k - 1)) ≤ 4128642

@@ -5,7 +5,7 @@ use Rattle.integers.proofs.Logic.{and_left, and_right, and_both}
 use Rattle.integers.proofs.Bound.{in_fits}
 use Rattle.grid.specs.Limits.{limit, most, on_grid, all_on_grid}
 use Rattle.grid.specs.Domain.{count}
-use Rattle.grid.proofs.LimitLaws.{narrow_within, on-grid-in, on-joined, on-taken}
+use Rattle.grid.proofs.LimitLaws.{narrow_within, on_grid_in, on_joined, on_taken}
 use Rattle.bits.specs.Signs.{fits, all_fit}
 use Rattle.buffer.specs.Spans.{total}
 use Rattle.buffer.specs.Sets.{joined, Even}
@@ -26,7 +26,7 @@ on_fit : (c : List ℤ) → all_on_grid limit c ≡ true → all_fit 32 c ≡ tr
 unfolding all_on_grid all_fit limit
 on_fit [] e = refl
 on_fit (z ∷ c) e =
-    let h : SFits w32 z = in_fits (on-grid-in limit z (and_left (on_grid limit z) _ e)) tt in
+    let h : SFits w32 z = in_fits (on_grid_in limit z (and_left (on_grid limit z) _ e)) tt in
     and_both (fits 32 z) (all_fit 32 c) (lt-ltb (mag z) (2 ^ 31) h.sfits) (on_fit c (and_right (on_grid limit z) _ e))
 
 never_first : {A : Type 0} → false ≡ true → A
@@ -34,7 +34,7 @@ never_first e = absurd (true≢false (sym e))
 
 hold : (s first : Bool) (n : ℕ) (e : Entry) → length e.points ≡ 2 * count e.points → count e.points ≤ most_points → (first ≡ true → e.begins ≡ true) → n + count e.points ≤ most
     → all_on_grid limit e.points ≡ true → Holds s first n e
-hold true first n e a b s m h = record { even = a; short = b; begun = s; few = m; point = on_fit (take 2 e.points) (on-taken limit 2 e.points h); near = differences_fit e.points h }
+hold true first n e a b s m h = record { even = a; short = b; begun = s; few = m; point = on_fit (take 2 e.points) (on_taken limit 2 e.points h); near = differences_fit e.points h }
 hold false first n e a b s m h = record { even = a; short = b; begun = s; fitting = on_fit e.points h }
 
 pub hold_all : (s : Bool) (l : List Entry) (first : Bool) (n : ℕ) → Even (contours_of l) → Short (contours_of l) → (first ≡ true → Started l) → n + total (map count (contours_of l)) ≤ most
@@ -42,7 +42,7 @@ pub hold_all : (s : Bool) (l : List Entry) (first : Bool) (n : ℕ) → Even (co
 unfolding joined
 hold_all s [] first n a b g m h = tt
 hold_all s (e ∷ l) first n a b g m h =
-    let o = sym (on-joined limit e.points (joined (contours_of l))) ∙ h in (
+    let o = sym (on_joined limit e.points (joined (contours_of l))) ∙ h in (
       hold s first n e a.0 b.0 g (omega arith) (and_left (all_on_grid limit e.points) _ o),
       hold_all s l false (n + count e.points) a.1 b.1 never_first (omega arith) (and_right (all_on_grid limit e.points) _ o),
     )

@@ -4,7 +4,7 @@ use mathlib.Core.Bool.{and_assoc, and-true}
 use lib.Dec.{eqb-suc-zero}
 use mir.Val.{bool_byte}
 use Rattle.grid.specs.Limits.{all_on_grid}
-use Rattle.grid.proofs.LimitLaws.{on-joined}
+use Rattle.grid.proofs.LimitLaws.{on_joined}
 use Rattle.replies.specs.Ladder.{first_of}
 use Rattle.grid.specs.Domain.{count, off}
 use Rattle.replies.proofs.LadderLaws.{Clear, clear, first_is, found}
@@ -21,9 +21,9 @@ use Rattle.setfile.specs.Layouts.{end_damage, contours_in, promised}
 use Rattle.setfile.specs.Format.{begins, points_in}
 use Rattle.setfile.specs.Editions.{layout, bound, is_second, bad_head, head_damage, parsed}
 use Rattle.setfile.specs.inside.Reading.{contained, from_bit, At, header_in, size_of, front_points, Whole, none_met, met_more, Within, judged, on_or_refused, points_of, summed, either_refusals, refusals_of, Readable, Judgement}
-use Rattle.setfile.proofs.LayoutLaws.{contours-on, contours-stop, contours-end, contours-past, Numbered, contours_long}
+use Rattle.setfile.proofs.LayoutLaws.{contours_on, contours_stop, contours_end, contours_past, Numbered, contours_long}
 use Rattle.setfile.proofs.ContourLaws.{size_is, front_begins, front_length, front_count, behind}
-use Rattle.setfile.proofs.EitherLaws.{parsed-faulty, parsed_on, parsed-numbered, read_even}
+use Rattle.setfile.proofs.EitherLaws.{parsed_faulty, parsed_on, parsed_numbered, read_even}
 
 same_judged : {a b c d k l m n : ℕ} → a ≡ k → b ≡ l → c ≡ m → d ≡ n → judged a b c d ≡ judged k l m n
 same_judged e f g h = cc
@@ -37,13 +37,13 @@ module _ (s : Bool) (m : Met) (n : ℕ) (l : List Bool) where
   abbrev points : List ℤ
   points = front_points s l
 
-  summed-more : (w : Parsed) → summed s m n (and_then ((layout s).read l) w) ≡ summed s (met_more s l m) (n + 1) w
+  summed_more : (w : Parsed) → summed s m n (and_then ((layout s).read l) w) ≡ summed s (met_more s l m) (n + 1) w
   unfolding joined gathered
-  summed-more (damaged r) = refl
-  summed-more (carries rest) =
+  summed_more (damaged r) = refl
+  summed_more (carries rest) =
       let later : List ℤ = joined (contours_of rest) in
       same_judged
-      (ap on_or_refused (ap (λ (t : Bool). m.on && t) (on-joined (bound s) points later) ∙ sym (and_assoc m.on (all_on_grid (bound s) points) (all_on_grid (bound s) later))))
+      (ap on_or_refused (ap (λ (t : Bool). m.on && t) (on_joined (bound s) points later) ∙ sym (and_assoc m.on (all_on_grid (bound s) points) (all_on_grid (bound s) later))))
       (omega (arith, length-append points later, front_length s l))
       (omega arith)
       (omega (arith, shapes_gathered ((layout s).read l).begins points (gathered rest), ap digit (front_begins s l)))
@@ -56,18 +56,18 @@ module _ (s : Bool) (f : List ℕ) (n i : ℕ) (m : Met) where
     one_less : n - i ≡ suc (n - (i + 1))
     one_less = omega arith
 
-    pub judged-faulty : (r : ℕ) → r ≡ (layout s).wrong first m.points here_on → (r ≡ 0 → ⊥) → judged r 0 0 0 ≡ summed s m i (contours_in (layout s) (n - i) first m.points here_on)
-    judged-faulty zero e z = absurd (z refl)
-    judged-faulty (suc r) e z =
-        sym (ap (summed s m i) (ap (λ (k : ℕ). contours_in (layout s) k first m.points here_on) one_less ∙ contours-stop (layout s) first m.points here_on (n - (i + 1)) r (sym e)))
+    pub judged_faulty : (r : ℕ) → r ≡ (layout s).wrong first m.points here_on → (r ≡ 0 → ⊥) → judged r 0 0 0 ≡ summed s m i (contours_in (layout s) (n - i) first m.points here_on)
+    judged_faulty zero e z = absurd (z refl)
+    judged_faulty (suc r) e z =
+        sym (ap (summed s m i) (ap (λ (k : ℕ). contours_in (layout s) k first m.points here_on) one_less ∙ contours_stop (layout s) first m.points here_on (n - (i + 1)) r (sym e)))
 
-    pub judged-more : (layout s).wrong first m.points here_on ≡ 0
+    pub judged_more : (layout s).wrong first m.points here_on ≡ 0
         → summed s m i (contours_in (layout s) (n - i) first m.points here_on)
         ≡ summed s (met_more s here_on m) (i + 1) (contours_in (layout s) (n - (i + 1)) (eqb (i + 1) 0) (met_more s here_on m).points (from_bit f (met_more s here_on m).at))
-    judged-more e =
+    judged_more e =
         ap (summed s m i)
-        (ap (λ (k : ℕ). contours_in (layout s) k first m.points here_on) one_less ∙ contours-on (layout s) first m.points here_on (n - (i + 1)) e)
-        ∙ summed-more s m i here_on (contours_in (layout s) (n - (i + 1)) false (m.points + count (front_points s here_on)) (drop ((layout s).size here_on) here_on))
+        (ap (λ (k : ℕ). contours_in (layout s) k first m.points here_on) one_less ∙ contours_on (layout s) first m.points here_on (n - (i + 1)) e)
+        ∙ summed_more s m i here_on (contours_in (layout s) (n - (i + 1)) false (m.points + count (front_points s here_on)) (drop ((layout s).size here_on) here_on))
         ∙ ap (λ (w : Parsed). summed s (met_more s here_on m) (i + 1) w)
         (ap₂ (λ (b : Bool) (k : ℕ). contours_in (layout s) (n - (i + 1)) b (m.points + k) (drop ((layout s).size here_on) here_on)) (sym (ne_eqb (i + 1) 0 (λ z. omega arith))) (front_count s here_on)
         ∙ ap (contours_in (layout s) (n - (i + 1)) (eqb (i + 1) 0) (m.points + points_in here_on)) (drop-drop ((layout s).size here_on) m.at (bits f)))
@@ -102,12 +102,12 @@ none_left s k first n l e = rw e
 module _ (s : Bool) (m : Met) (n : ℕ) (l : List Bool) where
   pub left_over : (r : ℕ) → r ≡ end_damage l → (r ≡ 0 → ⊥) → judged r 0 0 0 ≡ summed s m n (contours_in (layout s) 0 false m.points l)
   left_over zero e z = absurd (z refl)
-  left_over (suc r) e z = sym (ap (summed s m n) (contours-past (layout s) false m.points l r (sym e)))
+  left_over (suc r) e z = sym (ap (summed s m n) (contours_past (layout s) false m.points l r (sym e)))
 
-  pub all-met : 0 ≡ end_damage l → (r : ℕ) → r ≡ on_or_refused m.on → judged r m.points n m.shapes ≡ summed s m n (contours_in (layout s) 0 false m.points l)
+  pub all_met : 0 ≡ end_damage l → (r : ℕ) → r ≡ on_or_refused m.on → judged r m.points n m.shapes ≡ summed s m n (contours_in (layout s) 0 false m.points l)
   unfolding joined all_on_grid gathered
-  all-met h r k =
-      rw (contours-end (layout s) false m.points l (sym h)) (same_judged (k ∙ ap on_or_refused (sym (and-true m.on))) (omega arith) (omega arith) (omega arith))
+  all_met h r k =
+      rw (contours_end (layout s) false m.points l (sym h)) (same_judged (k ∙ ap on_or_refused (sym (and-true m.on))) (omega arith) (omega arith) (omega arith))
 
 on_told : (b : Bool) → on_or_refused b ≡ 0 → b ≡ true
 unfolding first_of
@@ -122,7 +122,7 @@ module _ (s : Bool) (f : List ℕ) (own : s ≡ is_second f) where
     where
       go : (r : ℕ) → r ≡ head_damage f → Readable s f (length l)
       go (suc r) h =
-          let d : damaged (suc r) ≡ carries l = sym (parsed-faulty f (suc r) h (λ z. omega arith)) ∙ e in
+          let d : damaged (suc r) ≡ carries l = sym (parsed_faulty f (suc r) h (λ z. omega arith)) ∙ e in
           let z : ◌≡◌ {A = ℕ} 0 1 = cc in
           absurd (omega arith)
       go zero h =
@@ -137,7 +137,7 @@ module _ (s : Bool) (f : List ℕ) (own : s ≡ is_second f) where
           }
 
   judgement : length f ≤ 65536 → (r : Judged) → r ≡ summed s none_met 0 (parsed f) → Judgement s f r
-  judgement few r e = go (parsed f) refl (parsed-numbered f)
+  judgement few r e = go (parsed f) refl (parsed_numbered f)
     where
       told : (w : Parsed) → parsed f ≡ w → first_of (refusals_of s (length f) w) ≡ first_of (refusals_of (is_second f) (length f) (parsed f))
       told w h = ap₂ (λ (b : Bool) (w : Parsed). first_of (refusals_of b (length f) w)) own (sym h)
@@ -178,23 +178,23 @@ module _ (s : Bool) (f : List ℕ) (own : s ≡ is_second f) where
   }
 
   -- a file whose length or head is refused
-  pub judged-head : (k : ℕ) → k ≡ first_of (either_refusals f) → (k ≡ 0 → ⊥) → (r : Judged) → r ≡ judged k 0 0 0 → Judgement s f r
+  pub judged_head : (k : ℕ) → k ≡ first_of (either_refusals f) → (k ≡ 0 → ⊥) → (r : Judged) → r ≡ judged k 0 0 0 → Judgement s f r
   unfolding first_of
-  judged-head k e z r j = go (ltb 65536 (length f)) refl e
+  judged_head k e z r j = go (ltb 65536 (length f)) refl e
     where
       go : (b : Bool) → ltb 65536 (length f) ≡ b → k ≡ first_of ((b, 2) ∷ bad_head f) → Judgement s f r
       go true h e = over (ltb-true _ _ h) r (j ∙ ap (λ (n : ℕ). judged n 0 0 0) e)
-      go false h e = judgement (ltb-false _ _ h) r (j ∙ ap (summed s none_met 0) (sym (parsed-faulty f k e z)))
+      go false h e = judgement (ltb-false _ _ h) r (j ∙ ap (summed s none_met 0) (sym (parsed_faulty f k e z)))
 
   -- one whose head is right
   module _ (e : first_of (either_refusals f) ≡ 0) where
     headed : Clear (either_refusals f)
     headed = clear (either_refusals f) tt e
 
-    pub at-contours : At s f 16
-    at-contours = record { short = ltb-false _ _ headed.0; within = omega (arith, ltb-false (length f) 2 headed.1.0); whole = λ z. refl }
+    pub at_contours : At s f 16
+    at_contours = record { short = ltb-false _ _ headed.0; within = omega (arith, ltb-false (length f) 2 headed.1.0); whole = λ z. refl }
 
-    pub judged-contours : (r : Judged) → r ≡ summed s none_met 0 (contours_in (layout s) (promised f) true 0 (from_bit f 16)) → Judgement s f r
-    judged-contours r j =
+    pub judged_contours : (r : Judged) → r ≡ summed s none_met 0 (contours_in (layout s) (promised f) true 0 (from_bit f 16)) → Judgement s f r
+    judged_contours r j =
         let k : 0 ≡ head_damage f = first_is _ _ (past headed.1.0 (past headed.1.1.0 foot)) in
         judgement (ltb-false _ _ headed.0) r (j ∙ ap (summed s none_met 0) (sym (parsed_on s f own k)))

@@ -8,7 +8,7 @@ use Rattle.replies.proofs.LadderLaws.First.{past, foot}
 use Rattle.grid.specs.Domain.{count}
 use Rattle.buffer.specs.Sets.{joined}
 use Rattle.bits.specs.Bits.{value, field, Bytes, bits, fill}
-use Rattle.bits.proofs.BitLaws.{field-length, front-value, front-gone, field_back, taken-below, bits-length, bits_padded, padded_filled}
+use Rattle.bits.proofs.BitLaws.{field-length, front_value, front_gone, field_back, taken_below, bits-length, bits_padded, padded_filled}
 use Rattle.setfile.specs.Entries.{Entry, Parsed, and_then, read_contours}
 use Rattle.setfile.specs.Entries.Parsed.{carries, damaged}
 use Rattle.setfile.specs.Layouts.{Layout, all_coded, file_bits, file_in, some-set, end_damage, contours_in, edition_of, promised, read_in}
@@ -40,21 +40,21 @@ nothing_behind l e = let c = clear ((leb 8 (length l), 10) ∷ (some-set l, 16) 
 
 -- contours are read one by one
 module _ (y : Layout) (first : Bool) (n : ℕ) (l : List Bool) where
-  pub contours-on : (k : ℕ) → y.wrong first n l ≡ 0 → contours_in y (suc k) first n l ≡ and_then (y.read l) (contours_in y k false (n + count (y.read l).points) (drop (y.size l) l))
+  pub contours_on : (k : ℕ) → y.wrong first n l ≡ 0 → contours_in y (suc k) first n l ≡ and_then (y.read l) (contours_in y k false (n + count (y.read l).points) (drop (y.size l) l))
   unfolding contours_in
-  contours-on k e = rw (e, contours_in)
+  contours_on k e = rw (e, contours_in)
 
-  pub contours-stop : (k r : ℕ) → y.wrong first n l ≡ suc r → contours_in y (suc k) first n l ≡ damaged (suc r)
+  pub contours_stop : (k r : ℕ) → y.wrong first n l ≡ suc r → contours_in y (suc k) first n l ≡ damaged (suc r)
   unfolding contours_in
-  contours-stop k r e = rw (e, contours_in)
+  contours_stop k r e = rw (e, contours_in)
 
-  pub contours-end : end_damage l ≡ 0 → contours_in y 0 first n l ≡ carries []
+  pub contours_end : end_damage l ≡ 0 → contours_in y 0 first n l ≡ carries []
   unfolding contours_in
-  contours-end e = rw (e, contours_in)
+  contours_end e = rw (e, contours_in)
 
-  pub contours-past : (r : ℕ) → end_damage l ≡ suc r → contours_in y 0 first n l ≡ damaged (suc r)
+  pub contours_past : (r : ℕ) → end_damage l ≡ suc r → contours_in y 0 first n l ≡ damaged (suc r)
   unfolding contours_in
-  contours-past r e = rw (e, contours_in)
+  contours_past r e = rw (e, contours_in)
 
 -- where contours are read, nothing is wrong with the first of them, and the others are read behind it
 pub record Next (y : Layout) (k : ℕ) (first : Bool) (n : ℕ) (b : List Bool) (l : List Entry) : Type 0 where
@@ -72,15 +72,15 @@ module _ (y : Layout) (first : Bool) (n : ℕ) (b : List Bool) (l : List Entry) 
       behind (damaged r) e z g = let o : ◌≡◌ {A = ℕ} 0 1 = cc in absurd (omega arith)
 
       go : (r : ℕ) → y.wrong first n b ≡ r → Next y k first n b l
-      go zero e = behind _ refl e (sym (contours-on y first n b k e) ∙ h)
-      go (suc r) e = let a = contours-stop y first n b k r e in let o : ◌≡◌ {A = ℕ} 0 1 = cc in absurd (omega arith)
+      go zero e = behind _ refl e (sym (contours_on y first n b k e) ∙ h)
+      go (suc r) e = let a = contours_stop y first n b k r e in let o : ◌≡◌ {A = ℕ} 0 1 = cc in absurd (omega arith)
 
   pub none_read : contours_in y 0 first n b ≡ carries l → Ends b × (l ≡ [])
   none_read h = go (end_damage b) refl
     where
       go : (r : ℕ) → end_damage b ≡ r → Ends b × (l ≡ [])
-      go zero e = (nothing_behind b e, ap read_contours (sym h ∙ contours-end y first n b e))
-      go (suc r) e = let a = contours-past y first n b r e in let o : ◌≡◌ {A = ℕ} 0 1 = cc in absurd (omega arith)
+      go zero e = (nothing_behind b e, ap read_contours (sym h ∙ contours_end y first n b e))
+      go (suc r) e = let a = contours_past y first n b r e in let o : ◌≡◌ {A = ℕ} 0 1 = cc in absurd (omega arith)
 
 -- what a layout has to show of one contour that it can hold: it is read as it was written, and written as it was read
 pub record Back (y : Layout) (first : Bool) (n : ℕ) (e : Entry) (more : List Bool) : Type 0 where
@@ -112,13 +112,13 @@ pub record Matches (y : Layout) (Holds : Bool → ℕ → Entry → Type 0) (k :
 module _ (y : Layout) (Holds : Bool → ℕ → Entry → Type 0) (faithful : Faithful y Holds) where
   contours_read_back : (l : List Entry) (first : Bool) (n z : ℕ) → z < 8 → All Holds first n l → contours_in y (length l) first n (all_coded y l ++ field z 0) ≡ carries l
   unfolding joined
-  contours_read_back [] first n z h g = contours-end y first n (field z 0) (filled z h)
+  contours_read_back [] first n z h g = contours_end y first n (field z 0) (filled z h)
   contours_read_back (e ∷ l) first n z h g =
       let more : List Bool = all_coded y l ++ field z 0 in
       let s : (y.coded e ++ all_coded y l) ++ field z 0 ≡ y.coded e ++ more = append_assoc (y.coded e) (all_coded y l) (field z 0) in
       let b = faithful.back first n e more g.0 in
       ap (contours_in y (suc (length l)) first n) s
-      ∙ contours-on y first n (y.coded e ++ more) (length l) b.right
+      ∙ contours_on y first n (y.coded e ++ more) (length l) b.right
       ∙ ap₂ (λ (a : Entry) (m : List Bool). and_then a (contours_in y (length l) false (n + count a.points) m)) b.read (drop_at (y.coded e) more (y.size (y.coded e ++ more)) (sym b.size))
       ∙ ap (and_then e) (contours_read_back l false (n + count e.points) z h g.1)
 
@@ -154,13 +154,13 @@ module _ (y : Layout) (Holds : Bool → ℕ → Entry → Type 0) (faithful : Fa
         ∙ ap (λ (b : List Bool). field 4 v ++ b) (append_assoc (field 12 (length l)) (all_coded y l) _)
 
     behind_edition : drop 4 (bits (file_in v y l)) ≡ field 12 (length l) ++ more
-    behind_edition = ap (drop 4) laid_out ∙ front-gone 4 v (field 12 (length l) ++ more)
+    behind_edition = ap (drop 4) laid_out ∙ front_gone 4 v (field 12 (length l) ++ more)
 
     behind_head : drop 16 (bits (file_in v y l)) ≡ more
-    behind_head = sym (drop-drop 12 4 (bits (file_in v y l))) ∙ ap (drop 12) behind_edition ∙ front-gone 12 (length l) more
+    behind_head = sym (drop-drop 12 4 (bits (file_in v y l))) ∙ ap (drop 12) behind_edition ∙ front_gone 12 (length l) more
 
     pub the_file_has_its_edition : edition_of (file_in v y l) ≡ v
-    the_file_has_its_edition = ap (λ (b : List Bool). value (take 4 b)) laid_out ∙ front-value 4 v (field 12 (length l) ++ more) small
+    the_file_has_its_edition = ap (λ (b : List Bool). value (take 4 b)) laid_out ∙ front_value 4 v (field 12 (length l) ++ more) small
 
     pub the_file_has_a_head : 2 ≤ length (file_in v y l)
     the_file_has_a_head =
@@ -176,7 +176,7 @@ module _ (y : Layout) (Holds : Bool → ℕ → Entry → Type 0) (faithful : Fa
 
     pub the_file_is_read_back : All Holds true 0 l → read_in y (file_in v y l) ≡ carries l
     the_file_is_read_back g =
-        let n : promised (file_in v y l) ≡ length l = ap (λ (b : List Bool). value (take 12 b)) behind_edition ∙ front-value 12 (length l) more (omega arith) in
+        let n : promised (file_in v y l) ≡ length l = ap (λ (b : List Bool). value (take 12 b)) behind_edition ∙ front_value 12 (length l) more (omega arith) in
         ap₂ (λ (k : ℕ) (b : List Bool). contours_in y k true 0 b) n behind_head ∙ contours_read_back l true 0 (fill (length (file_bits v y l))) (omega arith) g
 
   -- a file that is read in the layout
@@ -188,7 +188,7 @@ module _ (y : Layout) (Holds : Bool → ℕ → Entry → Type 0) (faithful : Fa
     what_is_read_can_be_held = matched.all
 
     pub what_is_read_is_few : length l ≤ 4095
-    what_is_read_is_few = omega (arith, matched.number, taken-below 12 (drop 4 (bits f)) (omega (arith, length-drop 4 (bits f), bits-length f)))
+    what_is_read_is_few = omega (arith, matched.number, taken_below 12 (drop 4 (bits f)) (omega (arith, length-drop 4 (bits f), bits-length f)))
 
     pub the_file_is_written_back : file_in (edition_of f) y l ≡ f
     the_file_is_written_back =

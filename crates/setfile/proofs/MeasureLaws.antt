@@ -6,7 +6,7 @@ use Rattle.bits.specs.Bits.{digit, field}
 use Rattle.bits.proofs.BitLaws.{digit_below, field-length, bytes-length}
 use Rattle.steps.specs.Steps.{differences}
 use Rattle.steps.specs.Bodies.{contour_width, body_size}
-use Rattle.steps.proofs.BodyLaws.{width-within-32}
+use Rattle.steps.proofs.BodyLaws.{width_within_32}
 use Rattle.buffer.specs.declared.ranges.Span.{Span}
 use Rattle.buffer.specs.Spans.{span, spans, size, total}
 use Rattle.buffer.specs.Sets.{joined, contour, Even}
@@ -57,13 +57,13 @@ pub some_unfilled : (rows : List (List ℕ)) (m : ℕ) → m ≡ longer 0 (spans
 some_unfilled rows m e = ap₂ ltb e (sym (spans-length rows)) ∙ longer_all (spans rows)
 
 module _ (rows : List (List ℕ)) (n i : ℕ) where
-  pub longer-more : i < length rows → longer n (spans (drop i rows)) ≡ digit (ltb n (get_or (get_or rows i []) 1 0 - get_or (get_or rows i []) 0 0)) + longer n (spans (drop (i + 1) rows))
+  pub longer_more : i < length rows → longer n (spans (drop i rows)) ≡ digit (ltb n (get_or (get_or rows i []) 1 0 - get_or (get_or rows i []) 0 0)) + longer n (spans (drop (i + 1) rows))
   unfolding longer
-  longer-more h = rw (drop-cons rows i [] h, add-one i)
+  longer_more h = rw (drop-cons rows i [] h, add-one i)
 
-  pub longer-done : length rows ≤ i → longer n (spans (drop i rows)) ≡ 0
+  pub longer_done : length rows ≤ i → longer n (spans (drop i rows)) ≡ 0
   unfolding longer
-  longer-done h = rw (drop_of_length-le rows {i = i} h)
+  longer_done h = rw (drop_of_length-le rows {i = i} h)
 
 -- a contour's bits, by its points and its width
 pub body_within : (n w : ℕ) → w ≤ 32 → body_size n w ≤ 64 * n
@@ -71,15 +71,15 @@ body_within zero w h = omega arith
 body_within (suc k) w h = let m : w * (2 * k) ≤ 32 * (2 * k) = mul-le-mul_right (2 * k) h in omega (arith, m)
 
 pub size_within : (c : List ℤ) → written_size c ≤ 22 + 64 * count c
-size_within c = omega (arith, body_within (count c) (contour_width c) (width-within-32 (differences c)))
+size_within c = omega (arith, body_within (count c) (contour_width c) (width_within_32 (differences c)))
 
 -- a set's contours from number k on
 module _ (p : List ℤ) (cs : List (List ℕ)) (k : ℕ) where
-  pub size-more : k < length cs → (c : List ℤ) → c ≡ contour p (span (get_or cs k [])) → all_size p (drop k cs) ≡ written_size c + all_size p (drop (k + 1) cs)
-  size-more h c e = rw (drop-cons cs k [] h, add-one k, e)
+  pub size_more : k < length cs → (c : List ℤ) → c ≡ contour p (span (get_or cs k [])) → all_size p (drop k cs) ≡ written_size c + all_size p (drop (k + 1) cs)
+  size_more h c e = rw (drop-cons cs k [] h, add-one k, e)
 
-  pub size-done : length cs ≤ k → all_size p (drop k cs) ≡ 0
-  size-done h = rw (drop_of_length-le cs {i = k} h)
+  pub size_done : length cs ≤ k → all_size p (drop k cs) ≡ 0
+  size_done h = rw (drop_of_length-le cs {i = k} h)
 
 -- one width more is kept
 pub widths_more : (W : ℕ → ℕ) (ws : List ℕ) (k v : ℕ) → k < length ws → ((j : ℕ) → j < k → get_or ws j 0 ≡ W j) → v ≡ W k → (j : ℕ) → j < k + 1 → get_or (set ws k v) j 0 ≡ W j

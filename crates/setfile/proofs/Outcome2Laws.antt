@@ -18,9 +18,9 @@ use Rattle.setfile.specs.Writing.{most_contours, most_points, some_over, some_em
 use Rattle.setfile.specs.Writing2.{file_of, set_refusals, refusals, outcome}
 use Rattle.setfile.specs.Promises.{Regular}
 use Rattle.setfile.specs.inside.Writing.{all_size, Ripe}
-use Rattle.setfile.proofs.CarryLaws.{none_over, over_none, none_empty, empty_none, regular-contours, regular-even, regular-count, all_named, all-grouped}
+use Rattle.setfile.proofs.CarryLaws.{none_over, over_none, none_empty, empty_none, regular_contours, regular_even, regular_count, all_named, all_grouped}
 use Rattle.setfile.proofs.MeasureLaws.{file_long}
-use Rattle.setfile.proofs.OutcomeLaws.{result-refused, result-full, result-done}
+use Rattle.setfile.proofs.OutcomeLaws.{result_refused, result_full, result_done}
 
 module _ (p : List ℤ) (cs ss : List (List ℕ)) where
   abbrev pub both_sound : Bool
@@ -35,17 +35,17 @@ module _ (p : List ℤ) (cs ss : List (List ℕ)) where
       last : (k : ℕ) → First (uncarried (spans cs) (spans ss)) k → k ≡ first_of (set_refusals p cs ss)
       last k h = first_is _ k (onward (set limit p both_sound) (uncarried (spans cs) (spans ss)) k tt (sym e ∙ z) h)
 
-      carry-is : (ltb most_contours (length (spans cs)) || some_over most_points (spans cs) || some_empty (spans ss)) ≡ (ltb most_contours (length cs) || over || empty)
-      carry-is = rw (← f, ← g, spans-length cs)
+      carry_is : (ltb most_contours (length (spans cs)) || some_over most_points (spans cs) || some_empty (spans ss)) ≡ (ltb most_contours (length cs) || over || empty)
+      carry_is = rw (← f, ← g, spans-length cs)
 
-      pub refused-carry : (ltb most_contours (length cs) || over || empty) ≡ true → 12 ≡ first_of (set_refusals p cs ss)
-      refused-carry h = last 12 (here (carry-is ∙ h))
+      pub refused_carry : (ltb most_contours (length cs) || over || empty) ≡ true → 12 ≡ first_of (set_refusals p cs ss)
+      refused_carry h = last 12 (here (carry_is ∙ h))
 
       pub refused_none : (ltb most_contours (length cs) || over || empty) ≡ false → 0 ≡ first_of (set_refusals p cs ss)
-      refused_none h = last 0 (past (carry-is ∙ h) foot)
+      refused_none h = last 0 (past (carry_is ∙ h) foot)
 
-  pub too-long-contour : first_of (set limit p both_sound) ≡ 0 → some_over most_points (spans cs) ≡ true → 12 ≡ first_of (set_refusals p cs ss)
-  too-long-contour e over = refused-carry 0 (sym e) refl true (some_empty (spans ss)) (sym over) refl (go (ltb most_contours (length cs)))
+  pub too_long_contour : first_of (set limit p both_sound) ≡ 0 → some_over most_points (spans cs) ≡ true → 12 ≡ first_of (set_refusals p cs ss)
+  too_long_contour e over = refused_carry 0 (sym e) refl true (some_empty (spans ss)) (sym over) refl (go (ltb most_contours (length cs)))
     where
       go : (b : Bool) → (b || true || some_empty (spans ss)) ≡ true
       go true = refl
@@ -84,36 +84,36 @@ module _ (p : List ℤ) (cs ss : List (List ℕ)) where
   -- how long it is
   pub set_long : Regular limit p cs ss → length (file_of p cs ss) ≡ (16 + all_size p cs + 7) / 8
   set_long h =
-      let c = regular-contours limit p cs ss h in
-      file_long (entries (shapes p (spans cs) (spans ss))) (rw c (regular-even limit p cs ss h)) ∙ rw c
+      let c = regular_contours limit p cs ss h in
+      file_long (entries (shapes p (spans cs) (spans ss))) (rw c (regular_even limit p cs ss h)) ∙ rw c
 
 module _ (p : List ℤ) (cs ss : List (List ℕ)) (row : List ℕ) where
-  pub write-refused : (r : ℕ) → r ≡ first_of (set_refusals p cs ss) → (r ≡ 0 → ⊥) → leaving r 0 row ≡ outcome p cs ss row
+  pub write_refused : (r : ℕ) → r ≡ first_of (set_refusals p cs ss) → (r ≡ 0 → ⊥) → leaving r 0 row ≡ outcome p cs ss row
   unfolding outcome
-  write-refused r e z =
-      result-refused (refusals p cs ss) (length (file_of p cs ss)) (file_of p cs ss) row r (first_is _ r (stopped (set_refusals p cs ss) (long (length (file_of p cs ss))) r e z)) z
+  write_refused r e z =
+      result_refused (refusals p cs ss) (length (file_of p cs ss)) (file_of p cs ss) row r (first_is _ r (stopped (set_refusals p cs ss) (long (length (file_of p cs ss))) r e z)) z
 
   -- a set that has a file, and its m bytes
   module _ (free : first_of (set_refusals p cs ss) ≡ 0) (m : ℕ) (e : m ≡ (16 + all_size p cs + 7) / 8) where
-    is-long : m ≡ length (file_of p cs ss)
-    is-long = e ∙ sym (set_long p cs ss (regular-set p cs ss free))
+    is_long : m ≡ length (file_of p cs ss)
+    is_long = e ∙ sym (set_long p cs ss (regular-set p cs ss free))
 
-    then-long : (k : ℕ) → First (long (length (file_of p cs ss))) k → k ≡ first_of (refusals p cs ss)
-    then-long k f = first_is _ k (onward (set_refusals p cs ss) (long (length (file_of p cs ss))) k tt free f)
+    then_long : (k : ℕ) → First (long (length (file_of p cs ss))) k → k ≡ first_of (refusals p cs ss)
+    then_long k f = first_is _ k (onward (set_refusals p cs ss) (long (length (file_of p cs ss))) k tt free f)
 
-    pub write-long : most_bytes < m → leaving 2 0 row ≡ outcome p cs ss row
+    pub write_long : most_bytes < m → leaving 2 0 row ≡ outcome p cs ss row
     unfolding outcome
-    write-long h =
-        result-refused (refusals p cs ss) (length (file_of p cs ss)) (file_of p cs ss) row 2
-        (then-long 2 (here (lt-ltb most_bytes (length (file_of p cs ss)) (omega (arith, is-long))))) (λ z. omega arith)
+    write_long h =
+        result_refused (refusals p cs ss) (length (file_of p cs ss)) (file_of p cs ss) row 2
+        (then_long 2 (here (lt-ltb most_bytes (length (file_of p cs ss)) (omega (arith, is_long))))) (λ z. omega arith)
 
     module _ (short : m ≤ most_bytes) where
-      all-free : first_of (refusals p cs ss) ≡ 0
-      all-free = sym (then-long 0 (past (le-ltb most_bytes (length (file_of p cs ss)) (omega (arith, is-long))) foot))
+      all_free : first_of (refusals p cs ss) ≡ 0
+      all_free = sym (then_long 0 (past (le-ltb most_bytes (length (file_of p cs ss)) (omega (arith, is_long))) foot))
 
-      pub write-full : length row < m → leaving 5 0 row ≡ outcome p cs ss row
+      pub write_full : length row < m → leaving 5 0 row ≡ outcome p cs ss row
       unfolding outcome
-      write-full h = result-full (refusals p cs ss) (length (file_of p cs ss)) (file_of p cs ss) row tt all-free (omega (arith, is-long))
+      write_full h = result_full (refusals p cs ss) (length (file_of p cs ss)) (file_of p cs ss) row tt all_free (omega (arith, is_long))
 
       module _ (fits : m ≤ length row) where
         pub ripe : Ripe true p cs ss row
@@ -122,12 +122,12 @@ module _ (p : List ℤ) (cs ss : List (List ℕ)) (row : List ℕ) where
             let w : limit ≤ limit = omega arith in
             record {
               named = all_named limit p cs ss r w;
-              grouped = all-grouped limit p cs ss r w;
+              grouped = all_grouped limit p cs ss r w;
               few = r.few;
-              all = regular-count limit p cs ss r;
-              room = omega (arith, is-long);
+              all = regular_count limit p cs ss r;
+              room = omega (arith, is_long);
             }
 
         pub write_done : (n : ℕ) (exit : List ℕ) → exit ≡ front (file_of p cs ss) row → n ≡ length (file_of p cs ss) → leaving 0 n exit ≡ outcome p cs ss row
         unfolding outcome
-        write_done n exit g k = result-done (refusals p cs ss) (length (file_of p cs ss)) (file_of p cs ss) row tt all-free (omega (arith, is-long)) n exit k g
+        write_done n exit g k = result_done (refusals p cs ss) (length (file_of p cs ss)) (file_of p cs ss) row tt all_free (omega (arith, is_long)) n exit k g

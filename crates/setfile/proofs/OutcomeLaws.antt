@@ -16,7 +16,7 @@ use Rattle.setfile.specs.inside.Writing.{file_with, Ripe}
 use Rattle.setfile.specs.Writing.{refusals, Outcome, leaving, written, outcome}
 use Rattle.setfile.specs.Promises.{Regular, file_of}
 use Rattle.setfile.proofs.CodedLaws.{coded-length, file_is_coded}
-use Rattle.setfile.proofs.CarryLaws.{carriable, regular, regular-contours, regular-even, regular-count, regular-total, all_named, all-grouped}
+use Rattle.setfile.proofs.CarryLaws.{carriable, regular, regular_contours, regular_even, regular_count, regular_total, all_named, all_grouped}
 
 -- a file of n bytes, by its set's refusals: refused, no room for it, or written
 module _ (l : List Rung) (n : ℕ) (f row : List ℕ) where
@@ -26,16 +26,16 @@ module _ (l : List Rung) (n : ℕ) (f row : List ℕ) where
   by_number : (k : ℕ) → First (l ++ room (leb n (length row))) k → written k f row ≡ result
   by_number k h = ap (λ (m : ℕ). written m f row) (first_is _ k h)
 
-  pub result-refused : (r : ℕ) → r ≡ first_of l → (r ≡ 0 → ⊥) → leaving r 0 row ≡ result
-  result-refused zero e z = absurd (z refl)
-  result-refused (suc r) e z = by_number (suc r) (stopped l (room (leb n (length row))) (suc r) e z)
+  pub result_refused : (r : ℕ) → r ≡ first_of l → (r ≡ 0 → ⊥) → leaving r 0 row ≡ result
+  result_refused zero e z = absurd (z refl)
+  result_refused (suc r) e z = by_number (suc r) (stopped l (room (leb n (length row))) (suc r) e z)
 
   module _ (told : T (numbered l)) (free : first_of l ≡ 0) where
-    pub result-full : length row < n → leaving 5 0 row ≡ result
-    result-full h = by_number 5 (onward l (room (leb n (length row))) 5 told free (here (ap not (lt-leb n (length row) h))))
+    pub result_full : length row < n → leaving 5 0 row ≡ result
+    result_full h = by_number 5 (onward l (room (leb n (length row))) 5 told free (here (ap not (lt-leb n (length row) h))))
 
-    pub result-done : n ≤ length row → (m : ℕ) (exit : List ℕ) → m ≡ length f → exit ≡ front f row → leaving 0 m exit ≡ result
-    result-done h m exit e g =
+    pub result_done : n ≤ length row → (m : ℕ) (exit : List ℕ) → m ≡ length f → exit ≡ front f row → leaving 0 m exit ≡ result
+    result_done h m exit e g =
         ap₂ (λ (k : ℕ) (r : List ℕ). leaving 0 k r) e g
         ∙ by_number 0 (onward l (room (leb n (length row))) 0 told free (past (ap not (le-leb n (length row) h)) foot))
 
@@ -43,21 +43,21 @@ module _ (l : List Rung) (n : ℕ) (f row : List ℕ) where
 pub file_long : (bound : ℕ) (p : List ℤ) (cs ss : List (List ℕ)) → Regular bound p cs ss → length (file_of p cs ss) ≡ file-length (length cs) (count p)
 file_long bound p cs ss h =
     let l : List Entry = entries (shapes p (spans cs) (spans ss)) in
-    let n : length l ≡ length cs = regular-count bound p cs ss h in
+    let n : length l ≡ length cs = regular_count bound p cs ss h in
     ap length (file_is_coded l (omega (arith, h.few)))
-    ∙ coded-length l (rw (regular-contours bound p cs ss h) (regular-even bound p cs ss h))
-    ∙ ap₂ file-length n (ap (λ (m : List (List ℤ)). total (map count m)) (regular-contours bound p cs ss h) ∙ regular-total bound p cs ss h)
+    ∙ coded-length l (rw (regular_contours bound p cs ss h) (regular_even bound p cs ss h))
+    ∙ ap₂ file-length n (ap (λ (m : List (List ℤ)). total (map count m)) (regular_contours bound p cs ss h) ∙ regular_total bound p cs ss h)
 
 module _ (p : List ℤ) (cs ss : List (List ℕ)) (row : List ℕ) where
-  pub write-refused : (r : ℕ) → r ≡ first_of (refusals p cs ss) → (r ≡ 0 → ⊥) → leaving r 0 row ≡ outcome p cs ss row
+  pub write_refused : (r : ℕ) → r ≡ first_of (refusals p cs ss) → (r ≡ 0 → ⊥) → leaving r 0 row ≡ outcome p cs ss row
   unfolding outcome
-  write-refused r e z = result-refused (refusals p cs ss) (file-length (length cs) (count p)) (file_of p cs ss) row r e z
+  write_refused r e z = result_refused (refusals p cs ss) (file-length (length cs) (count p)) (file_of p cs ss) row r e z
 
   -- a set of which nothing is refused, and the m bytes of its file
   module _ (free : first_of (refusals p cs ss) ≡ 0) (m : ℕ) (long : m ≡ file-length (length cs) (count p)) where
-    pub write-full : length row < m → leaving 5 0 row ≡ outcome p cs ss row
+    pub write_full : length row < m → leaving 5 0 row ≡ outcome p cs ss row
     unfolding outcome
-    write-full h = result-full (refusals p cs ss) (file-length (length cs) (count p)) (file_of p cs ss) row tt free (omega (arith, long))
+    write_full h = result_full (refusals p cs ss) (file-length (length cs) (count p)) (file_of p cs ss) row tt free (omega (arith, long))
 
     module _ (h : m ≤ length row) where
       fits : file-length (length cs) (count p) ≤ length row
@@ -70,12 +70,12 @@ module _ (p : List ℤ) (cs ss : List (List ℕ)) (row : List ℕ) where
           let r = regular p cs ss c in
           record {
             named = all_named narrow p cs ss r narrow_within;
-            grouped = all-grouped narrow p cs ss r narrow_within;
+            grouped = all_grouped narrow p cs ss r narrow_within;
             few = r.few;
-            all = regular-count narrow p cs ss r;
+            all = regular_count narrow p cs ss r;
             room = omega (arith, fits, file_long narrow p cs ss r);
           }
 
       pub write_done : (n : ℕ) (exit : List ℕ) → exit ≡ front (file_with false p cs ss) row → n ≡ length (file_with false p cs ss) → leaving 0 n exit ≡ outcome p cs ss row
       unfolding outcome file
-      write_done n exit g e = result-done (refusals p cs ss) (file-length (length cs) (count p)) (file_of p cs ss) row tt free fits n exit e g
+      write_done n exit g e = result_done (refusals p cs ss) (file-length (length cs) (count p)) (file_of p cs ss) row tt free fits n exit e g

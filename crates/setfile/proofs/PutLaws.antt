@@ -3,7 +3,7 @@ use Rattle.std.proofs.Common.{◌≡◌, ℕ, ◌+◌, ◌*◌, ◌/◌, ◌^◌
 use mir.Val.{bool_byte}
 use Rattle.grid.specs.Domain.{count}
 use Rattle.rows.specs.Rows.{front}
-use Rattle.rows.proofs.PlacedLaws.{placed-long}
+use Rattle.rows.proofs.PlacedLaws.{placed_long}
 use Rattle.bits.specs.declared.inner.pens.Pen.{Pen}
 use Rattle.bits.specs.Bits.{digit, field}
 use Rattle.bits.specs.inside.Words.{spelled}
@@ -22,7 +22,7 @@ use Rattle.setfile.specs.Edition2 as C2
 use Rattle.setfile.specs.inside.Bytes.{coded_contour}
 use Rattle.setfile.specs.Editions.{number, layout}
 use Rattle.setfile.specs.inside.Writing.{Put, Room, most_kept, Penned, Inked, Countable, shapes_bits, file_with, Ripe}
-use Rattle.setfile.proofs.WriteLaws.{whole_room, put-wrote, lifted-long, lifted-front}
+use Rattle.setfile.proofs.WriteLaws.{whole_room, put_wrote, lifted_long, lifted_front}
 use Rattle.setfile.proofs.CodedLaws.{whole_bytes, header_2, header_small, contour_is, head_number, file_is}
 
 -- a contour of edition 2, its header and behind that its points
@@ -37,16 +37,16 @@ module _ (e : Entry) (p : Pen) (row : List ℕ) (c : Countable e.points) (h : Pe
   both_long =
       ap length (contour_is e c.short) ∙ length-append (field 22 (header_2 e)) (body e.points) ∙ ap (λ (n : ℕ). n + length (body e.points)) (field-length 22 (header_2 e))
 
-  pub header-ready : Ready p × Space row p 22 × (head < 2 ^ 22)
-  header-ready = (
+  pub header_ready : Ready p × Space row p 22 × (head < 2 ^ 22)
+  header_ready = (
     record { small = h.small; few = omega (arith, h.few) },
     record { within_32 = omega arith; room = omega (arith, h.room, both_long) },
     rw same_head (header_small e c.short),
   )
 
   module _ {q : Pen} {mid : List ℕ} (u : Wrote p (field 22 head) row q mid × (q.width < 32)) where
-    pub body-ready : Writable mid q e.points w
-    body-ready = record {
+    pub body_ready : Writable mid q e.points w
+    body_ready = record {
       ready = record { small = u.0.small; few = u.1 };
       even = c.even;
       on = c.on;
@@ -54,18 +54,18 @@ module _ (e : Entry) (p : Pen) (row : List ℕ) (c : Countable e.points) (h : Pe
       room = omega (arith, h.room, both_long, u.0.behind, u.0.long, field-length 22 head);
     }
 
-    pub body-inked : {r : Pen} {exit : List ℕ} → Wrote q (body e.points) mid r exit × (r.width < 32) → Inked true p (C2.contour_bits e) row r exit
-    body-inked {r} {exit} v =
+    pub body_inked : {r : Pen} {exit : List ℕ} → Wrote q (body e.points) mid r exit × (r.width < 32) → Inked true p (C2.contour_bits e) row r exit
+    body_inked {r} {exit} v =
         let whole : field 22 head ++ body e.points ≡ C2.contour_bits e = ap (λ (n : ℕ). field 22 n ++ body e.points) same_head ∙ sym (contour_is e c.short) in
         record { wrote = subst (λ (l : List Bool). Wrote p l row r exit) whole (wrote_both u.0 v.0); few = omega (arith, v.1) }
 
 -- a contour of edition 1, in whole bytes
 module _ (e : Entry) (p : Pen) (row : List ℕ) (h : Penned false p (C1.contour_bits e) row) where
-  pub contour-room : Room p.at (coded_contour e) row
-  contour-room = whole_room p (C1.contour_bits e) _ row h.small h.few (whole_bytes e) h.room
+  pub contour_room : Room p.at (coded_contour e) row
+  contour_room = whole_room p (C1.contour_bits e) _ row h.small h.few (whole_bytes e) h.room
 
-  pub contour-inked : {b : ℕ} {exit : List ℕ} → Put p.at (coded_contour e) row b exit → Inked false p (C1.contour_bits e) row (pen b 0 0) exit
-  contour-inked u = record { wrote = put-wrote p (C1.contour_bits e) _ row h.small h.few (whole_bytes e) h.room u; few = omega arith }
+  pub contour_inked : {b : ℕ} {exit : List ℕ} → Put p.at (coded_contour e) row b exit → Inked false p (C1.contour_bits e) row (pen b 0 0) exit
+  contour_inked u = record { wrote = put_wrote p (C1.contour_bits e) _ row h.small h.few (whole_bytes e) h.room u; few = omega arith }
 
 -- a file's head, as the code computes it
 pub head_is : (second : Bool) (n : ℕ) → bool_byte second * 4096 + 4096 + n ≡ head_number second n
@@ -83,13 +83,13 @@ module _ {second : Bool} {p : List ℤ} {cs ss : List (List ℕ)} {row : List �
   abbrev all : List Bool
   all = file_bits (number second) (layout second) carried
 
-  all-is : all ≡ field 16 n ++ shapes_bits second p cs ss
-  all-is =
+  all_is : all ≡ field 16 n ++ shapes_bits second p cs ss
+  all_is =
       file_is second carried (omega (arith, h.all, h.few))
       ∙ ap (λ (m : ℕ). field 16 (head_number second m) ++ shapes_bits second p cs ss) h.all
 
   all_long : length all ≡ 16 + length (shapes_bits second p cs ss)
-  all_long = ap length all-is ∙ length-append (field 16 n) (shapes_bits second p cs ss) ∙ ap (λ (m : ℕ). m + length (shapes_bits second p cs ss)) (field-length 16 n)
+  all_long = ap length all_is ∙ length-append (field 16 n) (shapes_bits second p cs ss) ∙ ap (λ (m : ℕ). m + length (shapes_bits second p cs ss)) (field-length 16 n)
 
   all_room : length all ≤ 8 * length row
   all_room =
@@ -100,37 +100,37 @@ module _ {second : Bool} {p : List ℤ} {cs ss : List (List ℕ)} {row : List �
   head_room = omega (arith, all_room, all_long, spelled-length 2 n)
 
   module _ {b : ℕ} {mid : List ℕ} (u : Put 0 (spelled 2 n) row b mid) where
-    at-two : b ≡ 2
-    at-two = omega (arith, u.behind, spelled-length 2 n)
+    at_two : b ≡ 2
+    at_two = omega (arith, u.behind, spelled-length 2 n)
 
-    mid-long : length mid ≡ length row
-    mid-long = ap length u.is ∙ placed-long row 0 (spelled 2 n) head_room
+    mid_long : length mid ≡ length row
+    mid_long = ap length u.is ∙ placed_long row 0 (spelled 2 n) head_room
 
-    pub shapes-penned : Penned second (pen b 0 0) (shapes_bits second p cs ss) mid
-    shapes-penned = record { small = omega arith; few = omega arith; room = omega (arith, all_room, all_long, at-two, mid-long) }
+    pub shapes_penned : Penned second (pen b 0 0) (shapes_bits second p cs ss) mid
+    shapes_penned = record { small = omega arith; few = omega arith; room = omega (arith, all_room, all_long, at_two, mid_long) }
 
-    head-wrote : Wrote (pen 0 0 0) (field 16 n) row (pen b 0 0) mid
-    head-wrote =
-        put-wrote (pen 0 0 0) (field 16 n) 2 row (omega arith) (omega arith) (field-length 16 n) (omega (arith, all_room, all_long, field-length 16 n))
+    head_wrote : Wrote (pen 0 0 0) (field 16 n) row (pen b 0 0) mid
+    head_wrote =
+        put_wrote (pen 0 0 0) (field 16 n) 2 row (omega arith) (omega arith) (field-length 16 n) (omega (arith, all_room, all_long, field-length 16 n))
         (subst (λ (f : List ℕ). Put 0 f row b mid) (sym (padded_field 2 n)) u)
 
     module _ {q : Pen} {last : List ℕ} (v : Inked second (pen b 0 0) (shapes_bits second p cs ss) mid q last) where
-      kept-few : (s : Bool) → q.width ≤ most_kept s → q.width < 32
-      kept-few true h = omega arith
-      kept-few false h = omega arith
+      kept_few : (s : Bool) → q.width ≤ most_kept s → q.width < 32
+      kept_few true h = omega arith
+      kept_few false h = omega arith
 
-      pub all-reached : Ready q × (reached q ≤ 8 * length last)
-      all-reached = (
-        record { small = v.wrote.small; few = kept-few second v.few },
-        omega (arith, all_room, all_long, at-two, mid-long, v.wrote.behind, v.wrote.long),
+      pub all_reached : Ready q × (reached q ≤ 8 * length last)
+      all_reached = (
+        record { small = v.wrote.small; few = kept_few second v.few },
+        omega (arith, all_room, all_long, at_two, mid_long, v.wrote.behind, v.wrote.long),
       )
 
-      all-wrote : Wrote (pen 0 0 0) all row q last
-      all-wrote = subst (λ (l : List Bool). Wrote (pen 0 0 0) l row q last) (sym all-is) (wrote_both head-wrote v.wrote)
+      all_wrote : Wrote (pen 0 0 0) all row q last
+      all_wrote = subst (λ (l : List Bool). Wrote (pen 0 0 0) l row q last) (sym all_is) (wrote_both head_wrote v.wrote)
 
       module _ {k : ℕ} {exit : List ℕ} (d : Lifted q last k exit) (known : EachByte exit) where
-        pub file-front : exit ≡ front (file_with second p cs ss) row
-        file-front = lifted-front all-wrote d known
+        pub file_front : exit ≡ front (file_with second p cs ss) row
+        file_front = lifted_front all_wrote d known
 
-        pub file-ends : k ≡ length (file_with second p cs ss)
-        file-ends = lifted-long all-wrote d known
+        pub file_ends : k ≡ length (file_with second p cs ss)
+        file_ends = lifted_long all_wrote d known

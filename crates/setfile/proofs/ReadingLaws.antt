@@ -12,7 +12,7 @@ use Rattle.buffer.specs.Spans.{rows}
 use Rattle.buffer.specs.Sets.{joined, contour_spans, shape_spans}
 use Rattle.buffer.specs.Answers as A
 use Rattle.buffer.specs.Answers.{packed, enough}
-use Rattle.buffer.proofs.AnswerLaws.{stored_refused, stored-done}
+use Rattle.buffer.proofs.AnswerLaws.{stored_refused, stored_done}
 use Rattle.setfile.specs.declared.inner.judging.Judged.{Judged}
 use Rattle.setfile.specs.Entries.{contours_of, shapes_of, damage}
 use Rattle.setfile.specs.Editions.{number, is_second, parsed}
@@ -141,4 +141,4 @@ module _ {s : Bool} {f : List ℕ} {out : List ℤ} {cs ss : List (List ℕ)} {j
     read_done p c d a b g v q =
         let n : j.points ≡ length points / 2 = omega (arith, counts.points) in
         rw (q, n, counts.contours ∙ sym contours_count, counts.shapes ∙ sym shapes_count)
-        (with_it _ (stored-done points contour_ranges shape_ranges out cs ss (refusals f) _ refl r reply_is p c d z a b g))
+        (with_it _ (stored_done points contour_ranges shape_ranges out cs ss (refusals f) _ refl r reply_is p c d z a b g))

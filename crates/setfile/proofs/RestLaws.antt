@@ -2,7 +2,7 @@
 use Rattle.std.proofs.Common.{◌≡◌, ℕ, suc, ◌+◌, ◌-◌, ◌<◌, ◌≤◌, Bool, true, eqb, List, [], ◌∷◌, sym, refl, ap, ◌∙◌, ap₂, arith, drop-drop, eq-eqb, ne_eqb}
 use Rattle.integers.proofs.Logic.{and_left, and_right}
 use Rattle.grid.specs.Limits.{all_on_grid}
-use Rattle.grid.proofs.LimitLaws.{on-joined}
+use Rattle.grid.proofs.LimitLaws.{on_joined}
 use Rattle.grid.specs.Domain.{count}
 use Rattle.bits.specs.Bits.{bits}
 use Rattle.buffer.specs.Sets.{joined}
@@ -41,7 +41,7 @@ module _ {s : Bool} {f : List ℕ} {n i at : ℕ} {l : List Entry} (r : Rest s f
       let x = next_read (layout s) (eqb i 0) r.before b l (n - (i + 1)) (ap (λ (k : ℕ). contours_in (layout s) k (eqb i 0) r.before b) e ∙ r.reads) in
       let w = whole r.here (eqb i 0) r.before x.right in
       let later : List Entry = x.others in
-      let o = sym (on-joined (bound s) (front_points s b) (joined (contours_of later))) ∙ ap (λ (m : List Entry). all_on_grid (bound s) (joined (contours_of m))) (sym x.is) ∙ r.on in
+      let o = sym (on_joined (bound s) (front_points s b) (joined (contours_of later))) ∙ ap (λ (m : List Entry). all_on_grid (bound s) (joined (contours_of m))) (sym x.is) ∙ r.on in
       record {
         rest = later;
         is = x.is;

@@ -18,9 +18,9 @@ use Rattle.setfile.specs.inside.Bytes.{held, front_entry, all_there, arrived, in
 use Rattle.setfile.specs.Writing.{most_points}
 use Rattle.setfile.specs.Promises.{Each, Short, Started, Carried}
 use Rattle.setfile.proofs.LayoutLaws.{Numbered, All, next_read, none_read, the_file_has_its_edition, the_file_has_a_head, the_file_is_read_back, what_is_read_can_be_held, what_is_read_is_few, the_file_is_written_back}
-use Rattle.setfile.proofs.EditionLaws.{Held, edition_1_is_faithful, even-read, count-read, count-short, points_fit, contour-same}
-use Rattle.setfile.proofs.ByteLaws.{dropped, front_is, size-in-bytes, none_arrived, next_arrived, come_by_bytes}
-use Rattle.setfile.proofs.ReadLaws.{Right, parsed_right, parsed-numbered}
+use Rattle.setfile.proofs.EditionLaws.{Held, edition_1_is_faithful, even_read, count_read, count_short, points_fit, contour_same}
+use Rattle.setfile.proofs.ByteLaws.{dropped, front_is, size_in_bytes, none_arrived, next_arrived, come_by_bytes}
+use Rattle.setfile.proofs.ReadLaws.{Right, parsed_right, parsed_numbered}
 use Rattle.setfile.proofs.CodedLaws.{none_coded, coded_next}
 use Rattle.setfile.proofs.HoldLaws.{all_even, all_short, first_started}
 
@@ -70,8 +70,8 @@ module _ (f : List ℕ) (h : Bytes f) (l : List Entry) (e : parsed f ≡ carries
   all : All Held true 0 l
   all = what_is_read_can_be_held edition_1 Held edition_1_is_faithful f h right.long l right.reads
 
-  pub read-carried : Carried l
-  read-carried = record {
+  pub read_carried : Carried l
+  read_carried = record {
     small = record {
       few = what_is_read_is_few edition_1 Held edition_1_is_faithful f h right.long l right.reads;
       even = all_even false l true 0 all;
@@ -88,7 +88,7 @@ module _ (f : List ℕ) (h : Bytes f) (l : List Entry) (e : parsed f ≡ carries
       ∙ the_file_is_written_back edition_1 Held edition_1_is_faithful f h right.long l right.reads
 
 pub undamaged : (f : List ℕ) → damage (parsed f) ≡ 0 → parsed f ≡ carries (read_contours (parsed f))
-undamaged f e = go (parsed f) (parsed-numbered f) e
+undamaged f e = go (parsed f) (parsed_numbered f) e
   where
     go : (p : Parsed) → Numbered p → damage p ≡ 0 → p ≡ carries (read_contours p)
     go (carries l) h e = refl
@@ -138,19 +138,19 @@ module _ (f : List ℕ) (h : Bytes f) (e : 2 + 8 * held f ≤ length f) where
   taken : Bytes (take (2 + 8 * held f) f)
   taken i l = rw (get_or-take (2 + 8 * held f) f i 0 (omega (arith, length-take (2 + 8 * held f) f, l))) (h i (omega (arith, length-take (2 + 8 * held f) f, l)))
 
-  pub contour-read : coded_contour (front_entry f) ≡ take (2 + 8 * held f) f
-  contour-read =
-      ap coded_contour (sym (front_is f)) ∙ ap padded (contour-same (bits f) headed there)
-      ∙ ap (λ (n : ℕ). padded (take n (bits f))) (size-in-bytes f) ∙ ap padded (bits_taken (2 + 8 * held f) f) ∙ padded_bits (take (2 + 8 * held f) f) taken
+  pub contour_read : coded_contour (front_entry f) ≡ take (2 + 8 * held f) f
+  contour_read =
+      ap coded_contour (sym (front_is f)) ∙ ap padded (contour_same (bits f) headed there)
+      ∙ ap (λ (n : ℕ). padded (take n (bits f))) (size_in_bytes f) ∙ ap padded (bits_taken (2 + 8 * held f) f) ∙ padded_bits (take (2 + 8 * held f) f) taken
 
-  even-front : length (front_entry f).points ≡ 2 * count (front_entry f).points
-  even-front = subst (λ (e : Entry). length e.points ≡ 2 * count e.points) (front_is f) (even-read (bits f) headed there)
+  even_front : length (front_entry f).points ≡ 2 * count (front_entry f).points
+  even_front = subst (λ (e : Entry). length e.points ≡ 2 * count e.points) (front_is f) (even_read (bits f) headed there)
 
-  short-front : count (front_entry f).points ≤ most_points
-  short-front = subst (λ (e : Entry). count e.points ≤ most_points) (front_is f) (omega (arith, count-read (bits f) headed there, count-short (bits f) headed))
+  short_front : count (front_entry f).points ≤ most_points
+  short_front = subst (λ (e : Entry). count e.points ≤ most_points) (front_is f) (omega (arith, count_read (bits f) headed there, count_short (bits f) headed))
 
-  fitting-front : Each (SFits w32) (front_entry f).points
-  fitting-front = subst (λ (e : Entry). Each (SFits w32) e.points) (front_is f) (fits_each _ (points_fit (bits f) headed there))
+  fitting_front : Each (SFits w32) (front_entry f).points
+  fitting_front = subst (λ (e : Entry). Each (SFits w32) e.points) (front_is f) (fits_each _ (points_fit (bits f) headed there))
 
 -- contours that have come were written, in front of the rest, and a file can hold them
 pub record Matched (k : ℕ) (f : List ℕ) (c : Come) : Type 0 where
@@ -174,14 +174,14 @@ arrived_matched (suc k) f h = rw (next_arrived k f) (go (all_there f) refl (arri
         let n : 2 + 8 * held f ≤ length f = leb-true (2 + 8 * held f) (length f) t in
         record {
           number = omega (arith, m.number);
-          even = (even-front f h n, m.even);
-          short = (short-front f h n, m.short);
-          fitting = (fitting-front f h n, m.fitting);
+          even = (even_front f h n, m.even);
+          short = (short_front f h n, m.short);
+          fitting = (fitting_front f h n, m.fitting);
           rest = m.rest;
           same =
               ap (λ (l : List ℕ). l ++ m.rest) (coded_next (front_entry f) (arrived k more).contours)
               ∙ append_assoc (coded_contour (front_entry f)) (coded_contours (arrived k more).contours) m.rest
-              ∙ ap₂ (λ (a b : List ℕ). a ++ b) (contour-read f h n) m.same ∙ take-append-drop (2 + 8 * held f) f;
+              ∙ ap₂ (λ (a b : List ℕ). a ++ b) (contour_read f h n) m.same ∙ take-append-drop (2 + 8 * held f) f;
           past = m.past;
         }
     go false t m = record { number = omega arith; even = tt; short = tt; fitting = tt; rest = f; same = ap (λ (l : List ℕ). l ++ f) none_coded; past = λ z. absurd (omega (arith, z)) }

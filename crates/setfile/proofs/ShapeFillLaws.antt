@@ -51,16 +51,16 @@ module _ {second : Bool} {f : List ℕ} {n i at : ℕ} (s : Open) {row₀ wanted
   shapes_room = omega (arith, x.ahead.room)
 
   -- the row from the shape's number on, by what is to be written there
-  abbrev From-here : List (List ℕ) → Type 0
-  From-here l = Ahead row₀ wanted s.number l now
+  abbrev From_here : List (List ℕ) → Type 0
+  From_here l = Ahead row₀ wanted s.number l now
 
   -- as a contour that begins a shape or not leaves it
   abbrev Met : Open → ℕ → List (List ℕ) → Type 0
   Met t z new = Filling second f n row₀ wanted (shapes_made t.from (i + 1)) (i + 1) (at + z) t.number new
 
   module _ (l : i < n) (k : Header) (q : k ≡ header_in second (from_bit f at)) (z : ℕ) (g : z ≡ size_of second k) where
-    shapes-more : Met (next_open k.begins s i) z (closed k.begins s i now)
-    shapes-more = go k.begins (subst (λ (e : Entry). From-here (shapes_made s.from i (e ∷ rest))) (front_is second (from_bit f at) ∙ ap (λ (b : Bool). entry b c) (sym (ap (λ (k : Header). k.begins) q))) (to_come x l))
+    shapes_more : Met (next_open k.begins s i) z (closed k.begins s i now)
+    shapes_more = go k.begins (subst (λ (e : Entry). From_here (shapes_made s.from i (e ∷ rest))) (front_is second (from_bit f at) ∙ ap (λ (b : Bool). entry b c) (sym (ap (λ (k : Header). k.begins) q))) (to_come x l))
       where
         c : List ℤ
         c = front_points second (from_bit f at)
@@ -68,26 +68,26 @@ module _ {second : Bool} {f : List ℕ} {n i at : ℕ} (s : Open) {row₀ wanted
         rest : List Entry
         rest = (coming x l).rest
 
-        go : (b : Bool) → From-here (shapes_made s.from i (entry b c ∷ rest)) → Met (next_open b s i) z (closed b s i now)
+        go : (b : Bool) → From_here (shapes_made s.from i (entry b c ∷ rest)) → Met (next_open b s i) z (closed b s i now)
         go true a =
-            let d : From-here ((s.from ∷ i ∷ []) ∷ shapes_made i (i + 1) rest) = subst From-here (shape_ends s.from i c rest h) a in
+            let d : From_here ((s.from ∷ i ∷ []) ∷ shapes_made i (i + 1) rest) = subst From_here (shape_ends s.from i c rest h) a in
             filled x l (shapes_made i (i + 1)) (s.number + 1) _ (ahead_one (s.from ∷ i ∷ []) (s.from ∷ i ∷ []) (shapes_made i (i + 1) rest) (s.number + 1) refl refl d) k q z g
-        go false a = filled x l (shapes_made s.from (i + 1)) s.number now (subst From-here (shape_goes_on s.from i c rest h) a) k q z g
+        go false a = filled x l (shapes_made s.from (i + 1)) s.number now (subst From_here (shape_goes_on s.from i c rest h) a) k q z g
 
     -- the same, as the code leaves it
-    pub shapes-next : (t : Open) (new : List (List ℕ)) → t ≡ next_open k.begins s i → new ≡ closed k.begins s i now
+    pub shapes_next : (t : Open) (new : List (List ℕ)) → t ≡ next_open k.begins s i → new ≡ closed k.begins s i now
         → (t.from ≤ i + 1) × Filling second f n row₀ wanted (shapes_made t.from (i + 1)) (i + 1) (at + z) t.number new
-    shapes-next t new u v =
-        subst (λ (t : Open). (t.from ≤ i + 1) × Met t z new) (sym u) (from-there k.begins, subst (Met (next_open k.begins s i) z) (sym v) shapes-more)
+    shapes_next t new u v =
+        subst (λ (t : Open). (t.from ≤ i + 1) × Met t z new) (sym u) (from_there k.begins, subst (Met (next_open k.begins s i) z) (sym v) shapes_more)
       where
-        from-there : (b : Bool) → (next_open b s i).from ≤ i + 1
-        from-there true = omega arith
-        from-there false = omega arith
+        from_there : (b : Bool) → (next_open b s i).from ≤ i + 1
+        from_there true = omega arith
+        from_there false = omega arith
 
-  pub shapes-done : i ≡ n → set now s.number (s.from ∷ n ∷ []) ≡ wanted
-  shapes-done e =
-      let a : From-here (shapes_made s.from i []) = subst (λ (l : List Entry). From-here (shapes_made s.from i l)) (done x.due e) x.ahead in
-      ahead_none (ahead_one (s.from ∷ n ∷ []) (s.from ∷ i ∷ []) [] (s.number + 1) (ap (λ (k : ℕ). s.from ∷ k ∷ []) (sym e)) refl (subst From-here (last_shape s.from i h) a))
+  pub shapes_done : i ≡ n → set now s.number (s.from ∷ n ∷ []) ≡ wanted
+  shapes_done e =
+      let a : From_here (shapes_made s.from i []) = subst (λ (l : List Entry). From_here (shapes_made s.from i l)) (done x.due e) x.ahead in
+      ahead_none (ahead_one (s.from ∷ n ∷ []) (s.from ∷ i ∷ []) [] (s.number + 1) (ap (λ (k : ℕ). s.from ∷ k ∷ []) (sym e)) refl (subst From_here (last_shape s.from i h) a))
 
 pub shapes_laid : (l : List Entry) → length (shape_spans (shapes_of l)) ≡ length (shapes_of l)
 shapes_laid l = laid-length 0 (map length (shapes_of l)) ∙ length-map (shapes_of l) length

@@ -9,7 +9,7 @@ use Rattle.bits.specs.inside.Pens.{pen, inked, reached, Wrote, Lifted}
 use Rattle.bits.proofs.BitLaws.{bits-append, bits_padded, bytes-length, padded_filled, padded-length}
 use Rattle.bits.proofs.WordLaws.{EachByte, spelled-length}
 use Rattle.bits.proofs.PenLaws.{wrote_none, wrote_both, four_stored as stored}
-use Rattle.rows.proofs.PlacedLaws.{placed-none, placed-long, placed-behind}
+use Rattle.rows.proofs.PlacedLaws.{placed_none, placed_long, placed_behind}
 use Rattle.setfile.specs.inside.Writing.{Put, Room}
 
 -- what is left starts with a part of it
@@ -35,30 +35,30 @@ module _ {at : ℕ} {all row₀ : List ℕ} {reached : ℕ} {rest row : List ℕ
     pub part_room : Room reached d row
     part_room = omega (arith, w.room, split)
 
-    pub part-written : {b : ℕ} {exit : List ℕ} → Put reached d row b exit → Writing at all row₀ b e exit
-    part-written {b} {exit} p =
-        let l : length exit ≡ length row = ap length p.is ∙ placed-long row reached d part_room in
+    pub part_written : {b : ℕ} {exit : List ℕ} → Put reached d row b exit → Writing at all row₀ b e exit
+    part_written {b} {exit} p =
+        let l : length exit ≡ length row = ap length p.is ∙ placed_long row reached d part_room in
         record {
           long = l ∙ w.long;
           ends = omega (arith, p.behind, w.ends, split);
           room = omega (arith, p.behind, w.room, split);
           is =
               ap (placed b e) p.is
-              ∙ placed-behind row reached d e b part_room p.behind
+              ∙ placed_behind row reached d e b part_room p.behind
               ∙ ap (λ (k : List ℕ). placed reached k row) (sym s.is)
               ∙ w.is;
         }
 
-  pub all-written : rest ≡ [] → Put at all row₀ reached row
-  all-written s = record {
-    is = sym (placed-none row reached) ∙ ap (λ (k : List ℕ). placed reached k row) (sym s) ∙ w.is;
+  pub all_written : rest ≡ [] → Put at all row₀ reached row
+  all_written s = record {
+    is = sym (placed_none row reached) ∙ ap (λ (k : List ℕ). placed reached k row) (sym s) ∙ w.is;
     behind = omega (arith, w.ends, ap length s);
   }
 
 -- two parts, one behind the other
 pub both_put : {at b c : ℕ} {d e row mid exit : List ℕ} → Room at (d ++ e) row → Put at d row b mid → Put b e mid c exit → Put at (d ++ e) row c exit
 both_put {at} {b} {c} {d} {e} {row} {mid} {exit} h p q = record {
-  is = q.is ∙ ap (placed b e) p.is ∙ placed-behind row at d e b (omega (arith, h, length-append d e)) p.behind;
+  is = q.is ∙ ap (placed b e) p.is ∙ placed_behind row at d e b (omega (arith, h, length-append d e)) p.behind;
   behind = omega (arith, p.behind, q.behind, length-append d e);
 }
 
@@ -94,19 +94,19 @@ module _ {p q : Pen} {all rest : List Bool} {row₀ row : List ℕ} (w : Inking 
     cut : length rest ≡ length d + length e
     cut = ap length s.is ∙ length-append d e
 
-    pub bits-room : reached q + length d ≤ 8 * length row
-    bits-room = omega (arith, w.room, cut)
+    pub bits_room : reached q + length d ≤ 8 * length row
+    bits_room = omega (arith, w.room, cut)
 
-    pub bits-inked : {r : Pen} {exit : List ℕ} → Wrote q d row r exit → Inking p all row₀ r e exit
-    bits-inked {r} {exit} g = record {
+    pub bits_inked : {r : Pen} {exit : List ℕ} → Wrote q d row r exit → Inking p all row₀ r e exit
+    bits_inked {r} {exit} g = record {
       done = w.done ++ d;
       is = w.is ∙ ap (λ (l : List Bool). w.done ++ l) s.is ∙ sym (append_assoc w.done d e);
       wrote = wrote_both w.wrote g;
       room = omega (arith, w.room, cut, g.behind, g.long);
     }
 
-  pub all-inked : rest ≡ [] → Wrote p all row₀ q row
-  all-inked s =
+  pub all_inked : rest ≡ [] → Wrote p all row₀ q row
+  all_inked s =
       let e : w.done ≡ all = sym (w.is ∙ ap (λ (l : List Bool). w.done ++ l) s ∙ append-nil w.done) in
       subst (λ (l : List Bool). Wrote p l row₀ q row) e w.wrote
 
@@ -130,9 +130,9 @@ module _ (p : Pen) (l : List Bool) (j : ℕ) (row : List ℕ) (small : p.kept < 
       let z : p.width ≡ 0 = omega arith in
       ap (λ (w : ℕ). bits (take p.at row) ++ field w p.kept) z ∙ append-nil (bits (take p.at row))
 
-  pub put-wrote : {b : ℕ} {exit : List ℕ} → Put p.at (padded l) row b exit → Wrote p l row (pen b 0 0) exit
+  pub put_wrote : {b : ℕ} {exit : List ℕ} → Put p.at (padded l) row b exit → Wrote p l row (pen b 0 0) exit
   unfolding field
-  put-wrote {b} {exit} u =
+  put_wrote {b} {exit} u =
       let d : List ℕ = padded l in
       let at : ℕ = p.at in
       let front_long : length (take at row ++ d) ≡ b = length-append (take at row) d ∙ omega (arith, length-take-le at row (omega (arith, whole_room)), u.behind) in
@@ -146,16 +146,16 @@ module _ (p : Pen) (l : List Bool) (j : ℕ) (row : List ℕ) (small : p.kept < 
         on = omega (arith, u.behind);
         behind = omega (arith, u.behind, as_bytes);
         rest = ap (drop b) t ∙ drop_at (take at row ++ d) (drop (at + length d) row) b front_long ∙ ap (λ (n : ℕ). drop n row) (sym u.behind);
-        long = ap length u.is ∙ placed-long row at d whole_room;
+        long = ap length u.is ∙ placed_long row at d whole_room;
       }
 
 -- all bits of a file: a pen that began at the front was lifted
 module _ {p : Pen} {all : List Bool} {row mid exit : List ℕ} {n : ℕ} (w : Wrote (pen 0 0 0) all row p mid) (u : Lifted p mid n exit) (known : EachByte exit) where
-  reached-all : reached p ≡ length all
-  reached-all = omega (arith, w.behind)
+  reached_all : reached p ≡ length all
+  reached_all = omega (arith, w.behind)
 
-  pub lifted-long : n ≡ length (padded all)
-  lifted-long = let b : n ≡ (length all + 7) / 8 = omega (arith, u.ends, reached-all) in b ∙ sym (bytes-length ((length all + 7) / 8) _)
+  pub lifted_long : n ≡ length (padded all)
+  lifted_long = let b : n ≡ (length all + 7) / 8 = omega (arith, u.ends, reached_all) in b ∙ sym (bytes-length ((length all + 7) / 8) _)
 
   front_bytes : Bytes (take n exit)
   front_bytes i h = rw (get_or-take n exit i 0 (omega (arith, length-take n exit))) (known i)
@@ -165,10 +165,10 @@ module _ {p : Pen} {all : List Bool} {row mid exit : List ℕ} {n : ℕ} (w : Wr
       let s : p.at + (n - p.at) ≡ n = omega (arith, u.ends) in
       rw (← s, ← drop-drop (n - p.at) p.at mid, ← drop-drop (n - p.at) p.at row) (ap (drop (n - p.at)) w.rest)
 
-  pub lifted-front : exit ≡ front (padded all) row
+  pub lifted_front : exit ≡ front (padded all) row
   unfolding field bits
-  lifted-front =
+  lifted_front =
       let b : bits (take n exit) ≡ all ++ field (fill (length all)) 0 =
-      u.is ∙ ap₂ (λ (x : List Bool) (m : ℕ). x ++ field (fill m) 0) w.is reached-all in
+      u.is ∙ ap₂ (λ (x : List Bool) (m : ℕ). x ++ field (fill m) 0) w.is reached_all in
       let f : padded all ≡ take n exit = padded_filled (take n exit) front_bytes all (fill (length all)) (omega arith) b in
-      sym (take-append-drop n exit) ∙ ap₂ (λ (x y : List ℕ). x ++ y) (sym f) (u.rest ∙ behind_it ∙ ap (λ (k : ℕ). drop k row) lifted-long)
+      sym (take-append-drop n exit) ∙ ap₂ (λ (x y : List ℕ). x ++ y) (sym f) (u.rest ∙ behind_it ∙ ap (λ (k : ℕ). drop k row) lifted_long)

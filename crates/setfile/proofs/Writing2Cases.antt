@@ -13,7 +13,7 @@ use Rattle.bits.specs.Widths.{smallest}
 use Rattle.steps.specs.Steps.{steps}
 use Rattle.setfile.specs.Writing.{some_over, some_empty, leaving}
 use Rattle.setfile.specs.Writing2.{outcome}
-use Rattle.setfile.proofs.Outcome2Laws.{write-refused}
+use Rattle.setfile.proofs.Outcome2Laws.{write_refused}
 
 -- one record, from 0 on
 abbrev to : ℕ → List (List ℕ)
@@ -70,7 +70,7 @@ one_point_too_many : (p : List ℤ) → length p ≡ 65536 → all_on_grid limit
 unfolding most sound_from some_over
 one_point_too_many p e on row =
     let n : count p ≡ 32768 = omega arith in
-    write-refused p (to 32768) (to 1) row 12
+    write_refused p (to 32768) (to 1) row 12
     (first_is _ 12
     (past (ne_eqb (length p % 2) 1 (λ z. omega arith))
     (past (le-ltb most (count p) (omega arith))

@@ -5,7 +5,7 @@ use Rattle.grid.specs.Limits.{narrow}
 use Rattle.grid.specs.Domain.{count, size, off}
 use Rattle.rows.specs.Rows.{front}
 use Rattle.buffer.specs.declared.ranges.Span.{Span}
-use Rattle.buffer.specs.Spans.{spans, sound, size as span-size}
+use Rattle.buffer.specs.Spans.{spans, sound, size as span_size}
 use Rattle.buffer.specs.Sets.{shapes}
 use Rattle.buffer.specs.Refusals.{unsound}
 use Rattle.setfile.specs.declared.answer.Written.{Written}
@@ -24,12 +24,12 @@ most_points = 32767
 -- one of the spans is longer than this
 unfoldable pub some_over : ℕ → List Span → Bool
 some_over n [] = false
-some_over n (s ∷ l) = nat_lt n (span-size s) || some_over n l
+some_over n (s ∷ l) = nat_lt n (span_size s) || some_over n l
 
 -- one of the spans is empty
 unfoldable pub some_empty : List Span → Bool
 some_empty [] = false
-some_empty (s ∷ l) = span-size s == 0 || some_empty l
+some_empty (s ∷ l) = span_size s == 0 || some_empty l
 
 -- 12: over 4,095 contours, over 32,767 points in one, or an empty shape
 abbrev pub uncarried : List Span → List Span → List Rung

@@ -7,7 +7,7 @@ use Rattle.ring.specs.declared.Rule.{Rule}
 use Rattle.buffer.specs.Spans.{rows, total, laid}
 use Rattle.buffer.specs.Sets.{joined, Even}
 use Rattle.rows.specs.Rows.{placed}
-use Rattle.rows.proofs.PlacedLaws.{placed-none, placed-long, placed-behind, set_placed}
+use Rattle.rows.proofs.PlacedLaws.{placed_none, placed_long, placed_behind, set_placed}
 use Rattle.buffer.proofs.PackLaws.{count-append}
 use Rattle.buffer.proofs.Theorems.{the_counts_add_up}
 use Rattle.sets.specs.declared.inner.contour.Progress.{Progress}
@@ -36,7 +36,7 @@ same_progress e f g h = cc
 
 pub after_none : (s : Reached) → s ≡ after (record { contours = []; tally = none_counted }) s
 unfolding joined laid
-after_none s = same_reached (same_progress (omega arith) (omega arith) (omega arith) (omega arith)) (sym (placed-none s.points (2 * s.progress.points))) (sym (placed-none s.contours s.progress.contours))
+after_none s = same_reached (same_progress (omega arith) (omega arith) (omega arith) (omega arith)) (sym (placed_none s.points (2 * s.progress.points))) (sym (placed_none s.contours s.progress.contours))
 
 pub after_first : (c : List ℤ) (w : Fate) → Smaller c w → (s : Reached) → 2 * s.progress.points + length c ≤ length s.points → s.progress.contours < length s.contours
     → (t : Stay) → after t (placing w s) ≡ after (and_later w t) s
@@ -46,15 +46,15 @@ after_first c (stays d k) x s room space t =
     let j = length-append d (joined t.contours) in
     same_reached
     (same_progress (omega (arith, x.1)) (omega arith) (omega arith) (omega arith))
-    (placed-behind s.points (2 * s.progress.points) d (joined t.contours) (2 * (s.progress.points + count d)) (omega (arith, x.0)) (omega (arith, x.1)))
+    (placed_behind s.points (2 * s.progress.points) d (joined t.contours) (2 * (s.progress.points + count d)) (omega (arith, x.0)) (omega (arith, x.1)))
     (ap (placed (s.progress.contours + 1) (rows (laid (s.progress.points + count d) (map count t.contours)))) (set_placed s.contours s.progress.contours _ space)
-    ∙ placed-behind s.contours s.progress.contours (_ ∷ []) (rows (laid (s.progress.points + count d) (map count t.contours))) (s.progress.contours + 1) (omega arith) refl)
+    ∙ placed_behind s.contours s.progress.contours (_ ∷ []) (rows (laid (s.progress.points + count d) (map count t.contours))) (s.progress.contours + 1) (omega arith) refl)
 
 -- ranges laid behind ranges
 pub laid_behind : (row : List (List ℕ)) (k m p q : ℕ) (a b : List ℕ) → k + length a ≤ length row → m ≡ k + length a → q ≡ p + total a
     → placed m (rows (laid q b)) (placed k (rows (laid p a)) row) ≡ placed k (rows (laid p (a ++ b))) row
 laid_behind row k m p q a b h e f =
-    placed-behind row k (rows (laid p a)) (rows (laid q b)) m (omega (arith, rows_long p a)) (omega (arith, rows_long p a))
+    placed_behind row k (rows (laid p a)) (rows (laid q b)) m (omega (arith, rows_long p a)) (omega (arith, rows_long p a))
     ∙ ap (λ (l : List (List ℕ)). placed k l row) (sym (rows_laid p q a b f))
 
 -- contours that stay, and those that stay behind them
@@ -73,14 +73,14 @@ after_both u t s even room space =
     let m : length (map count a) ≡ length a = length-map a count in
     same_reached
     (same_progress (omega arith) (omega arith) (omega arith) (omega arith))
-    (placed-behind s.points (2 * s.progress.points) (joined a) (joined b) (2 * (s.progress.points + count (joined a))) room (omega arith) ∙ ap (λ (l : List ℤ). placed (2 * s.progress.points) l s.points) (sym j))
+    (placed_behind s.points (2 * s.progress.points) (joined a) (joined b) (2 * (s.progress.points + count (joined a))) room (omega arith) ∙ ap (λ (l : List ℤ). placed (2 * s.progress.points) l s.points) (sym j))
     (laid_behind s.contours s.progress.contours (s.progress.contours + length a) s.progress.points (s.progress.points + count (joined a)) (map count a) (map count b) (omega arith) (omega arith) (ap (λ (k : ℕ). s.progress.points + k) (the_counts_add_up a even))
     ∙ ap (λ (l : List ℕ). placed s.progress.contours (rows (laid s.progress.points l)) s.contours) (sym (map-append count a b)))
 
 pub placing_long : (c : List ℤ) (w : Fate) → Smaller c w → (s : Reached) → 2 * s.progress.points + length c ≤ length s.points
     → (length (placing w s).points ≡ length s.points) × (length (placing w s).contours ≡ length s.contours)
 placing_long c (gone k) x s room = (refl, refl)
-placing_long c (stays d k) x s room = (placed-long s.points (2 * s.progress.points) d (omega (arith, x.0)), length-set s.contours s.progress.contours _)
+placing_long c (stays d k) x s room = (placed_long s.points (2 * s.progress.points) d (omega (arith, x.0)), length-set s.contours s.progress.contours _)
 
 module _ (rule : Rule) where
   pub room_next : (c : List ℤ) (l : List (List ℤ)) (s : Reached) → Contour c (count c) → Room (c ∷ l) s.progress s.points s.contours
@@ -89,31 +89,31 @@ module _ (rule : Rule) where
       let b = placing_long c (fate rule c) (fate_smaller rule c k) s (omega (arith, r.room, joined_more c l)) in
       room_rest rule c l s.progress s.points s.contours r k _ _ _ refl b.0 b.1
 
-  first-after : (c : List ℤ) (l : List (List ℤ)) (s : Reached) → Contour c (count c) → Room (c ∷ l) s.progress s.points s.contours
+  first_after : (c : List ℤ) (l : List (List ℤ)) (s : Reached) → Contour c (count c) → Room (c ∷ l) s.progress s.points s.contours
       → (t : Stay) → after t (placing (fate rule c) s) ≡ after (and_later (fate rule c) t) s
-  first-after c l s k r t =
+  first_after c l s k r t =
       after_first c (fate rule c) (fate_smaller rule c k) s (omega (arith, r.room, joined_more c l)) (omega (arith, r.space)) t
 
-  pub run-after : (l : List (List ℤ)) (s : Reached) → Contours l → Room l s.progress s.points s.contours → run rule l s ≡ after (later rule l) s
+  pub run_after : (l : List (List ℤ)) (s : Reached) → Contours l → Room l s.progress s.points s.contours → run rule l s ≡ after (later rule l) s
   unfolding run later
-  run-after [] s a r = after_none s
-  run-after (c ∷ l) s a r = run-after l (placing (fate rule c) s) a.1 (room_next c l s a.0 r) ∙ first-after c l s a.0 r (later rule l)
+  run_after [] s a r = after_none s
+  run_after (c ∷ l) s a r = run_after l (placing (fate rule c) s) a.1 (room_next c l s a.0 r) ∙ first_after c l s a.0 r (later rule l)
 
   -- a shape's fate, behind what is written
   abbrev pub shaped : ShapeFate → Reached → Tested
   shaped (stands cs k) s = tested true (after (record { contours = cs; tally = k }) s)
   shaped (fallen k) s = tested false (placing (gone k) s)
 
-  pub shape-after : (l : List (List ℤ)) (s : Reached) → Contours l → Room l s.progress s.points s.contours → run_shape rule l s ≡ shaped (shape_fate rule l) s
+  pub shape_after : (l : List (List ℤ)) (s : Reached) → Contours l → Room l s.progress s.points s.contours → run_shape rule l s ≡ shaped (shape_fate rule l) s
   unfolding run_shape shape_fate
-  shape-after [] s a r = ap (tested true) (after_none s)
-  shape-after (c ∷ l) s a r = go (fate rule c) refl
+  shape_after [] s a r = ap (tested true) (after_none s)
+  shape_after (c ∷ l) s a r = go (fate rule c) refl
     where
       go : (w : Fate) → fate rule c ≡ w → outline w rule l s ≡ shaped (behind w (later rule l)) s
       go (gone k) e = refl
       go (stays d k) e =
           ap (tested true)
           (ap (λ (v : Fate). run rule l (placing v s)) (sym e)
-          ∙ run-after l (placing (fate rule c) s) a.1 (room_next c l s a.0 r)
-          ∙ first-after c l s a.0 r (later rule l)
+          ∙ run_after l (placing (fate rule c) s) a.1 (room_next c l s a.0 r)
+          ∙ first_after c l s a.0 r (later rule l)
           ∙ ap (λ (v : Fate). after (and_later v (later rule l)) s) e)

@@ -14,7 +14,7 @@ use Rattle.buffer.specs.Spans.{span, spans}
 use Rattle.buffer.specs.Sets.{contour, contours}
 use Rattle.sets.specs.Verdicts.{every}
 use Rattle.sets.specs.Area.{filled, empty, sum, reported-sum, area_refusals, doubled_by, half_by, half_of}
-use Rattle.sets.proofs.PartLaws.{next-part, no_part, Rest, one_passes}
+use Rattle.sets.proofs.PartLaws.{next_part, no_part, Rest, one_passes}
 
 -- a number's residue goes onto a sum
 added : (s b r : ℕ) (v t : ℤ) → b ≡ mod64 v → r ≡ (s + b) % 2 ^ 64 → mod64 (pos s +ℤ (v +ℤ t)) ≡ mod64 (pos r +ℤ t)
@@ -24,31 +24,31 @@ added s b r v t e f =
 
 -- the answers of a set with these contours
 module _ (set : List (List ℤ)) where
-  pub set-empty : every filled set ≡ false → record { reply = 8; value = pos 0 } ≡ doubled_by [] set
+  pub set_empty : every filled set ≡ false → record { reply = 8; value = pos 0 } ≡ doubled_by [] set
   unfolding doubled_by first_of
-  set-empty e = rw e
+  set_empty e = rw e
 
-  pub set-filled : (v : ℤ) → every filled set ≡ true → v ≡ reported-sum set → record { reply = 0; value = v } ≡ doubled_by [] set
+  pub set_filled : (v : ℤ) → every filled set ≡ true → v ≡ reported-sum set → record { reply = 0; value = v } ≡ doubled_by [] set
   unfolding doubled_by first_of
-  set-filled v e f = rw (f, e)
+  set_filled v e f = rw (f, e)
 
   -- it was refused with the number k, or was not
   module _ (k : ℕ) where
-    pub set-refused : (k ≡ 0 → ⊥) → record { reply = k; value = pos 0 } ≡ doubled_by (so_far k) set
+    pub set_refused : (k ≡ 0 → ⊥) → record { reply = k; value = pos 0 } ≡ doubled_by (so_far k) set
     unfolding doubled_by
-    set-refused n = rw (← first_is (area_refusals (so_far k) set) k (here (ap not (ne_eqb k 0 n)))) (answer_refused k _ n)
+    set_refused n = rw (← first_is (area_refusals (so_far k) set) k (here (ap not (ne_eqb k 0 n)))) (answer_refused k _ n)
 
-    pub set-taken : k ≡ 0 → doubled_by [] set ≡ doubled_by (so_far k) set
+    pub set_taken : k ≡ 0 → doubled_by [] set ≡ doubled_by (so_far k) set
     unfolding doubled_by first_of
-    set-taken z = rw z
+    set_taken z = rw z
 
-    pub set-doubled : (refusals : List Rung) → T (numbered refusals) → k ≡ first_of refusals → doubled_by (so_far k) set ≡ doubled_by refusals set
+    pub set_doubled : (refusals : List Rung) → T (numbered refusals) → k ≡ first_of refusals → doubled_by (so_far k) set ≡ doubled_by refusals set
     unfolding doubled_by
-    set-doubled refusals t e = ap (λ (r : ℕ). A.answer r (reported-sum set)) (so_far_then refusals (empty set) t k _ e refl)
+    set_doubled refusals t e = ap (λ (r : ℕ). A.answer r (reported-sum set)) (so_far_then refusals (empty set) t k _ e refl)
 
-  pub set-half : (refusals : List Rung) → half_of (doubled_by refusals set) ≡ half_by refusals set
+  pub set_half : (refusals : List Rung) → half_of (doubled_by refusals set) ≡ half_by refusals set
   unfolding doubled_by half_by
-  set-half refusals = answer_half (first_of (area_refusals refusals set)) (reported-sum set)
+  set_half refusals = answer_half (first_of (area_refusals refusals set)) (reported-sum set)
 
 -- a loop's sum, before it adds contour number i
 module _ (p : List ℤ) (cs : List (List ℕ)) where
@@ -71,7 +71,7 @@ module _ (p : List ℤ) (cs : List (List ℕ)) where
       within = omega arith;
       small = omega arith;
       rest = one_passes filled p cs 0 i g.rest h n;
-      is = g.is ∙ ap (λ (l : List (List ℤ)). mod64 (pos s +ℤ sum l)) (next-part p cs i h) ∙ added s b r (reported (points (contour p (span (get_or cs i []))))) (sum (drop (i + 1) set)) e f;
+      is = g.is ∙ ap (λ (l : List (List ℤ)). mod64 (pos s +ℤ sum l)) (next_part p cs i h) ∙ added s b r (reported (points (contour p (span (get_or cs i []))))) (sum (drop (i + 1) set)) e f;
     }
 
     pub gathered_all : length cs ≤ i → to_z w64 s ≡ reported-sum set

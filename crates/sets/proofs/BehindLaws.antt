@@ -11,7 +11,7 @@ use Rattle.buffer.specs.declared.ranges.Span.{Span}
 use Rattle.buffer.specs.Spans.{span, spans, size, sound}
 use Rattle.buffer.specs.Sets.{cut, joined, contour, contours}
 use Rattle.rows.specs.Rows.{placed}
-use Rattle.buffer.proofs.PartLaws.{names_of, part-long, part-contour}
+use Rattle.buffer.proofs.PartLaws.{names_of, part_long, part_contour}
 use Rattle.buffer.proofs.RefusalLaws.{Accepted}
 use Rattle.sets.specs.declared.inner.contour.Progress.{Progress}
 use Rattle.sets.specs.declared.inner.contour.Tried.{Tried}
@@ -29,16 +29,16 @@ back_long n row row' e =
 
 -- the part behind what is output-of, lent and put back
 module _ {A : Type 0} (a : ℕ) (xs : List A) where
-  whole-tail : length (drop a xs) ≤ length xs - a
-  whole-tail = omega (arith, length-drop a xs)
+  whole_tail : length (drop a xs) ≤ length xs - a
+  whole_tail = omega (arith, length-drop a xs)
 
-  tail-is : mid_of a (length xs - a) xs ≡ drop a xs
-  tail-is = take_all (length xs - a) (drop a xs) whole-tail
+  tail_is : mid_of a (length xs - a) xs ≡ drop a xs
+  tail_is = take_all (length xs - a) (drop a xs) whole_tail
 
   pub put_front : (d : List A) → put_mid a (length xs - a) xs (d ++ drop (length d) (mid_of a (length xs - a) xs)) ≡ placed a d xs
   put_front d =
-      ap (λ (l : List A). take a xs ++ ((d ++ drop (length d) l) ++ drop (length xs - a) (drop a xs))) tail-is
-      ∙ ap (λ (l : List A). take a xs ++ ((d ++ drop (length d) (drop a xs)) ++ l)) (drop_of_length-le (drop a xs) whole-tail)
+      ap (λ (l : List A). take a xs ++ ((d ++ drop (length d) l) ++ drop (length xs - a) (drop a xs))) tail_is
+      ∙ ap (λ (l : List A). take a xs ++ ((d ++ drop (length d) (drop a xs)) ++ l)) (drop_of_length-le (drop a xs) whole_tail)
       ∙ ap (λ (l : List A). take a xs ++ l) (append-nil (d ++ drop (length d) (drop a xs)))
       ∙ ap (λ (l : List A). take a xs ++ (d ++ l)) (drop-drop (length d) a xs)
       ∙ sym (append_assoc (take a xs) d (drop (a + length d) xs))
@@ -57,17 +57,17 @@ ready c next prev mark out x =
 
 -- how far the cleaning has come with a contour, by its reply
 module _ (r : Cleaned) (at : Progress) (ranges : List (List ℕ)) where
-  pub noting-gone : (k : ℕ) → (k ≡ 0 → ⊥)
+  pub noting_gone : (k : ℕ) → (k ≡ 0 → ⊥)
       → noted (record { stays = false; progress = record { points = at.points; contours = at.contours; decisions = at.decisions + r.decisions; turns = at.turns + r.turns } }) ranges ≡ noting k r at ranges
-  noting-gone zero n = absurd (n refl)
-  noting-gone (suc k) n = refl
+  noting_gone zero n = absurd (n refl)
+  noting_gone (suc k) n = refl
 
-  pub noting-stays : (k : ℕ) → k ≡ 0
+  pub noting_stays : (k : ℕ) → k ≡ 0
       → noted (record { stays = true; progress = record { points = at.points + r.points; contours = at.contours + 1; decisions = at.decisions + r.decisions; turns = at.turns + r.turns } })
       (set ranges at.contours (at.points ∷ (at.points + r.points) ∷ []))
       ≡ noting k r at ranges
-  noting-stays zero e = refl
-  noting-stays (suc k) e = absurd (omega arith)
+  noting_stays zero e = refl
+  noting_stays (suc k) e = absurd (omega arith)
 
 -- the output that it is lent
 pub cleanable_behind : (c : List ℤ) (at : Progress) (next prev mark : List ℕ) (out : List ℤ) (records : List (List ℕ)) → Placeable c at next prev mark out records
@@ -75,7 +75,7 @@ pub cleanable_behind : (c : List ℤ) (at : Progress) (next prev mark : List ℕ
 cleanable_behind c at next prev mark out records x = record {
   contour = x.contour;
   scratch = x.scratch;
-  room = rw (tail-is (2 * at.points) out) (omega (arith, x.room, length-drop (2 * at.points) out));
+  room = rw (tail_is (2 * at.points) out) (omega (arith, x.room, length-drop (2 * at.points) out));
 }
 
 pub same_reached : {p q : Progress} {a b : List ℤ} {k l : List (List ℕ)} → p ≡ q → a ≡ b → k ≡ l → reached p a k ≡ reached q b l
@@ -84,9 +84,9 @@ same_reached e f g = cc
 module _ (rule : Rule) (c out : List ℤ) (at : Progress) (records : List (List ℕ)) (r : Cleaned) (mid : List ℤ)
     (f : Fated rule c (mid_of (2 * at.points) (length out - 2 * at.points) out) r mid) where
   -- the output and the ranges, put together
-  pub behind-is : (t : Tried) (records' : List (List ℕ)) → noted t records' ≡ noting r.reply r at records
+  pub behind_is : (t : Tried) (records' : List (List ℕ)) → noted t records' ≡ noting r.reply r at records
       → Behind rule c (reached at out records) t (put_mid (2 * at.points) (length out - 2 * at.points) out mid) records'
-  behind-is t records' n = go (fate rule c) refl f.answer f.output
+  behind_is t records' n = go (fate rule c) refl f.answer f.output
     where
       told : {w : Fate} → fate rule c ≡ w → t.stays ≡ stayed w → reached t.progress (put_mid (2 * at.points) (length out - 2 * at.points) out mid) records' ≡ placing w (reached at out records)
           → Behind rule c (reached at out records) t (put_mid (2 * at.points) (length out - 2 * at.points) out mid) records'
@@ -104,8 +104,8 @@ module _ (rule : Rule) (c out : List ℤ) (at : Progress) (records : List (List 
           told e (ap (λ (q : Noted). q.tried.stays) m) (same_reached (ap (λ (q : Noted). q.tried.progress) m) put (ap (λ (q : Noted). q.ranges) m))
 
   -- what is added stays a number of the machine
-  counts-fit : Contour c (count c) → (r.decisions ≤ 2 * length c) × (r.turns ≤ 3 * length c) × (2 * r.points ≤ length c)
-  counts-fit x = go (fate rule c) (fate_smaller rule c x) f.answer
+  counts_fit : Contour c (count c) → (r.decisions ≤ 2 * length c) × (r.turns ≤ 3 * length c) × (2 * r.points ≤ length c)
+  counts_fit x = go (fate rule c) (fate_smaller rule c x) f.answer
     where
       go : (w : Fate) → Smaller c w → r ≡ answer_of w → (r.decisions ≤ 2 * length c) × (r.turns ≤ 3 * length c) × (2 * r.points ≤ length c)
       go (stays d k) s a = rw a (s.2, s.3, omega (arith, s.0, s.1))
@@ -113,7 +113,7 @@ module _ (rule : Rule) (c out : List ℤ) (at : Progress) (records : List (List 
 
   pub notable : (next prev mark : List ℕ) → Placeable c at next prev mark out records → length out < 2 ^ 64 → Notable r at records
   notable next prev mark x l =
-      let k = counts-fit x.contour in
+      let k = counts_fit x.contour in
       record {
         space = x.space;
         narrow = x.narrow;
@@ -149,20 +149,20 @@ accepted_named p cs ok a s = record {
 
 -- a contour that a range names is of the domain, and there is room for it
 module _ (p : List ℤ) (ranges : List (List ℕ)) (x : Named p ranges) (k : ℕ) (h : k < length ranges) where
-  pub named-contour : Contour (contour p (span (get_or ranges k []))) (count (contour p (span (get_or ranges k []))))
-  named-contour = part-contour p ranges k x.domain (x.names k h)
+  pub named_contour : Contour (contour p (span (get_or ranges k []))) (count (contour p (span (get_or ranges k []))))
+  named_contour = part_contour p ranges k x.domain (x.names k h)
 
-  part-few : count (contour p (span (get_or ranges k []))) ≤ count p
-  part-few = let n = x.names k h in omega (arith, part-long p ranges k x.domain n, n.fits, x.domain.even)
+  part_few : count (contour p (span (get_or ranges k []))) ≤ count p
+  part_few = let n = x.names k h in omega (arith, part_long p ranges k x.domain n, n.fits, x.domain.even)
 
-  pub part-placeable : (at : Progress) (next prev mark : List ℕ) (out : List ℤ) (records : List (List ℕ)) (l : List (List ℤ))
+  pub part_placeable : (at : Progress) (next prev mark : List ℕ) (out : List ℤ) (records : List (List ℕ)) (l : List (List ℤ))
       → Scratch (count p) next prev mark → Room (contour p (span (get_or ranges k [])) ∷ l) at out records
       → Placeable (contour p (span (get_or ranges k []))) at next prev mark out records
-  part-placeable at next prev mark out records l s r =
+  part_placeable at next prev mark out records l s r =
       let j = joined_more (contour p (span (get_or ranges k []))) l in
       record {
-        contour = named-contour;
-        scratch = record { in_next = omega (arith, part-few, s.in_next); in_prev = omega (arith, part-few, s.in_prev); in_mark = omega (arith, part-few, s.in_mark) };
+        contour = named_contour;
+        scratch = record { in_next = omega (arith, part_few, s.in_next); in_prev = omega (arith, part_few, s.in_prev); in_mark = omega (arith, part_few, s.in_mark) };
         room = omega (arith, r.room);
         space = omega (arith, r.space);
         narrow = omega (arith, r.narrow);
@@ -176,7 +176,7 @@ named_all p [] f = tt
 named_all p (r ∷ l) f = (f 0 (omega arith), named_all p l (λ k h. f (suc k) (omega arith)))
 
 pub all_named : (p : List ℤ) (cs : List (List ℕ)) → Named p cs → Contours (contours p (spans cs))
-all_named p cs n = named_all p cs (λ k h. named-contour p cs n k h)
+all_named p cs n = named_all p cs (λ k h. named_contour p cs n k h)
 
 -- and all shapes of such contours
 contours_taken : (n : ℕ) (l : List (List ℤ)) → Contours l → Contours (take n l)

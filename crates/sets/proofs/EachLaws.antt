@@ -120,9 +120,9 @@ module _ {rule : Rule} {p : List ℤ} {cs ss : List (List ℕ)} {out₀ : List �
     k : ℕ
     k = (span (get_or ss i [])).end - (span (get_or ss i [])).start
 
-    part-named : Named p (mid_of a k cs)
+    part_named : Named p (mid_of a k cs)
     unfolding a k
-    part-named = record {
+    part_named = record {
       domain = g.named.domain;
       names = λ j l.
           let n = length-take-le k (drop a cs) (omega (arith, (g.within i h).forward, (g.within i h).ends, length-drop a cs)) in
@@ -133,33 +133,33 @@ module _ {rule : Rule} {p : List ℤ} {cs ss : List (List ℕ)} {out₀ : List �
     unfolding a k
     next_is = ap (λ (l : List (List ℕ)). shapes p (spans cs) (spans l)) (drop-cons ss i [] h) ∙ ap (λ (c : List (List ℤ)). c ∷ shapes p (spans cs) (spans (drop (suc i) ss))) (sym (shape_part p cs a k))
 
-    next-room : Room (contours p (spans (mid_of a k cs)) ++ joined (shapes p (spans cs) (spans (drop (suc i) ss)))) at.progress out records
+    next_room : Room (contours p (spans (mid_of a k cs)) ++ joined (shapes p (spans cs) (spans (drop (suc i) ss)))) at.progress out records
     unfolding joined
-    next-room = rw next_is at x.room
+    next_room = rw next_is at x.room
 
-    pub grouping-addable : (own : List (List ℕ)) → own ≡ cut cs (span (get_or ss i [])) → (next prev mark : List ℕ) → length next ≡ length next₀ → length prev ≡ length prev₀ → length mark ≡ length mark₀
+    pub grouping_addable : (own : List (List ℕ)) → own ≡ cut cs (span (get_or ss i [])) → (next prev mark : List ℕ) → length next ≡ length next₀ → length prev ≡ length prev₀ → length mark ≡ length mark₀
         → Addable p own at next prev mark out records groups
     unfolding a k
-    grouping-addable own q next prev mark e f m =
+    grouping_addable own q next prev mark e f m =
         rw q (record {
           going = record {
-            named = part-named;
+            named = part_named;
             scratch = record { in_next = omega (arith, g.scratch.in_next); in_prev = omega (arith, g.scratch.in_prev); in_mark = omega (arith, g.scratch.in_mark) };
-            room = room_front _ _ at.progress out records next-room;
+            room = room_front _ _ at.progress out records next_room;
           };
           groupable = record { space = omega (arith, g.space, x.low, x.groups_long); narrow = omega (arith, g.narrow, x.low) };
         })
 
-    pub grouping-more : (own : List (List ℕ)) → own ≡ cut cs (span (get_or ss i [])) → (t : Total) (out' : List ℤ) (records' groups' : List (List ℕ))
+    pub grouping_more : (own : List (List ℕ)) → own ≡ cut cs (span (get_or ss i [])) → (t : Total) (out' : List ℤ) (records' groups' : List (List ℕ))
         → grouped t.shapes (reached t.progress out' records') groups' ≡ added (run_shape rule (contours p (spans own)) (reached at.progress out records)) (grouped at.shapes (reached at.progress out records) groups)
         → Grouping rule p cs ss out₀ records₀ groups₀ t out' records' groups' (i + 1)
     unfolding a k run_shapes
-    grouping-more own own_is t out' records' groups' said =
+    grouping_more own own_is t out' records' groups' said =
         let e = rw own_is at said in
         let s = reached at.progress out records in
         let l = contours p (spans (mid_of a k cs)) in
         let u = run_shape rule l s in
-        let y = shape_leaves rule (joined (shapes p (spans cs) (spans (drop (suc i) ss)))) l s (all_named p (mid_of a k cs) part-named) next-room in
+        let y = shape_leaves rule (joined (shapes p (spans cs) (spans (drop (suc i) ss)))) l s (all_named p (mid_of a k cs) part_named) next_room in
         let q : reached t.progress out' records' ≡ u.reached = ap (λ (w : Grouped). w.reached) e ∙ adding_reached u.stands u.reached _ in
         record {
           high = omega arith;
@@ -167,16 +167,16 @@ module _ {rule : Rule} {p : List ℤ} {cs ss : List (List ℕ)} {out₀ : List �
           out_long = ap (λ (w : Reached). length w.points) q ∙ y.points_long ∙ x.out_long;
           records_long = ap (λ (w : Reached). length w.contours) q ∙ y.contours_long ∙ x.records_long;
           groups_long = ap (λ (w : Grouped). length w.shapes) e ∙ adding_long u.stands u.reached (grouped at.shapes s groups) ∙ x.groups_long;
-          room = rw (add-one i) (rw (sym q) at (leaves-room y));
+          room = rw (add-one i) (rw (sym q) at (leaves_room y));
           is = rw (add-one i) (ap (run_shapes rule (shapes p (spans cs) (spans (drop (suc i) ss)))) e ∙ ap (λ (l : List (List (List ℤ))). run_shapes rule l (grouped at.shapes s groups)) (sym next_is) ∙ x.is);
         }
       where
-        leaves-room : {rest : List (List ℤ)} {s t : Reached} → Leaves rest s t → Room rest t.progress t.points t.contours
-        leaves-room y = y.room
+        leaves_room : {rest : List (List ℤ)} {s t : Reached} → Leaves rest s t → Room rest t.progress t.points t.contours
+        leaves_room y = y.room
 
-  pub grouping-all : length ss ≤ i → grouped at.shapes (reached at.progress out records) groups ≡ run_shapes rule (shapes p (spans cs) (spans ss)) (grouped 0 (reached none_yet out₀ records₀) groups₀)
+  pub grouping_all : length ss ≤ i → grouped at.shapes (reached at.progress out records) groups ≡ run_shapes rule (shapes p (spans cs) (spans ss)) (grouped 0 (reached none_yet out₀ records₀) groups₀)
   unfolding run_shapes
-  grouping-all h =
+  grouping_all h =
       let e : i ≡ length ss = omega (arith, x.high) in
       ap (λ (l : List (List ℕ)). run_shapes rule (shapes p (spans cs) (spans l)) (grouped at.shapes (reached at.progress out records) groups)) (sym (ap (λ (k : ℕ). drop k ss) e ∙ drop-length ss)) ∙ x.is
 
@@ -185,30 +185,30 @@ module _ (p : List ℤ) (cs : List (List ℕ)) where
   abbrev pub alone : List (List ℕ)
   alone = row (every cs) ∷ []
 
-  all-is : cut (contours p (spans cs)) (every cs) ≡ contours p (spans cs)
-  all-is = all_of (contours p (spans cs)) (every cs) refl (sym (length-map (spans cs) (contour p) ∙ spans-length cs))
+  all_is : cut (contours p (spans cs)) (every cs) ≡ contours p (spans cs)
+  all_is = all_of (contours p (spans cs)) (every cs) refl (sym (length-map (spans cs) (contour p) ∙ spans-length cs))
 
   module _ (out : List ℤ) (records groups : List (List ℕ)) where
-    pub alone-each : (next prev mark : List ℕ) → Going p cs none_yet next prev mark out records → length groups ≡ 1 → Each p cs alone next prev mark out records groups
+    pub alone_each : (next prev mark : List ℕ) → Going p cs none_yet next prev mark out records → length groups ≡ 1 → Each p cs alone next prev mark out records groups
     unfolding joined
-    alone-each next prev mark g e = record {
+    alone_each next prev mark g e = record {
       named = g.named;
       scratch = g.scratch;
       within = λ k h. let z : k ≡ 0 = omega arith in rw z (record { forward = omega arith; ends = omega arith });
-      room = subst (λ (l : List (List ℤ)). Room l none_yet out records) (sym (ap (λ (c : List (List ℤ)). joined (c ∷ [])) all-is ∙ append-nil (contours p (spans cs)))) g.room;
+      room = subst (λ (l : List (List ℤ)). Room l none_yet out records) (sym (ap (λ (c : List (List ℤ)). joined (c ∷ [])) all_is ∙ append-nil (contours p (spans cs)))) g.room;
       space = omega arith;
       narrow = omega arith;
     }
 
-    pub alone-tested : (rule : Rule) (t : Total) (out' : List ℤ) (records' groups' : List (List ℕ))
+    pub alone_tested : (rule : Rule) (t : Total) (out' : List ℤ) (records' groups' : List (List ℕ))
         → grouped t.shapes (reached t.progress out' records') groups' ≡ run_shapes rule (shapes p (spans cs) (spans alone)) (grouped 0 (reached none_yet out records) groups)
         → (r : Tried) → r ≡ only t → tested r.stays (reached r.progress out' records') ≡ run_shape rule (contours p (spans cs)) (reached none_yet out records)
     unfolding run_shapes
-    alone-tested rule t out' records' groups' e r o =
+    alone_tested rule t out' records' groups' e r o =
         let start = grouped 0 (reached none_yet out records) groups in
         let u = run_shape rule (contours p (spans cs)) (reached none_yet out records) in
         ap (λ (r : Tried). tested r.stays (reached r.progress out' records')) o
-        ∙ go u.stands u.reached (e ∙ ap (λ (c : List (List ℤ)). run_shapes rule (c ∷ []) start) all-is)
+        ∙ go u.stands u.reached (e ∙ ap (λ (c : List (List ℤ)). run_shapes rule (c ∷ []) start) all_is)
       where
         go : (b : Bool) (r : Reached) → grouped t.shapes (reached t.progress out' records') groups' ≡ adding b r (grouped 0 (reached none_yet out records) groups)
             → tested (eqb t.shapes 1) (reached t.progress out' records') ≡ tested b r

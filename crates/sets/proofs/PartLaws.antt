@@ -8,7 +8,7 @@ use Rattle.buffer.specs.Spans.{span, spans, sound}
 use Rattle.buffer.specs.Sets.{contour, contours}
 use Rattle.buffer.specs.inside.Ranges.{Names}
 use Rattle.buffer.specs.Contours.{refusals}
-use Rattle.buffer.proofs.PartLaws.{contours_at, contour-named, part-contour}
+use Rattle.buffer.proofs.PartLaws.{contours_at, contour_named, part_contour}
 use Rattle.grid.proofs.DomainLaws.{contour_clear}
 use Rattle.buffer.proofs.RefusalLaws.{accepted}
 use Rattle.sets.specs.Verdicts.{every}
@@ -18,20 +18,20 @@ module _ (p : List ℤ) (cs : List (List ℕ)) (k : ℕ) where
   all-length = length-map (spans cs) (contour p) ∙ length-map cs span
 
   -- the contours from number k on: the next of them, or none
-  pub next-part : k < length cs → drop k (contours p (spans cs)) ≡ contour p (span (get_or cs k [])) ∷ drop (k + 1) (contours p (spans cs))
-  next-part h = drop-cons (contours p (spans cs)) k [] (omega (arith, all-length)) ∙ rw (contours_at p cs k h, add-one k)
+  pub next_part : k < length cs → drop k (contours p (spans cs)) ≡ contour p (span (get_or cs k [])) ∷ drop (k + 1) (contours p (spans cs))
+  next_part h = drop-cons (contours p (spans cs)) k [] (omega (arith, all-length)) ∙ rw (contours_at p cs k h, add-one k)
 
   pub no_part : length cs ≤ k → drop k (contours p (spans cs)) ≡ []
   no_part h = drop_of_length-le (contours p (spans cs)) {i = k} (omega (arith, all-length))
 
   module _ (z : first_of (refusals p cs) ≡ 0) (h : k < length cs) where
-    pub part-named : Names p cs k
-    part-named = contour-named p cs k 0 (sym z) refl h
+    pub part_named : Names p cs k
+    part_named = contour_named p cs k 0 (sym z) refl h
 
-    pub part-in-domain : first_of (domain limit (contour p (span (get_or cs k [])))) ≡ 0
-    part-in-domain =
+    pub part_in_domain : first_of (domain limit (contour p (span (get_or cs k [])))) ≡ 0
+    part_in_domain =
         let a = accepted limit p (sound (spans cs) (count p)) z in
-        contour_clear _ (part-contour p cs k (record { even = a.even; few = a.few; on = a.on }) part-named)
+        contour_clear _ (part_contour p cs k (record { even = a.even; few = a.few; on = a.on }) part_named)
 
 -- a loop that asks contour after contour from number n on: those from number i on decide
 module _ (test : List ℤ → Bool) (p : List ℤ) (cs : List (List ℕ)) (n i : ℕ) where
@@ -40,13 +40,13 @@ module _ (test : List ℤ → Bool) (p : List ℤ) (cs : List (List ℕ)) (n i :
 
   module _ (l : Rest) where
     module _ (h : i < length cs) where
-      pub one-fails : test (contour p (span (get_or cs i []))) ≡ false → every test (drop n (contours p (spans cs))) ≡ false
+      pub one_fails : test (contour p (span (get_or cs i []))) ≡ false → every test (drop n (contours p (spans cs))) ≡ false
       unfolding every
-      one-fails e = l ∙ ap (every test) (next-part p cs i h) ∙ rw e
+      one_fails e = l ∙ ap (every test) (next_part p cs i h) ∙ rw e
 
       pub one_passes : test (contour p (span (get_or cs i []))) ≡ true → every test (drop n (contours p (spans cs))) ≡ every test (drop (i + 1) (contours p (spans cs)))
       unfolding every
-      one_passes e = l ∙ ap (every test) (next-part p cs i h) ∙ rw e
+      one_passes e = l ∙ ap (every test) (next_part p cs i h) ∙ rw e
 
     pub all_pass : length cs ≤ i → every test (drop n (contours p (spans cs))) ≡ true
     unfolding every

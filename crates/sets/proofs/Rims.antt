@@ -16,28 +16,28 @@ module _ (p : Point) (c : List ℤ) where
     unfolding location
     on_is = ap (λ (met : Bool). place_by met (contained p (points c))) on
 
-    pub a-shape-has-its-outline's-rim-but-for-what-lies-inside-a-later-contour : (later : List (List ℤ)) → has p (c ∷ later) ≡ inside_none p later
+    pub a_shape_has_its_outline's_rim_but_for_what_lies_inside_a_later_contour : (later : List (List ℤ)) → has p (c ∷ later) ≡ inside_none p later
     unfolding has
-    a-shape-has-its-outline's-rim-but-for-what-lies-inside-a-later-contour later = rw on_is
+    a_shape_has_its_outline's_rim_but_for_what_lies_inside_a_later_contour later = rw on_is
 
-    pub a-hole-takes-nothing-of-its-rim : (outline : List ℤ) (later : List (List ℤ)) → has p (outline ∷ c ∷ later) ≡ has p (outline ∷ later)
+    pub a_hole_takes_nothing_of_its_rim : (outline : List ℤ) (later : List (List ℤ)) → has p (outline ∷ c ∷ later) ≡ has p (outline ∷ later)
     unfolding has every
-    a-hole-takes-nothing-of-its-rim outline later = rw on_is
+    a_hole_takes_nothing_of_its_rim outline later = rw on_is
 
   module _ (off : on_boundary p (points c) ≡ false) where
-    off-is : location p (points c) ≡ place_by false (contained p (points c))
+    off_is : location p (points c) ≡ place_by false (contained p (points c))
     unfolding location
-    off-is = ap (λ (met : Bool). place_by met (contained p (points c))) off
+    off_is = ap (λ (met : Bool). place_by met (contained p (points c))) off
 
     inside_is : inside p c ≡ contained p (points c)
-    inside_is = ap (λ (k : ℕ). eqb k 2) off-is ∙ go (contained p (points c))
+    inside_is = ap (λ (k : ℕ). eqb k 2) off_is ∙ go (contained p (points c))
       where
         go : (b : Bool) → eqb (place_by false b) 2 ≡ b
         go true = refl
         go false = refl
 
-    not-outside-is : not (outside p c) ≡ contained p (points c)
-    not-outside-is = ap (λ (k : ℕ). not (eqb k 0)) off-is ∙ go (contained p (points c))
+    not_outside_is : not (outside p c) ≡ contained p (points c)
+    not_outside_is = ap (λ (k : ℕ). not (eqb k 0)) off_is ∙ go (contained p (points c))
       where
         go : (b : Bool) → not (eqb (place_by false b) 0) ≡ b
         go true = refl
@@ -60,4 +60,4 @@ pub off_every_rim_a_shape_has_what_its_first_contour_contains_and_no_later_one :
     → off_all p (c ∷ later) ≡ true → has p (c ∷ later) ≡ (contained p (points c) && contained_in_none p later)
 unfolding has every
 off_every_rim_a_shape_has_what_its_first_contour_contains_and_no_later_one p c later off =
-    ap₂ (λ (a b : Bool). a && b) (not-outside-is p c (not-true _ (and_left (not (on_boundary p (points c))) _ off))) (none_is p later (and_right (not (on_boundary p (points c))) _ off))
+    ap₂ (λ (a b : Bool). a && b) (not_outside_is p c (not-true _ (and_left (not (on_boundary p (points c))) _ off))) (none_is p later (and_right (not (on_boundary p (points c))) _ off))

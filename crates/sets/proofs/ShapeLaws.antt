@@ -17,7 +17,7 @@ use Rattle.sets.specs.Fates.Fate.{stays, gone}
 use Rattle.sets.specs.inside.Contour.{Scratch, Reached, reached, placing, stayed, Placeable, Behind}
 use Rattle.sets.specs.inside.Shape.{run, Tested, tested, outline, run_shape, Room, Named}
 use Rattle.sets.specs.inside.Shapes.{Grouped, grouped, adding, added}
-use Rattle.sets.proofs.BehindLaws.{room_rest, named-contour, part-placeable}
+use Rattle.sets.proofs.BehindLaws.{room_rest, named_contour, part_placeable}
 
 -- a range of another row that is the same names the same
 pub names_moved : (p : List ℤ) (ranges others : List (List ℕ)) (k i : ℕ) → get_or others i [] ≡ get_or ranges k [] → i < length others → Names p ranges k → Names p others i
@@ -66,26 +66,26 @@ module _ {rule : Rule} {p : List ℤ} {ranges : List (List ℕ)} {at₀ : Progre
     next_is : contours p (spans (drop i ranges)) ≡ contour p (span (get_or ranges i [])) ∷ contours p (spans (drop (suc i) ranges))
     next_is = ap (λ (l : List (List ℕ)). contours p (spans l)) (drop-cons ranges i [] there)
 
-    pub laying-placeable : (next prev mark : List ℕ) → Scratch (count p) next prev mark → Placeable (contour p (span (get_or ranges i []))) at next prev mark out records
-    laying-placeable next prev mark s = part-placeable p ranges n i there at next prev mark out records (contours p (spans (drop (suc i) ranges))) s (rw next_is at x.room)
+    pub laying_placeable : (next prev mark : List ℕ) → Scratch (count p) next prev mark → Placeable (contour p (span (get_or ranges i []))) at next prev mark out records
+    laying_placeable next prev mark s = part_placeable p ranges n i there at next prev mark out records (contours p (spans (drop (suc i) ranges))) s (rw next_is at x.room)
 
-    pub laying-more : (c : List ℤ) → c ≡ contour p (span (get_or ranges i [])) → (t : Tried) (out' : List ℤ) (records' : List (List ℕ)) → Behind rule c (reached at out records) t out' records'
+    pub laying_more : (c : List ℤ) → c ≡ contour p (span (get_or ranges i [])) → (t : Tried) (out' : List ℤ) (records' : List (List ℕ)) → Behind rule c (reached at out records) t out' records'
         → length out' ≡ length out → length records' ≡ length records → Laying rule p ranges at₀ out₀ records₀ (t.stays || ltb 0 i) t.progress out' records' (i + 1)
-    laying-more c g t out' records' b u v =
+    laying_more c g t out' records' b u v =
         let e : reached t.progress out' records' ≡ placing (fate rule (contour p (span (get_or ranges i [])))) (reached at out records) = b.is ∙ ap (λ (d : List ℤ). placing (fate rule d) (reached at out records)) g in
         let f : t.stays ≡ stayed (fate rule (contour p (span (get_or ranges i [])))) = b.stays ∙ ap (λ (d : List ℤ). stayed (fate rule d)) g in
         record {
           high = omega (arith, there);
           out_long = u ∙ x.out_long;
           records_long = v ∙ x.records_long;
-          room = rw (add-one i) (room_rest rule _ _ at out records (rw next_is at x.room) (named-contour p ranges n i there) t.progress out' records' e u v);
+          room = rw (add-one i) (room_rest rule _ _ at out records (rw next_is at x.room) (named_contour p ranges n i there) t.progress out' records' e u v);
           is = rw (add-one i)
               (from_here_more rule _ (contours p (spans (drop (suc i) ranges))) (reached at out records) _ t.stays i e f
               ∙ ap₂ (λ (b : Bool) (l : List (List ℤ)). from_here b i rule l (reached at out records)) (sym (and_left stands _ test)) (sym next_is) ∙ x.is);
         }
 
-  pub laying-all : (stands && ltb i (length ranges)) ≡ false → tested stands (reached at out records) ≡ run_shape rule (contours p (spans ranges)) (reached at₀ out₀ records₀)
-  laying-all h = go stands h ∙ x.is
+  pub laying_all : (stands && ltb i (length ranges)) ≡ false → tested stands (reached at out records) ≡ run_shape rule (contours p (spans ranges)) (reached at₀ out₀ records₀)
+  laying_all h = go stands h ∙ x.is
     where
       go : (b : Bool) → (b && ltb i (length ranges)) ≡ false → tested b (reached at out records) ≡ from_here b i rule (contours p (spans (drop i ranges))) (reached at out records)
       go true l =
@@ -99,11 +99,11 @@ same_grouped e f g = cc
 
 -- how far the cleaning has come with a shape, by whether it stands
 module _ (b : Bool) (r : Reached) (s : Grouped) where
-  pub adding-fallen : not b ≡ true → grouped s.written r s.shapes ≡ adding b r s
-  adding-fallen n = ap (λ (t : Bool). adding t r s) (sym (not-true b n))
+  pub adding_fallen : not b ≡ true → grouped s.written r s.shapes ≡ adding b r s
+  adding_fallen n = ap (λ (t : Bool). adding t r s) (sym (not-true b n))
 
-  pub adding-standing : not b ≡ false → grouped (s.written + 1) r (set s.shapes s.written (s.reached.progress.contours ∷ r.progress.contours ∷ [])) ≡ adding b r s
-  adding-standing n = ap (λ (t : Bool). adding t r s) (sym (not-false b n))
+  pub adding_standing : not b ≡ false → grouped (s.written + 1) r (set s.shapes s.written (s.reached.progress.contours ∷ r.progress.contours ∷ [])) ≡ adding b r s
+  adding_standing n = ap (λ (t : Bool). adding t r s) (sym (not-false b n))
 
 -- a shape that was tried, behind those that are written: its range goes by how far the cleaning has come, whatever the rows
 pub added_is : (b : Bool) (at before : Progress) (k : ℕ) (groups groups' : List (List ℕ)) (r : Total)

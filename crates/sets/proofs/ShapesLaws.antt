@@ -10,12 +10,12 @@ use Rattle.sets.specs.inside.Shape.{Tested, run_shape, Room}
 use Rattle.sets.specs.inside.Shapes.{Grouped, grouped, added, run_shapes}
 use Rattle.sets.specs.Promises.{AllContours}
 use Rattle.sets.proofs.LaidLaws.{points_even}
-use Rattle.rows.proofs.PlacedLaws.{placed-none, set_placed}
+use Rattle.rows.proofs.PlacedLaws.{placed_none, set_placed}
 use Rattle.sets.proofs.BehindLaws.{same_reached}
-use Rattle.sets.proofs.AfterLaws.{laid_behind, after, after_none, after_both, same_progress, shaped, shape-after}
+use Rattle.sets.proofs.AfterLaws.{laid_behind, after, after_none, after_both, same_progress, shaped, shape_after}
 use Rattle.sets.proofs.ShapeLaws.{same_grouped}
 use Rattle.sets.proofs.EachLaws.{Leaves, room_front, shape_leaves, adding_reached, adding_few, adding_long}
-use Rattle.sets.proofs.Kept.{ShapeRight, shape-is-right}
+use Rattle.sets.proofs.Kept.{ShapeRight, shape_is_right}
 
 -- shapes that stay, laid behind those that are written
 abbrev pub among : Shapes → Grouped → Grouped
@@ -38,16 +38,16 @@ module _ (rule : Rule) where
       (ap (placed (s.written + 1) (rows (laid (s.reached.progress.contours + length ds) (map length t.shapes)))) (set_placed s.shapes s.written _ (omega arith))
       ∙ laid_behind s.shapes s.written (s.written + 1) s.reached.progress.contours (s.reached.progress.contours + length ds) (length ds ∷ []) (map length t.shapes) h refl (omega arith))
 
-  pub shapes-after : (l : List (List (List ℤ))) (s : Grouped) → AllContours l → Room (joined l) s.reached.progress s.reached.points s.reached.contours → s.written + length l ≤ length s.shapes
+  pub shapes_after : (l : List (List (List ℤ))) (s : Grouped) → AllContours l → Room (joined l) s.reached.progress s.reached.points s.reached.contours → s.written + length l ≤ length s.shapes
       → run_shapes rule l s ≡ among (shapes_fate rule l) s
   unfolding run_shapes shapes_fate joined laid
-  shapes-after [] s a r h = same_grouped (omega arith) (after_none s.reached) (sym (placed-none s.shapes s.written))
-  shapes-after (c ∷ l) s a r h =
+  shapes_after [] s a r h = same_grouped (omega arith) (after_none s.reached) (sym (placed_none s.shapes s.written))
+  shapes_after (c ∷ l) s a r h =
       let u = run_shape rule c s.reached in
       let y : Leaves (joined l) s.reached u.reached = shape_leaves rule (joined l) c s.reached a.0 r in
-      let e : u ≡ shaped rule (shape_fate rule c) s.reached = shape-after rule c s.reached a.0 (room_front c (joined l) s.reached.progress s.reached.points s.reached.contours r) in
-      shapes-after l (added u s) a.1
+      let e : u ≡ shaped rule (shape_fate rule c) s.reached = shape_after rule c s.reached a.0 (room_front c (joined l) s.reached.progress s.reached.points s.reached.contours r) in
+      shapes_after l (added u s) a.1
       (rw (adding_reached u.stands u.reached s) y.room)
       (omega (arith, adding_few u.stands u.reached s, adding_long u.stands u.reached s))
       ∙ ap (λ (v : Tested). among (shapes_fate rule l) (added v s)) e
-      ∙ among_first c (joined l) (shape_fate rule c) (shape-is-right rule c a.0) s (rw e at y) (omega arith) (shapes_fate rule l)
+      ∙ among_first c (joined l) (shape_fate rule c) (shape_is_right rule c a.0) s (rw e at y) (omega arith) (shapes_fate rule l)

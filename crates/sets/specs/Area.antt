@@ -8,7 +8,7 @@ use Rattle.area.specs.declared.answer.Area.{Area}
 use Rattle.area.specs.Answers.{answer}
 use Rattle.buffer.specs.Spans.{spans}
 use Rattle.buffer.specs.Sets.{contours}
-use Rattle.buffer.specs.Contours.{refusals as contour-refusals}
+use Rattle.buffer.specs.Contours.{refusals as contour_refusals}
 use Rattle.buffer.specs.Shapes.{refusals as shape_refusals}
 use Rattle.sets.specs.Verdicts.{every}
 
@@ -47,11 +47,11 @@ half_of two = record { reply = two.reply; value = halved two.value }
 
 -- the doubled area of a contour set
 abbrev pub doubled : List ℤ → List (List ℕ) → Area
-doubled p ranges = doubled_by (contour-refusals p ranges) (contours p (spans ranges))
+doubled p ranges = doubled_by (contour_refusals p ranges) (contours p (spans ranges))
 
 -- the halved area of a contour set
 abbrev pub half : List ℤ → List (List ℕ) → Area
-half p ranges = half_by (contour-refusals p ranges) (contours p (spans ranges))
+half p ranges = half_by (contour_refusals p ranges) (contours p (spans ranges))
 
 -- the doubled area of a shape set
 abbrev pub shapes_doubled : List ℤ → List (List ℕ) → List (List ℕ) → Area

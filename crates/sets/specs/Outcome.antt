@@ -7,7 +7,7 @@ use Rattle.ring.specs.declared.Rule.{Rule}
 use Rattle.clean.specs.Outcome.{scratch}
 use Rattle.buffer.specs.Spans.{spans, rows}
 use Rattle.buffer.specs.Sets.{joined, contours, shapes, contour_spans, shape_spans}
-use Rattle.buffer.specs.Contours.{refusals as contour-refusals}
+use Rattle.buffer.specs.Contours.{refusals as contour_refusals}
 use Rattle.buffer.specs.Shapes.{refusals as shape_refusals}
 use Rattle.sets.specs.declared.cleaning.CleanedSet.{CleanedSet}
 use Rattle.sets.specs.Fates.{ShapeFate, Shapes, shape_fate, shapes_fate}
@@ -69,7 +69,7 @@ cleaned_shape n (fallen t) l = record { answer = answer 7 0 0 0 t.decisions t.tu
 -- cleaning one shape: the contours of a contour set
 unfoldable pub shape_outcome : Rule → List ℤ → List (List ℕ) → Lent → Outcome
 shape_outcome rule p cs l =
-    outcome (first_of (contour-refusals p cs ++ lacking p cs [] l)) l
+    outcome (first_of (contour_refusals p cs ++ lacking p cs [] l)) l
     (cleaned_shape (count p) (shape_fate rule (contours p (spans cs))) l)
 
 -- cleaned shapes, in front of the rows

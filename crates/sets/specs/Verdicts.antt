@@ -9,7 +9,7 @@ use Rattle.ring.specs.declared.Rule.TheVariants.{Collinear, Spike}
 use Rattle.clean.specs.Verdicts.{passes}
 use Rattle.buffer.specs.Spans.{spans}
 use Rattle.buffer.specs.Sets.{contours}
-use Rattle.buffer.specs.Contours.{refusals as contour-refusals}
+use Rattle.buffer.specs.Contours.{refusals as contour_refusals}
 use Rattle.buffer.specs.Shapes.{refusals as shape_refusals}
 
 -- every contour passes a test; those of a set of none do
@@ -27,11 +27,11 @@ verdict_by rule refusals set = verdict (first_of refusals) (all_pass rule set)
 
 -- every contour of a contour set is simple
 abbrev pub simple : List ℤ → List (List ℕ) → Verdict
-simple p ranges = verdict_by Collinear (contour-refusals p ranges) (contours p (spans ranges))
+simple p ranges = verdict_by Collinear (contour_refusals p ranges) (contours p (spans ranges))
 
 -- no contour of a contour set has spikes
 abbrev pub spike_free : List ℤ → List (List ℕ) → Verdict
-spike_free p ranges = verdict_by Spike (contour-refusals p ranges) (contours p (spans ranges))
+spike_free p ranges = verdict_by Spike (contour_refusals p ranges) (contours p (spans ranges))
 
 -- every contour of a shape set is simple
 abbrev pub shapes_simple : List ℤ → List (List ℕ) → List (List ℕ) → Verdict

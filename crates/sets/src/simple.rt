@@ -1,6 +1,6 @@
 // Sets of simple contours, and shapes without their collinear points.
 ghost use Rattle.std.specs.Prelude.{◌≡◌, []};
-ghost use Rattle.sets.specs.Verdicts.{simple as simple-verdict};
+ghost use Rattle.sets.specs.Verdicts.{simple as simple_verdict};
 ghost use Rattle.ring.specs.declared.Rule as R;
 ghost use Rattle.sets.specs.Outcome.{lent, leaving, shape_outcome, shapes_outcome};
 
@@ -12,7 +12,7 @@ use ring::Rule;
 
 // Whether every contour of the set is simple.
 pub fn is_simple(points: &[i32], ranges: &[[usize; 2]]) -> Verdict
-    ensures { result ≡ simple-verdict points.now ranges.now }
+    ensures { result ≡ simple_verdict points.now ranges.now }
 {
     passing::verdict(Rule::Collinear, points, ranges)
 }

@@ -11,7 +11,7 @@ use Rattle.path.specs.Locate.{location}
 use Rattle.buffer.specs.Sets.{contour}
 use Rattle.pool.specs.Rows.{Slot, span_of}
 use Rattle.pool.specs.inside.Records.{press_at}
-use Rattle.pool.proofs.RecordLaws.{own-mine, own-others, own-done}
+use Rattle.pool.proofs.RecordLaws.{own_mine, own_others, own_done}
 use Rattle.sets.specs.Verdicts.{every}
 use Rattle.sets.specs.Contains.{has}
 use Rattle.sifting.specs.inside.Cleaning.{contour_at}
@@ -39,17 +39,17 @@ module _ (row : List ℤ) (records : List (List ℕ)) (n press : ℕ) (p : Point
   module _ {met : Bool} {i : ℕ} (d : Deciding met i) where
     pub deciding_none : n ≤ i → met ≡ has_from false p (shape_from row records n press 0)
     deciding_none h =
-        sym (d.is ∙ ap (λ (l : List Slot). has_from met p (map (λ (s : Slot). contour row (span_of s)) l)) (own-done records n i fit press h) ∙ none_of met p)
+        sym (d.is ∙ ap (λ (l : List Slot). has_from met p (map (λ (s : Slot). contour row (span_of s)) l)) (own_done records n i fit press h) ∙ none_of met p)
 
     module _ (h : i < n) where
       pub deciding_past : (press_at records i ≡ press → ⊥) → Deciding met (i + 1)
-      deciding_past f = record { is = d.is ∙ ap (λ (l : List Slot). has_from met p (map (λ (s : Slot). contour row (span_of s)) l)) (own-others records n i fit press h f) }
+      deciding_past f = record { is = d.is ∙ ap (λ (l : List Slot). has_from met p (map (λ (s : Slot). contour row (span_of s)) l)) (own_others records n i fit press h f) }
 
       module _ (e : press_at records i ≡ press) where
         here : has_from false p (shape_from row records n press 0)
             ≡ (not (ruled_by met (location p (points (contour_at row records i)))) && has_from true p (shape_from row records n press (i + 1)))
         here =
-            d.is ∙ ap (λ (l : List Slot). has_from met p (map (λ (s : Slot). contour row (span_of s)) l)) (own-mine records n i fit press h e)
+            d.is ∙ ap (λ (l : List Slot). has_from met p (map (λ (s : Slot). contour row (span_of s)) l)) (own_mine records n i fit press h e)
             ∙ one_of met p (contour_at row records i) (shape_from row records n press (i + 1))
 
         pub deciding_out : ruled_by met (location p (points (contour_at row records i))) ≡ true → false ≡ has_from false p (shape_from row records n press 0)

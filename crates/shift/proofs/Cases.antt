@@ -16,7 +16,7 @@ use Rattle.ring.specs.Rule.{goes_at}
 use Rattle.clean.specs.Verdicts.{is_simple}
 use Rattle.clean.specs.Outcome.{chosen}
 use Rattle.buffer.specs.Sets.{joined}
-use Rattle.pool.specs.Lists.{Entry, entry, held, own, has as has-any, removed}
+use Rattle.pool.specs.Lists.{Entry, entry, held, own, has as has_any, removed}
 use Rattle.pool.specs.Rows.{slots_from}
 use Rattle.sets.specs.Verdicts.{every}
 use Rattle.sets.specs.Fates.{fate}
@@ -70,11 +70,11 @@ abbrev triangle : List Entry
 triangle = entry 0 0 (row (0 ∷ 0 ∷ 4 ∷ 0 ∷ 0 ∷ 4 ∷ [])) ∷ []
 
 all_agree : told_of (played (before ++ row (2 ∷ 0 ∷ 1 ∷ []) ++ behind)) ≡ plain 0 5 0 1
-unfolding read items replay cleaned survivors_from others successor predecessor occurrences unmark unmark_about remove decide look looks walk goes_at points cross dot limit most on_grid all_on_grid first_of last differing distinct_neighbours corners_from corners some is_simple chosen fate own held slots_from joined has-any removed has every location on_boundary on_edge touched contained odd xor crosses
+unfolding read items replay cleaned survivors_from others successor predecessor occurrences unmark unmark_about remove decide look looks walk goes_at points cross dot limit most on_grid all_on_grid first_of last differing distinct_neighbours corners_from corners some is_simple chosen fate own held slots_from joined has_any removed has every location on_boundary on_edge touched contained odd xor crosses
 all_agree = refl
 
 held_then : (played (before ++ row (2 ∷ 0 ∷ 1 ∷ []) ++ behind)).state.pool ≡ triangle
-unfolding read items replay cleaned survivors_from others successor predecessor occurrences unmark unmark_about remove decide look looks walk goes_at points cross dot limit most on_grid all_on_grid first_of last differing distinct_neighbours corners_from corners some is_simple chosen fate own held slots_from joined has-any removed has every location on_boundary on_edge touched contained odd xor crosses
+unfolding read items replay cleaned survivors_from others successor predecessor occurrences unmark unmark_about remove decide look looks walk goes_at points cross dot limit most on_grid all_on_grid first_of last differing distinct_neighbours corners_from corners some is_simple chosen fate own held slots_from joined has_any removed has every location on_boundary on_edge touched contained odd xor crosses
 held_then = refl
 
 -- with other decisions recorded the cleaning differs at place 22, and has been done; what is no step behind it is not reached

@@ -19,7 +19,7 @@ use Rattle.grid.specs.Points.{on}
 use Rattle.grid.specs.Domain.{count, Contour}
 use Rattle.ring.specs.declared.Rule.TheVariants.{Collinear}
 use Rattle.buffer.specs.Sets.{contour}
-use Rattle.sets.specs.Contains.{has as has-point}
+use Rattle.sets.specs.Contains.{has as has_point}
 use Rattle.sifting.specs.inside.Sifting.{InPlace}
 use Rattle.shift.specs.inside.Asking.{has_from, shape_from, Askable}
 use Rattle.ring.specs.declared.Rule.{Rule}
@@ -35,10 +35,10 @@ use Rattle.pool.specs.inside.Surveys.{Surveyed, share_of, with_more}
 use Rattle.pool.specs.declared.inner.survey.Survey.{Survey}
 use Rattle.pool.proofs.ListLaws.{every_removed, own-append, held-append, total-append, total_held, length_held, held_both, removed_is}
 use Rattle.pool.proofs.FairLaws.{held_all}
-use Rattle.pool.proofs.LayoutLaws.{slots_length, numbers-length, contours_are, slot_is, slot_at_is, press-is}
-use Rattle.pool.proofs.SoundLaws.{sound-lies, sound-fair, sound-tooled, read_own}
-use Rattle.pool.proofs.CallLaws.{all_held, shares-small, records_there, remove-none}
-use Rattle.pool.proofs.RowTheorems.{read_laid, sound_laid, called-told, called-list, called-sound, called-enough, surveyed-more}
+use Rattle.pool.proofs.LayoutLaws.{slots_length, numbers-length, contours_are, slot_is, slot_at_is, press_is}
+use Rattle.pool.proofs.SoundLaws.{sound_lies, sound_fair, sound_tooled, read_own}
+use Rattle.pool.proofs.CallLaws.{all_held, shares_small, records_there, remove_none}
+use Rattle.pool.proofs.RowTheorems.{read_laid, sound_laid, called_told, called_list, called_sound, called_enough, surveyed_more}
 use Rattle.shift.specs.Steps.{Request}
 use Rattle.shift.specs.Steps.Request.{adds, removes, cleans, asks}
 use Rattle.shift.specs.States.{telling, shape, yes_or_no, asked, told, after}
@@ -48,7 +48,7 @@ use Rattle.shift.specs.inside.Doing.{Held, Did, with_less}
 use Rattle.shift.specs.declared.inner.doing.Done.{Done}
 use Rattle.shift.proofs.Theorems.{the_pool_stays_in_the_domain}
 use Rattle.sifting.proofs.GoingLaws.{own_held, all_long, domain_parts, total_parts, this_is, slot_there}
-use Rattle.sifting.proofs.CleanedLaws.{cleaned-in-domain, cleaned-tools, cleaned-fair, domain_even}
+use Rattle.sifting.proofs.CleanedLaws.{cleaned_in_domain, cleaned_tools, cleaned_fair, domain_even}
 
 -- every number of a ladder is small
 abbrev Small : List Rung → Type 0
@@ -91,10 +91,10 @@ module _ (s : Lent) (f : Survey) (h : Held s f) where
   is_sound = sym h.surveyed.sound_is ∙ h.sound
 
   pub lies : Lies pool s
-  lies = sound-lies s is_sound
+  lies = sound_lies s is_sound
 
   pub fair : Fair pool
-  fair = sound-fair s is_sound
+  fair = sound_fair s is_sound
 
   -- a request that leaves the rows as they are
   pub did_nothing : (request : Request) → after request pool ≡ pool → (r : Done) → telling r.reply r.result ≡ told request pool → r.found ≡ f → r.reply ≤ 255 → r.result ≤ 4 * capacity
@@ -113,30 +113,30 @@ module _ (s : Lent) (f : Survey) (h : Held s f) where
     abbrev p : ℕ
     p = number b
 
-    told-now : Calls.told (enough s) p pool c ≡ Calls.told true p pool c
-    told-now = ap (λ (e : Bool). Calls.told e p pool c) h.room
+    told_now : Calls.told (enough s) p pool c ≡ Calls.told true p pool c
+    told_now = ap (λ (e : Bool). Calls.told e p pool c) h.room
 
-    asked-now : refused p c s ≡ Calls.told true p pool c
-    asked-now = ap (λ (t : Bool). first_of (refusals t (enough s) (own p pool) (held (own (other p) pool)) c)) is_sound ∙ told-now
+    asked_now : refused p c s ≡ Calls.told true p pool c
+    asked_now = ap (λ (t : Bool). first_of (refusals t (enough s) (own p pool) (held (own (other p) pool)) c)) is_sound ∙ told_now
 
-    reply-now : (called p c s).reply ≡ Calls.told true p pool c
-    reply-now = called-told s is_sound p c ∙ told-now
+    reply_now : (called p c s).reply ≡ Calls.told true p pool c
+    reply_now = called_told s is_sound p c ∙ told_now
 
-    list-now : contents (called p c s).pool ≡ Calls.after true p c pool
-    list-now = called-list s is_sound p c ∙ ap (λ (e : Bool). Calls.after e p c pool) h.room
+    list_now : contents (called p c s).pool ≡ Calls.after true p c pool
+    list_now = called_list s is_sound p c ∙ ap (λ (e : Bool). Calls.after e p c pool) h.room
 
-    laid-now : (called p c s).pool ≡ laid_out (Calls.after true p c pool) s
+    laid_now : (called p c s).pool ≡ laid_out (Calls.after true p c pool) s
     unfolding called
-    laid-now = go (refused p c s) ∙ ap (λ (r : ℕ). laid_out (unless r (done p c pool) pool) s) asked-now
+    laid_now = go (refused p c s) ∙ ap (λ (r : ℕ). laid_out (unless r (done p c pool) pool) s) asked_now
       where
         go : (r : ℕ) → (outcome r (done p c pool) s).pool ≡ laid_out (unless r (done p c pool) pool) s
         go zero = refl
         go (suc r) = lies.is
 
     -- where it is refused the rows are as they were
-    refused-now : ((called p c s).reply ≡ 0 → ⊥) → (called p c s).pool ≡ s
+    refused_now : ((called p c s).reply ≡ 0 → ⊥) → (called p c s).pool ≡ s
     unfolding called
-    refused-now n = go (refused p c s) n
+    refused_now n = go (refused p c s) n
       where
         go : (r : ℕ) → ((outcome r (done p c pool) s).reply ≡ 0 → ⊥) → (outcome r (done p c pool) s).pool ≡ s
         go zero n = absurd (n refl)
@@ -147,72 +147,72 @@ module _ (s : Lent) (f : Survey) (h : Held s f) where
       reply_is : r.reply ≡ (called p c s).reply
       reply_is = ap (λ (o : Outcome). o.reply) g
 
-      pool-now : t ≡ (called p c s).pool
-      pool-now = ap (λ (o : Outcome). o.pool) g
+      pool_now : t ≡ (called p c s).pool
+      pool_now = ap (λ (o : Outcome). o.pool) g
 
-      pub did-call : Surveyed t r.found → r.found.sound ≡ true → Every InDomain (after request pool) → Did request s r t
-      did-call u e d = record {
-        told_is = ap₂ telling (reply_is ∙ reply-now) z ∙ told-as;
-        rows_are = pool-now ∙ laid-now ∙ ap (λ (l : List Entry). laid_out l s) after-as;
-        pool_is = ap contents pool-now ∙ list-now ∙ after-as;
+      pub did_call : Surveyed t r.found → r.found.sound ≡ true → Every InDomain (after request pool) → Did request s r t
+      did_call u e d = record {
+        told_is = ap₂ telling (reply_is ∙ reply_now) z ∙ told-as;
+        rows_are = pool_now ∙ laid_now ∙ ap (λ (l : List Entry). laid_out l s) after-as;
+        pool_is = ap contents pool_now ∙ list_now ∙ after-as;
         held = record {
           surveyed = u;
           sound = e;
-          room = ap enough pool-now ∙ called-enough s is_sound p (number_few b) c ∙ h.room;
-          in_domain = subst (Every InDomain) (sym (ap contents pool-now ∙ list-now ∙ after-as)) d;
+          room = ap enough pool_now ∙ called_enough s is_sound p (number_few b) c ∙ h.room;
+          in_domain = subst (Every InDomain) (sym (ap contents pool_now ∙ list_now ∙ after-as)) d;
         };
-        reply_few = omega (arith, reply_is, reply-now, told_small p c pool);
+        reply_few = omega (arith, reply_is, reply_now, told_small p c pool);
         result_few = omega (arith, z);
       }
 
-      pub did-refused : (r.reply ≡ 0 → ⊥) → r.found ≡ f → Every InDomain (after request pool) → Did request s r t
-      did-refused n k d =
-          let same : t ≡ s = pool-now ∙ refused-now (λ q. n (reply_is ∙ q)) in
-          did-call (subst (λ (x : Lent). Surveyed x r.found) (sym same) (subst (Surveyed s) (sym k) h.surveyed)) (ap (λ (x : Survey). x.sound) k ∙ h.sound) d
+      pub did_refused : (r.reply ≡ 0 → ⊥) → r.found ≡ f → Every InDomain (after request pool) → Did request s r t
+      did_refused n k d =
+          let same : t ≡ s = pool_now ∙ refused_now (λ q. n (reply_is ∙ q)) in
+          did_call (subst (λ (x : Lent). Surveyed x r.found) (sym same) (subst (Surveyed s) (sym k) h.surveyed)) (ap (λ (x : Survey). x.sound) k ∙ h.sound) d
 
-  pub added-surveyed : (b : Bool) (contour : List ℤ) → (called (number b) (add 0 contour) s).reply ≡ 0 → Surveyed (called (number b) (add 0 contour) s).pool (with_more b (count contour) f)
-  added-surveyed b contour z = surveyed-more s f h.surveyed 0 contour (omega arith) h.sound b z
+  pub added_surveyed : (b : Bool) (contour : List ℤ) → (called (number b) (add 0 contour) s).reply ≡ 0 → Surveyed (called (number b) (add 0 contour) s).pool (with_more b (count contour) f)
+  added_surveyed b contour z = surveyed_more s f h.surveyed 0 contour (omega arith) h.sound b z
 
   -- a pool that was cleaned
   module _ (rule : Rule) where
     abbrev left : List Entry
     left = (cleaned rule pool).pool
 
-    left-even : Every Even left
-    left-even = domain_even left (cleaned-in-domain rule pool h.in_domain)
+    left_even : Every Even left
+    left_even = domain_even left (cleaned_in_domain rule pool h.in_domain)
 
-    left-fair : Fair left
-    left-fair = cleaned-fair rule pool h.in_domain fair
+    left_fair : Fair left
+    left_fair = cleaned_fair rule pool h.in_domain fair
 
     room_of : (2 * capacity ≤ length s.points) × (capacity ≤ length s.records)
     room_of = (leb-true _ _ (and_left (leb (2 * capacity) (length s.points)) _ h.room), leb-true _ _ (and_right (leb (2 * capacity) (length s.points)) _ h.room))
 
-    left-enough : enough (laid_out left s) ≡ true
-    left-enough =
-        let w = held_all left left-fair in
-        let x : length (front (numbers left) s.points) ≡ length s.points = front_length s.points (numbers left) (omega (arith, numbers-length left left-even, total_held left, room_of.0)) in
+    left_enough : enough (laid_out left s) ≡ true
+    left_enough =
+        let w = held_all left left_fair in
+        let x : length (front (numbers left) s.points) ≡ length s.points = front_length s.points (numbers left) (omega (arith, numbers-length left left_even, total_held left, room_of.0)) in
         let y : length (front (slots_from 0 left) s.records) ≡ length s.records = front_length s.records (slots_from 0 left) (omega (arith, slots_length 0 left, length_held left, room_of.1)) in
         ap₂ (λ (m n : ℕ). leb (2 * capacity) m && leb capacity n) x y ∙ h.room
 
-    pub did-clean : (t : Lent) (decisions points all second contours : ℕ) → t ≡ laid_out left s → points ≡ total left → all ≡ held left → second ≡ held (own 1 left)
+    pub did_clean : (t : Lent) (decisions points all second contours : ℕ) → t ≡ laid_out left s → points ≡ total left → all ≡ held left → second ≡ held (own 1 left)
         → decisions ≡ (cleaned rule pool).decisions → decisions ≤ 4 * capacity
         → Did (cleans rule) s (record { reply = 0; result = decisions; contours = contours; found = record { sound = true; points = points; first = all - second; second = second } }) t
-    did-clean t decisions points all second contours e a b c d m =
-        let again : contents t ≡ left = ap contents e ∙ read_laid left s left-even in
+    did_clean t decisions points all second contours e a b c d m =
+        let again : contents t ≡ left = ap contents e ∙ read_laid left s left_even in
         record {
           told_is = ap (telling 0) d;
           rows_are = e;
           pool_is = again;
           held = record {
             surveyed = record {
-              sound_is = sym (ap sound e ∙ sound_laid left s left-fair left-even (cleaned-tools rule pool (sound-tooled s is_sound)));
+              sound_is = sym (ap sound e ∙ sound_laid left s left_fair left_even (cleaned_tools rule pool (sound_tooled s is_sound)));
               points_are = λ z. a ∙ ap total (sym again);
-              first_holds = λ z. omega (arith, b, c, held_both left left-fair.pressed, ap (λ (l : List Entry). held (own 0 l)) again);
+              first_holds = λ z. omega (arith, b, c, held_both left left_fair.pressed, ap (λ (l : List Entry). held (own 0 l)) again);
               second_holds = λ z. c ∙ ap (λ (l : List Entry). held (own 1 l)) (sym again);
             };
             sound = refl;
-            room = ap enough e ∙ left-enough;
-            in_domain = subst (Every InDomain) (sym again) (cleaned-in-domain rule pool h.in_domain);
+            room = ap enough e ∙ left_enough;
+            in_domain = subst (Every InDomain) (sym again) (cleaned_in_domain rule pool h.in_domain);
           };
           reply_few = omega arith;
           result_few = m;
@@ -223,9 +223,9 @@ module _ (p q : ℕ) (a : List Entry) (e : Entry) (b : List Entry) where
   abbrev part : ℕ
   part = held (if_so (eqb q e.press) e [])
 
-  held-without : held (own q (a ++ e ∷ b)) ≡ held (own q (a ++ b)) + part
+  held_without : held (own q (a ++ e ∷ b)) ≡ held (own q (a ++ b)) + part
   unfolding held own
-  held-without =
+  held_without =
       ap held (own-append q a (e ∷ b)) ∙ held-append (own q a) (own q (e ∷ b)) ∙ ap (λ (n : ℕ). held (own q a) + n) (either (eqb q e.press))
       ∙ sym (ap (λ (n : ℕ). n + part) (ap held (own-append q a b) ∙ held-append (own q a) (own q b)) ∙ omega arith)
     where
@@ -237,7 +237,7 @@ module _ (p q : ℕ) (a : List Entry) (e : Entry) (b : List Entry) where
 pub found_small : (s : Lent) (f : Survey) → Held s f → (b : Bool) → (f.points ≤ capacity) × (share_of b f ≤ capacity)
 found_small s f h b = (
   omega (arith, h.surveyed.points_are h.sound, total_held (contents s), all_held s f h.surveyed h.sound),
-  (shares-small s f h.surveyed b h.sound).0,
+  (shares_small s f h.surveyed b h.sound).0,
 )
 
 -- a contour was added
@@ -245,9 +245,9 @@ pub did_add : (s : Lent) (f : Survey) → Held s f → (b : Bool) (contour : Lis
     → ◌≡◌ {A = Outcome} (record { reply = reply; pool = t }) (called (number b) (add 0 contour) s) → reply ≡ 0 → m ≡ with_more b (count contour) f
     → Did (adds b contour) s (record { reply = reply; result = 0; contours = contours; found = m }) t
 did_add s f h b contour t reply contours m g z e =
-    did-call s f h b (add 0 contour) (omega arith) (adds b contour) refl refl t _ g refl
+    did_call s f h b (add 0 contour) (omega arith) (adds b contour) refl refl t _ g refl
     (subst (λ (x : Lent). Surveyed x m) (sym (ap (λ (o : Outcome). o.pool) g))
-    (subst (Surveyed (called (number b) (add 0 contour) s).pool) (sym e) (added-surveyed s f h b contour (sym (ap (λ (o : Outcome). o.reply) g) ∙ z))))
+    (subst (Surveyed (called (number b) (add 0 contour) s).pool) (sym e) (added_surveyed s f h b contour (sym (ap (λ (o : Outcome). o.reply) g) ∙ z))))
     (ap (λ (x : Survey). x.sound) e ∙ more-sound b)
     (the_pool_stays_in_the_domain (adds b contour) (contents s) h.in_domain)
   where
@@ -263,14 +263,14 @@ module _ (points : List ℤ) (records : List (List ℕ)) (n : ℕ) (f : Survey) 
   abbrev all : List Entry
   all = contents rows
 
-  pub n-there : n ≤ length records
-  n-there = records_there points records n f h.surveyed h.sound
+  pub n_there : n ≤ length records
+  n_there = records_there points records n f h.surveyed h.sound
 
   module _ (b : Bool) (press r : ℕ) (g : press ≡ number b) (w : Newest press n records r) where
     pub did_none : r ≡ 0 → (contours : ℕ) → contours ≡ n → Did (removes b) rows (record { reply = 18; result = 0; contours = contours; found = f }) (lent points records contours)
     did_none z contours q =
-        did-refused rows f h b remove tt (removes b) refl refl (lent points records contours) _
-        (ap (λ (m : ℕ). leaving 18 points records m) q ∙ remove-none points records n b f h.surveyed h.sound press r g w z) refl (λ x. omega arith) refl
+        did_refused rows f h b remove tt (removes b) refl refl (lent points records contours) _
+        (ap (λ (m : ℕ). leaving 18 points records m) q ∙ remove_none points records n b f h.surveyed h.sound press r g w z) refl (λ x. omega arith) refl
         (the_pool_stays_in_the_domain (removes b) all h.in_domain)
 
     module _ (some : r ≡ 0 → ⊥) where
@@ -295,80 +295,80 @@ module _ (points : List ℤ) (records : List (List ℕ)) (n : ℕ) (f : Survey) 
       apart : all ≡ earlier ++ this ∷ behind
       apart = split_at all k nobody (omega (arith, n_is, inside))
 
-      this-mine : number b ≡ this.press
-      this-mine = sym (sym (press-is all points records n (lies rows f h) k inside) ∙ w.there (omega arith) ∙ g)
+      this_mine : number b ≡ this.press
+      this_mine = sym (sym (press_is all points records n (lies rows f h) k inside) ∙ w.there (omega arith) ∙ g)
 
-      none-behind : has (number b) behind ≡ false
-      none-behind =
+      none_behind : has (number b) behind ≡ false
+      none_behind =
           none_is (number b) nobody behind
           (λ j m e.
           w.later (suc k + j) (omega arith) (omega (arith, n_is, length-drop (suc k) all))
-          (press-is all points records n (lies rows f h) (suc k + j) (omega (arith, n_is, length-drop (suc k) all)) ∙ ap (λ (x : Entry). x.press) (sym (get_or-drop (suc k) all j nobody)) ∙ e ∙ sym g))
+          (press_is all points records n (lies rows f h) (suc k + j) (omega (arith, n_is, length-drop (suc k) all)) ∙ ap (λ (x : Entry). x.press) (sym (get_or-drop (suc k) all j nobody)) ∙ e ∙ sym g))
 
-      removed-so : removed (number b) all ≡ earlier ++ behind
-      removed-so = ap (removed (number b)) apart ∙ removed_is (number b) earlier this behind (eq-eqb (number b) this.press this-mine) none-behind
+      removed_so : removed (number b) all ≡ earlier ++ behind
+      removed_so = ap (removed (number b)) apart ∙ removed_is (number b) earlier this behind (eq-eqb (number b) this.press this_mine) none_behind
 
-      slot-so : slot (get_or records k []) ≡ slot_at (0 + total earlier) this
-      slot-so = slot_is all points records n (lies rows f h) k inside ∙ slot_at_is 0 all k (slot []) nobody (omega (arith, n_is, inside))
+      slot_so : slot (get_or records k []) ≡ slot_at (0 + total earlier) this
+      slot_so = slot_is all points records n (lies rows f h) k inside ∙ slot_at_is 0 all k (slot []) nobody (omega (arith, n_is, inside))
 
       pub size_is : field records k 1 - field records k 0 ≡ count this.contour
-      size_is = omega (arith, ap (λ (x : Slot). x.start) slot-so, ap (λ (x : Slot). x.end) slot-so)
+      size_is = omega (arith, ap (λ (x : Slot). x.start) slot_so, ap (λ (x : Slot). x.end) slot_so)
 
       pub forward : field records k 0 ≤ field records k 1
-      forward = omega (arith, ap (λ (x : Slot). x.start) slot-so, ap (λ (x : Slot). x.end) slot-so)
+      forward = omega (arith, ap (λ (x : Slot). x.start) slot_so, ap (λ (x : Slot). x.end) slot_so)
 
-      points-so : total all ≡ total (removed (number b) all) + count this.contour
-      points-so = ap total apart ∙ total-append earlier (this ∷ behind) ∙ omega (arith, ap total removed-so, total-append earlier behind)
+      points_so : total all ≡ total (removed (number b) all) + count this.contour
+      points_so = ap total apart ∙ total-append earlier (this ∷ behind) ∙ omega (arith, ap total removed_so, total-append earlier behind)
 
-      held-so : (q : ℕ) → held (own q all) ≡ held (own q (removed (number b) all)) + held (if_so (eqb q (number b)) this [])
-      held-so q =
-          ap (λ (l : List Entry). held (own q l)) apart ∙ held-without (number b) q earlier this behind
-          ∙ ap₂ (λ (l : List Entry) (x : ℕ). held (own q l) + held (if_so (eqb q x) this [])) (sym removed-so) (sym this-mine)
+      held_so : (q : ℕ) → held (own q all) ≡ held (own q (removed (number b) all)) + held (if_so (eqb q (number b)) this [])
+      held_so q =
+          ap (λ (l : List Entry). held (own q l)) apart ∙ held_without (number b) q earlier this behind
+          ∙ ap₂ (λ (l : List Entry) (x : ℕ). held (own q l) + held (if_so (eqb q x) this [])) (sym removed_so) (sym this_mine)
 
-      less-than : (c : Bool) → c ≡ b → (count this.contour ≤ f.points) × (holding (count this.contour) ≤ share_of c f)
+      less_than : (c : Bool) → c ≡ b → (count this.contour ≤ f.points) × (holding (count this.contour) ≤ share_of c f)
       unfolding held
-      less-than false e = (omega (arith, points-so, h.surveyed.points_are h.sound), omega (arith, h.surveyed.first_holds h.sound, ap (λ (x : Bool). held (if_so (eqb 0 (number x)) this [])) e, held-so 0))
-      less-than true e = (omega (arith, points-so, h.surveyed.points_are h.sound), omega (arith, h.surveyed.second_holds h.sound, ap (λ (x : Bool). held (if_so (eqb 1 (number x)) this [])) e, held-so 1))
+      less_than false e = (omega (arith, points_so, h.surveyed.points_are h.sound), omega (arith, h.surveyed.first_holds h.sound, ap (λ (x : Bool). held (if_so (eqb 0 (number x)) this [])) e, held_so 0))
+      less_than true e = (omega (arith, points_so, h.surveyed.points_are h.sound), omega (arith, h.surveyed.second_holds h.sound, ap (λ (x : Bool). held (if_so (eqb 1 (number x)) this [])) e, held_so 1))
 
-      pub less-fits : (size : ℕ) → size ≡ field records k 1 - field records k 0 → (size ≤ f.points) × (holding size ≤ share_of b f)
-      less-fits size e = subst (λ (m : ℕ). (m ≤ f.points) × (holding m ≤ share_of b f)) (sym (e ∙ size_is)) (less-than b refl)
+      pub less_fits : (size : ℕ) → size ≡ field records k 1 - field records k 0 → (size ≤ f.points) × (holding size ≤ share_of b f)
+      less_fits size e = subst (λ (m : ℕ). (m ≤ f.points) × (holding m ≤ share_of b f)) (sym (e ∙ size_is)) (less_than b refl)
 
       module _ (t : Lent) (laid : t ≡ laid_out (removed press all) rows) (contours : ℕ) (call : ◌≡◌ {A = Outcome} (record { reply = 0; pool = t }) (called (number b) remove rows)) where
         holds_then : contents t ≡ removed (number b) all
         holds_then =
             ap contents laid ∙ read_laid (removed press all) rows (every_removed Even press all (lies rows f h).even) ∙ ap (λ (i : ℕ). removed i all) g
 
-        less-surveyed : (c : Bool) → c ≡ b → Surveyed t (with_less c (count this.contour) f)
+        less_surveyed : (c : Bool) → c ≡ b → Surveyed t (with_less c (count this.contour) f)
         unfolding held
-        less-surveyed false e =
+        less_surveyed false e =
             let u = h.surveyed in
             let o = h.sound in
             record {
-              sound_is = o ∙ sym (ap (λ (x : Outcome). sound x.pool) call ∙ called-sound rows (is_sound rows f h) (number b) (number_few b) remove tt);
-              points_are = λ z. omega (arith, u.points_are o, points-so, ap total holds_then);
-              first_holds = λ z. omega (arith, u.first_holds o, held-so 0, ap (λ (x : Bool). held (if_so (eqb 0 (number x)) this [])) e, ap (λ (l : List Entry). held (own 0 l)) holds_then);
-              second_holds = λ z. omega (arith, u.second_holds o, held-so 1, ap (λ (x : Bool). held (if_so (eqb 1 (number x)) this [])) e, ap (λ (l : List Entry). held (own 1 l)) holds_then);
+              sound_is = o ∙ sym (ap (λ (x : Outcome). sound x.pool) call ∙ called_sound rows (is_sound rows f h) (number b) (number_few b) remove tt);
+              points_are = λ z. omega (arith, u.points_are o, points_so, ap total holds_then);
+              first_holds = λ z. omega (arith, u.first_holds o, held_so 0, ap (λ (x : Bool). held (if_so (eqb 0 (number x)) this [])) e, ap (λ (l : List Entry). held (own 0 l)) holds_then);
+              second_holds = λ z. omega (arith, u.second_holds o, held_so 1, ap (λ (x : Bool). held (if_so (eqb 1 (number x)) this [])) e, ap (λ (l : List Entry). held (own 1 l)) holds_then);
             }
-        less-surveyed true e =
+        less_surveyed true e =
             let u = h.surveyed in
             let o = h.sound in
             record {
-              sound_is = o ∙ sym (ap (λ (x : Outcome). sound x.pool) call ∙ called-sound rows (is_sound rows f h) (number b) (number_few b) remove tt);
-              points_are = λ z. omega (arith, u.points_are o, points-so, ap total holds_then);
-              first_holds = λ z. omega (arith, u.first_holds o, held-so 0, ap (λ (x : Bool). held (if_so (eqb 0 (number x)) this [])) e, ap (λ (l : List Entry). held (own 0 l)) holds_then);
-              second_holds = λ z. omega (arith, u.second_holds o, held-so 1, ap (λ (x : Bool). held (if_so (eqb 1 (number x)) this [])) e, ap (λ (l : List Entry). held (own 1 l)) holds_then);
+              sound_is = o ∙ sym (ap (λ (x : Outcome). sound x.pool) call ∙ called_sound rows (is_sound rows f h) (number b) (number_few b) remove tt);
+              points_are = λ z. omega (arith, u.points_are o, points_so, ap total holds_then);
+              first_holds = λ z. omega (arith, u.first_holds o, held_so 0, ap (λ (x : Bool). held (if_so (eqb 0 (number x)) this [])) e, ap (λ (l : List Entry). held (own 0 l)) holds_then);
+              second_holds = λ z. omega (arith, u.second_holds o, held_so 1, ap (λ (x : Bool). held (if_so (eqb 1 (number x)) this [])) e, ap (λ (l : List Entry). held (own 1 l)) holds_then);
             }
 
-        less-sound : (c : Bool) (size : ℕ) → (with_less c size f).sound ≡ true
-        less-sound false size = h.sound
-        less-sound true size = h.sound
+        less_sound : (c : Bool) (size : ℕ) → (with_less c size f).sound ≡ true
+        less_sound false size = h.sound
+        less_sound true size = h.sound
 
-        pub did-remove : (size : ℕ) → size ≡ field records k 1 - field records k 0 → (m : Survey) → m ≡ with_less b size f
+        pub did_remove : (size : ℕ) → size ≡ field records k 1 - field records k 0 → (m : Survey) → m ≡ with_less b size f
             → Did (removes b) rows (record { reply = 0; result = 0; contours = contours; found = m }) t
-        did-remove size e m q =
-            did-call rows f h b remove tt (removes b) refl refl t _ call refl
-            (subst (Surveyed t) (sym (q ∙ ap (λ (i : ℕ). with_less b i f) (e ∙ size_is))) (less-surveyed b refl))
-            (ap (λ (x : Survey). x.sound) q ∙ less-sound b size)
+        did_remove size e m q =
+            did_call rows f h b remove tt (removes b) refl refl t _ call refl
+            (subst (Surveyed t) (sym (q ∙ ap (λ (i : ℕ). with_less b i f) (e ∙ size_is))) (less_surveyed b refl))
+            (ap (λ (x : Survey). x.sound) q ∙ less_sound b size)
             (the_pool_stays_in_the_domain (removes b) all h.in_domain)
 
 -- what the second press holds is no more than what both do
@@ -382,42 +382,42 @@ contours_named points (s ∷ l) = ap (λ (k : List (List ℤ)). contour points (
 
 -- a point is asked
 module _ (points : List ℤ) (records : List (List ℕ)) (n : ℕ) (f : Survey) (h : Held (lent points records n) f) (b : Bool) (p : Point) where
-  abbrev asked-rows : Lent
-  asked-rows = lent points records n
+  abbrev asked_rows : Lent
+  asked_rows = lent points records n
 
   in_place : (i : ℕ) → i < n → InPlace points (field records i 0) (field records i 1)
   in_place i k =
-      let lie = lies asked-rows f h in
-      let just = fair asked-rows f h in
+      let lie = lies asked_rows f h in
+      let just = fair asked_rows f h in
       let dom = h.in_domain in
       let at = slot_there Collinear points records n lie just dom i k in
       let parts = total_parts Collinear points records n lie just dom i k in
-      let size : field records i 1 - field records i 0 ≡ count (get_or (contents asked-rows) i nobody).contour =
+      let size : field records i 1 - field records i 0 ≡ count (get_or (contents asked_rows) i nobody).contour =
       omega (arith, ap (λ (x : Slot). x.start) at, ap (λ (x : Slot). x.end) at) in
       record {
         forward = omega (arith, ap (λ (x : Slot). x.start) at, ap (λ (x : Slot). x.end) at);
         within = omega (arith, ap (λ (x : Slot). x.end) at, parts, all_long Collinear points records n lie just dom);
         contour = subst (λ (c : List ℤ). Contour c (field records i 1 - field records i 0)) (ap (λ (e : Entry). e.contour) (this_is Collinear points records n lie just dom i k))
-            (subst (Contour (get_or (contents asked-rows) i nobody).contour) (sym size) (domain_parts Collinear points records n lie just dom i k).1.0);
+            (subst (Contour (get_or (contents asked_rows) i nobody).contour) (sym size) (domain_parts Collinear points records n lie just dom i k).1.0);
       }
 
   pub askable : on limit p ≡ true → Askable points records n p
-  askable e = record { there = n-there points records n f h; lies = in_place; on_grid = e }
+  askable e = record { there = n_there points records n f h; lies = in_place; on_grid = e }
 
-  shape_is : shape b (contents asked-rows) ≡ shape_from points records n (number b) 0
+  shape_is : shape b (contents asked_rows) ≡ shape_from points records n (number b) 0
   shape_is =
-      ap (map (λ (e : Entry). e.contour)) (read_own points (number b) (used asked-rows)) ∙ contours_named points (own_slots (number b) (used asked-rows))
+      ap (map (λ (e : Entry). e.contour)) (read_own points (number b) (used asked_rows)) ∙ contours_named points (own_slots (number b) (used asked_rows))
 
-  pub did-ask-off : (on-it : Bool) → on-it ≡ on limit p → on-it ≡ false → Did (asks b p) asked-rows (record { reply = 3; result = 0; contours = n; found = f }) asked-rows
-  did-ask-off on-it e o =
-      did_nothing asked-rows f h (asks b p) refl _ (ap (λ (t : Bool). asked t (has-point p (shape b (contents asked-rows)))) (sym (sym e ∙ o))) refl (omega arith) (omega arith)
+  pub did_ask_off : (on-it : Bool) → on-it ≡ on limit p → on-it ≡ false → Did (asks b p) asked_rows (record { reply = 3; result = 0; contours = n; found = f }) asked_rows
+  did_ask_off on-it e o =
+      did_nothing asked_rows f h (asks b p) refl _ (ap (λ (t : Bool). asked t (has_point p (shape b (contents asked_rows)))) (sym (sym e ∙ o))) refl (omega arith) (omega arith)
 
-  pub did-ask : (on-it : Bool) → on-it ≡ on limit p → on-it ≡ true → (press : ℕ) → press ≡ number b → (it : Bool) → it ≡ has_from false p (shape_from points records n press 0)
-      → (result : ℕ) → result ≡ yes_or_no it → Did (asks b p) asked-rows (record { reply = 0; result = result; contours = n; found = f }) asked-rows
-  did-ask on-it e o press g it y result r =
-      let is-so : it ≡ has-point p (shape b (contents asked-rows)) = y ∙ ap (λ (q : ℕ). has_from false p (shape_from points records n q 0)) g ∙ ap (has-point p) (sym shape_is) in
-      did_nothing asked-rows f h (asks b p) refl _
-      (ap (telling 0) (r ∙ ap yes_or_no is-so) ∙ ap (λ (t : Bool). asked t (has-point p (shape b (contents asked-rows)))) (sym (sym e ∙ o)))
+  pub did_ask : (on-it : Bool) → on-it ≡ on limit p → on-it ≡ true → (press : ℕ) → press ≡ number b → (it : Bool) → it ≡ has_from false p (shape_from points records n press 0)
+      → (result : ℕ) → result ≡ yes_or_no it → Did (asks b p) asked_rows (record { reply = 0; result = result; contours = n; found = f }) asked_rows
+  did_ask on-it e o press g it y result r =
+      let is-so : it ≡ has_point p (shape b (contents asked_rows)) = y ∙ ap (λ (q : ℕ). has_from false p (shape_from points records n q 0)) g ∙ ap (has_point p) (sym shape_is) in
+      did_nothing asked_rows f h (asks b p) refl _
+      (ap (telling 0) (r ∙ ap yes_or_no is-so) ∙ ap (λ (t : Bool). asked t (has_point p (shape b (contents asked_rows)))) (sym (sym e ∙ o)))
       refl (omega arith) (omega (arith, r, small it))
     where
       small : (t : Bool) → yes_or_no t ≤ 1

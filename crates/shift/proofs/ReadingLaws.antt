@@ -64,75 +64,75 @@ pub unsound : (ok : Bool) (s : Step) (row : List ℤ) → ok ≡ false → whole
 unsound ok s row e = ap (λ (b : Bool). if_so (b && leb s.size (length row)) s) e
 
 module _ (kind : ℤ) (row : List ℤ) where
-  pub heads-none : of_kind kind row ≡ no_step → (r : Head) → r ≡ headless → HeadsAs kind row r
-  heads-none e r f = subst (HeadsAs kind row) (sym f) (record { is = e; size_is = refl; there = omega arith })
+  pub heads_none : of_kind kind row ≡ no_step → (r : Head) → r ≡ headless → HeadsAs kind row r
+  heads_none e r f = subst (HeadsAs kind row) (sym f) (record { is = e; size_is = refl; there = omega arith })
 
   -- a step whose numbers are sound
-  pub heads-whole : (s : Step) (h : Head) → of_kind kind row ≡ whole true s row → step_of h.kind h row ≡ a_step s → h.size ≡ s.size
+  pub heads_whole : (s : Step) (h : Head) → of_kind kind row ≡ whole true s row → step_of h.kind h row ≡ a_step s → h.size ≡ s.size
       → (r : Head) → r ≡ head_if (leb h.size (length row)) h → HeadsAs kind row r
-  heads-whole s h e d g r f = go (leb h.size (length row)) refl
+  heads_whole s h e d g r f = go (leb h.size (length row)) refl
     where
-      is-if : (b : Bool) → leb h.size (length row) ≡ b → of_kind kind row ≡ if_so b s
-      is-if b t = e ∙ ap (λ (n : ℕ). if_so (leb n (length row)) s) (sym g) ∙ ap (λ (c : Bool). if_so c s) t
+      is_if : (b : Bool) → leb h.size (length row) ≡ b → of_kind kind row ≡ if_so b s
+      is_if b t = e ∙ ap (λ (n : ℕ). if_so (leb n (length row)) s) (sym g) ∙ ap (λ (c : Bool). if_so c s) t
 
       go : (b : Bool) → leb h.size (length row) ≡ b → HeadsAs kind row r
       go true t =
           subst (HeadsAs kind row) (sym (f ∙ ap (λ (c : Bool). head_if c h) t))
-          (record { is = is-if true t ∙ sym d; size_is = g ∙ ap size_of (sym d); there = leb-true _ _ t })
-      go false t = heads-none (is-if false t) r (f ∙ ap (λ (c : Bool). head_if c h) t)
+          (record { is = is_if true t ∙ sym d; size_is = g ∙ ap size_of (sym d); there = leb-true _ _ t })
+      go false t = heads_none (is_if false t) r (f ∙ ap (λ (c : Bool). head_if c h) t)
 
 -- kind 0, with a press
 module _ (row : List ℤ) (ok : pressed row ≡ true) where
-  pub add-short : length row < 3 → (r : Head) → r ≡ headless → HeadsAs (pos 0) row r
-  add-short h = heads-none (pos 0) row (short (pressed row && non_neg (at row 2)) (adding (second row) (nat_abs (at row 2)) row) row (omega arith))
+  pub add_short : length row < 3 → (r : Head) → r ≡ headless → HeadsAs (pos 0) row r
+  add_short h = heads_none (pos 0) row (short (pressed row && non_neg (at row 2)) (adding (second row) (nat_abs (at row 2)) row) row (omega arith))
 
   module _ (n : ℕ) (x : Bits row 2 n) where
-    pub add-below : 2147483647 < n → (r : Head) → r ≡ headless → HeadsAs (pos 0) row r
-    add-below h =
-        heads-none (pos 0) row
+    pub add_below : 2147483647 < n → (r : Head) → r ≡ headless → HeadsAs (pos 0) row r
+    add_below h =
+        heads_none (pos 0) row
         (unsound (pressed row && non_neg (at row 2)) (adding (second row) (nat_abs (at row 2)) row) row (ap₂ (λ (a b : Bool). a && b) ok (below (at row 2) x.fits n x.is h)))
 
-    pub add-whole : n ≤ 2147483647 → (b : Bool) → b ≡ second row → (r : Head) → r ≡ head_if (leb (5 + 2 * n) (length row)) (head 0 b n (5 + 2 * n)) → HeadsAs (pos 0) row r
-    add-whole h b g =
-        heads-whole (pos 0) row (adding (second row) n row) (head 0 b n (5 + 2 * n))
+    pub add_whole : n ≤ 2147483647 → (b : Bool) → b ≡ second row → (r : Head) → r ≡ head_if (leb (5 + 2 * n) (length row)) (head 0 b n (5 + 2 * n)) → HeadsAs (pos 0) row r
+    add_whole h b g =
+        heads_whole (pos 0) row (adding (second row) n row) (head 0 b n (5 + 2 * n))
         (ap (λ (z : ℤ). whole (pressed row && non_neg z) (adding (second row) (nat_abs z) row) row) (plain (at row 2) x.fits n x.is h)
         ∙ ap (λ (t : Bool). whole (t && true) (adding (second row) n row) row) ok)
         (ap (λ (t : Bool). a_step (adding t n row)) g) (omega arith)
 
 -- the kinds with a press
 module _ (row : List ℤ) where
-  pub press-short : (k : ℕ) → WithPress k → length row < 2 → (r : Head) → r ≡ headless → HeadsAs (pos k) row r
-  press-short k to-add h = heads-none (pos 0) row (short (pressed row && non_neg (at row 2)) (adding (second row) (nat_abs (at row 2)) row) row (omega arith))
-  press-short k to-remove h = heads-none (pos 1) row (short (pressed row) (removing (second row) row) row (omega arith))
-  press-short k to-ask h = heads-none (pos 4) row (short (pressed row) (asking (second row) row) row (omega arith))
+  pub press_short : (k : ℕ) → WithPress k → length row < 2 → (r : Head) → r ≡ headless → HeadsAs (pos k) row r
+  press_short k to-add h = heads_none (pos 0) row (short (pressed row && non_neg (at row 2)) (adding (second row) (nat_abs (at row 2)) row) row (omega arith))
+  press_short k to-remove h = heads_none (pos 1) row (short (pressed row) (removing (second row) row) row (omega arith))
+  press_short k to-ask h = heads_none (pos 4) row (short (pressed row) (asking (second row) row) row (omega arith))
 
   module _ (n : ℕ) (x : Bits row 1 n) where
-    pub press-beyond : (k : ℕ) → WithPress k → 1 < n → (r : Head) → r ≡ headless → HeadsAs (pos k) row r
-    press-beyond k to-add h = heads-none (pos 0) row (unsound _ (adding (second row) (nat_abs (at row 2)) row) row (ap (λ (a : Bool). a && non_neg (at row 2)) (beyond_two (at row 1) n x.is h)))
-    press-beyond k to-remove h = heads-none (pos 1) row (unsound _ (removing (second row) row) row (beyond_two (at row 1) n x.is h))
-    press-beyond k to-ask h = heads-none (pos 4) row (unsound _ (asking (second row) row) row (beyond_two (at row 1) n x.is h))
+    pub press_beyond : (k : ℕ) → WithPress k → 1 < n → (r : Head) → r ≡ headless → HeadsAs (pos k) row r
+    press_beyond k to-add h = heads_none (pos 0) row (unsound _ (adding (second row) (nat_abs (at row 2)) row) row (ap (λ (a : Bool). a && non_neg (at row 2)) (beyond_two (at row 1) n x.is h)))
+    press_beyond k to-remove h = heads_none (pos 1) row (unsound _ (removing (second row) row) row (beyond_two (at row 1) n x.is h))
+    press_beyond k to-ask h = heads_none (pos 4) row (unsound _ (asking (second row) row) row (beyond_two (at row 1) n x.is h))
 
     module _ (h : n ≤ 1) where
-      press-is : at row 1 ≡ pos n
-      press-is = plain (at row 1) x.fits n x.is (omega arith)
+      press_is : at row 1 ≡ pos n
+      press_is = plain (at row 1) x.fits n x.is (omega arith)
 
-      pub press-ok : pressed row ≡ true
-      press-ok = ap (λ (z : ℤ). eq_z z (pos 0) || eq_z z (pos 1)) press-is ∙ one_of_two n h
+      pub press_ok : pressed row ≡ true
+      press_ok = ap (λ (z : ℤ). eq_z z (pos 0) || eq_z z (pos 1)) press_is ∙ one_of_two n h
 
-      pub press-second : eqb n 1 ≡ second row
-      press-second = ap (λ (z : ℤ). eq_z z (pos 1)) (sym press-is)
+      pub press_second : eqb n 1 ≡ second row
+      press_second = ap (λ (z : ℤ). eq_z z (pos 1)) (sym press_is)
 
-      pub remove-whole : (k : ℕ) → k ≡ 1 → (r : Head) → r ≡ head_if (leb 4 (length row)) (head 1 (eqb n 1) 0 4) → HeadsAs (pos k) row r
-      remove-whole k q =
-          heads-whole (pos k) row (removing (second row) row) (head 1 (eqb n 1) 0 4)
-          (ap (λ (i : ℕ). of_kind (pos i) row) q ∙ ap (λ (t : Bool). whole t (removing (second row) row) row) press-ok)
-          (ap (λ (t : Bool). a_step (removing t row)) press-second) refl
+      pub remove_whole : (k : ℕ) → k ≡ 1 → (r : Head) → r ≡ head_if (leb 4 (length row)) (head 1 (eqb n 1) 0 4) → HeadsAs (pos k) row r
+      remove_whole k q =
+          heads_whole (pos k) row (removing (second row) row) (head 1 (eqb n 1) 0 4)
+          (ap (λ (i : ℕ). of_kind (pos i) row) q ∙ ap (λ (t : Bool). whole t (removing (second row) row) row) press_ok)
+          (ap (λ (t : Bool). a_step (removing t row)) press_second) refl
 
-      pub ask-whole : (k : ℕ) → k ≡ 4 → (r : Head) → r ≡ head_if (leb 6 (length row)) (head 4 (eqb n 1) 0 6) → HeadsAs (pos k) row r
-      ask-whole k q =
-          heads-whole (pos k) row (asking (second row) row) (head 4 (eqb n 1) 0 6)
-          (ap (λ (i : ℕ). of_kind (pos i) row) q ∙ ap (λ (t : Bool). whole t (asking (second row) row) row) press-ok)
-          (ap (λ (t : Bool). a_step (asking t row)) press-second) refl
+      pub ask_whole : (k : ℕ) → k ≡ 4 → (r : Head) → r ≡ head_if (leb 6 (length row)) (head 4 (eqb n 1) 0 6) → HeadsAs (pos k) row r
+      ask_whole k q =
+          heads_whole (pos k) row (asking (second row) row) (head 4 (eqb n 1) 0 6)
+          (ap (λ (i : ℕ). of_kind (pos i) row) q ∙ ap (λ (t : Bool). whole t (asking (second row) row) row) press_ok)
+          (ap (λ (t : Bool). a_step (asking t row)) press_second) refl
 
 -- the last of them
 pub adds_then : (k : ℕ) → WithPress k → (k ≡ 1 → ⊥) → (k ≡ 4 → ⊥) → k ≡ 0
@@ -150,16 +150,16 @@ with_press (suc (suc (suc (suc (suc k))))) h f g = absurd (omega arith)
 
 -- every kind
 module _ (row : List ℤ) (n : ℕ) (x : Bits row 0 n) where
-  pub kind-beyond : 4 < n → (r : Head) → r ≡ headless → Heads row r
-  kind-beyond h = heads-none (at row 0) row (beyond_five (at row 0) row n x.is h)
+  pub kind_beyond : 4 < n → (r : Head) → r ≡ headless → Heads row r
+  kind_beyond h = heads_none (at row 0) row (beyond_five (at row 0) row n x.is h)
 
-  pub kind-is : n ≤ 4 → at row 0 ≡ pos n
-  kind-is h = plain (at row 0) x.fits n x.is (omega arith)
+  pub kind_is : n ≤ 4 → at row 0 ≡ pos n
+  kind_is h = plain (at row 0) x.fits n x.is (omega arith)
 
-  pub simplifies-whole : n ≡ 2 → (r : Head) → r ≡ head_if (leb 3 (length row)) (head 2 false 0 3) → Heads row r
-  simplifies-whole q =
-      heads-whole (at row 0) row (cleaning Collinear row) (head 2 false 0 3) (ap (λ (z : ℤ). of_kind z row) (kind-is (omega arith) ∙ ap pos q)) refl refl
+  pub simplifies_whole : n ≡ 2 → (r : Head) → r ≡ head_if (leb 3 (length row)) (head 2 false 0 3) → Heads row r
+  simplifies_whole q =
+      heads_whole (at row 0) row (cleaning Collinear row) (head 2 false 0 3) (ap (λ (z : ℤ). of_kind z row) (kind_is (omega arith) ∙ ap pos q)) refl refl
 
-  pub despikes-whole : n ≡ 3 → (r : Head) → r ≡ head_if (leb 3 (length row)) (head 3 false 0 3) → Heads row r
-  despikes-whole q =
-      heads-whole (at row 0) row (cleaning Spike row) (head 3 false 0 3) (ap (λ (z : ℤ). of_kind z row) (kind-is (omega arith) ∙ ap pos q)) refl refl
+  pub despikes_whole : n ≡ 3 → (r : Head) → r ≡ head_if (leb 3 (length row)) (head 3 false 0 3) → Heads row r
+  despikes_whole q =
+      heads_whole (at row 0) row (cleaning Spike row) (head 3 false 0 3) (ap (λ (z : ℤ). of_kind z row) (kind_is (omega arith) ∙ ap pos q)) refl refl

@@ -18,7 +18,7 @@ use Rattle.pool.proofs.ListLaws.{every_append, every_removed}
 use Rattle.pool.proofs.FairLaws.{unless_either}
 use Rattle.pool.proofs.RowTheorems.{read_laid}
 use Rattle.sifting.specs.inside.Cleaning.{InDomain}
-use Rattle.sifting.proofs.CleanedLaws.{cleaned-in-domain, domain_even}
+use Rattle.sifting.proofs.CleanedLaws.{cleaned_in_domain, domain_even}
 use Rattle.shift.specs.Steps.{Request}
 use Rattle.shift.specs.Steps.Request.{adds, removes, cleans, asks}
 use Rattle.shift.specs.States.{after}
@@ -36,7 +36,7 @@ the_pool_stays_in_the_domain (adds b contour) l d =
         record { even = omega (arith, eqb-false (length contour % 2) 1 c.0); few = ltb-false _ _ c.1.0; on = not-false _ c.1.1.1.0 }
 the_pool_stays_in_the_domain (removes b) l d =
     unless_either (Every InDomain) (Calls.told true (number b) l remove) (removed (number b) l) l (λ z. every_removed InDomain (number b) l d) d
-the_pool_stays_in_the_domain (cleans rule) l d = cleaned-in-domain rule l d
+the_pool_stays_in_the_domain (cleans rule) l d = cleaned_in_domain rule l d
 the_pool_stays_in_the_domain (asks b p) l d = d
 
 -- the state after any requests is that of the plain list of contours after the same requests

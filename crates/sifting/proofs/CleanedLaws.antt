@@ -11,7 +11,7 @@ use Rattle.integers.proofs.Logic.{and_both}
 use Rattle.grid.specs.Limits.{limit, all_on_grid}
 use Rattle.grid.specs.Points.{points}
 use Rattle.grid.specs.Domain.{count}
-use Rattle.grid.proofs.LimitLaws.{all-on-grid-at}
+use Rattle.grid.proofs.LimitLaws.{all_on_grid_at}
 use Rattle.ring.specs.declared.Rule.{Rule}
 use Rattle.ring.specs.Walk.{Tally, End}
 use Rattle.ring.specs.Walk.End.{kept, collapsed}
@@ -101,10 +101,10 @@ lessened rule (e ∷ l) d =
 
 -- what holds of every contour and of what is kept of one holds of every one that is kept
 module _ (rule : Rule) (P : Entry → Type 0) (keeps : (e : Entry) (c : List ℤ) (t : Tally) → P e → fate rule e.contour ≡ stays c t → P (entry e.press e.tool c)) where
-  pub every-cleaned : (l : List Entry) → Every P l → Every P (cleaned rule l).pool
+  pub every_cleaned : (l : List Entry) → Every P l → Every P (cleaned rule l).pool
   unfolding cleaned
-  every-cleaned [] h = tt
-  every-cleaned (e ∷ l) h = go (every-cleaned l h.1) (fate rule e.contour) refl
+  every_cleaned [] h = tt
+  every_cleaned (e ∷ l) h = go (every_cleaned l h.1) (fate rule e.contour) refl
     where
       go : Every P (cleaned rule l).pool → (f : Fate) → fate rule e.contour ≡ f → Every P (and_later e f (cleaned rule l)).pool
       go rest (stays c t) q = (keeps e c t h.0 q, rest)
@@ -114,7 +114,7 @@ module _ (rule : Rule) (P : Entry → Type 0) (keeps : (e : Entry) (c : List ℤ
 chosen_on : (row : List ℤ) → all_on_grid limit row ≡ true → (s : List ℕ) → all_on_grid limit (chosen row s) ≡ true
 unfolding chosen all_on_grid
 chosen_on row h [] = refl
-chosen_on row h (i ∷ s) = and_both _ _ (all-on-grid-at limit row (2 * i) h) (and_both _ _ (all-on-grid-at limit row (2 * i + 1) h) (chosen_on row h s))
+chosen_on row h (i ∷ s) = and_both _ _ (all_on_grid_at limit row (2 * i) h) (and_both _ _ (all_on_grid_at limit row (2 * i + 1) h) (chosen_on row h s))
 
 kept_on : (rule : Rule) (c d : List ℤ) (t : Tally) → all_on_grid limit c ≡ true → fate rule c ≡ stays d t → all_on_grid limit d ≡ true
 unfolding fate
@@ -136,17 +136,17 @@ kept_in_domain rule e c t d q =
 
 -- what a cleaned pool keeps of the pool
 module _ (rule : Rule) (l : List Entry) where
-  pub cleaned-in-domain : Every InDomain l → Every InDomain (cleaned rule l).pool
-  cleaned-in-domain = every-cleaned rule InDomain (kept_in_domain rule) l
+  pub cleaned_in_domain : Every InDomain l → Every InDomain (cleaned rule l).pool
+  cleaned_in_domain = every_cleaned rule InDomain (kept_in_domain rule) l
 
-  pub cleaned-tools : Every Tooled l → Every Tooled (cleaned rule l).pool
-  cleaned-tools = every-cleaned rule Tooled (λ e c t h q. h) l
+  pub cleaned_tools : Every Tooled l → Every Tooled (cleaned rule l).pool
+  cleaned_tools = every_cleaned rule Tooled (λ e c t h q. h) l
 
-  pub cleaned-fair : Every InDomain l → Fair l → Fair (cleaned rule l).pool
-  cleaned-fair d f =
+  pub cleaned_fair : Every InDomain l → Fair l → Fair (cleaned rule l).pool
+  cleaned_fair d f =
       let n = (lessened rule l d).fewer in
       record {
-        pressed = every-cleaned rule Pressed (λ e c t h q. h) l f.pressed;
+        pressed = every_cleaned rule Pressed (λ e c t h q. h) l f.pressed;
         first = omega (arith, n.own_fewer 0, n.own_fewer 1, f.first);
         second = omega (arith, n.own_fewer 0, n.own_fewer 1, f.second);
       }

@@ -10,7 +10,7 @@ use lib.ListN.{length, get_or, set, take, drop, length-append, length-map, lengt
 use lib.Seq.{take-suc, take_all, split_at, drop-append-add, drop-drop, get_or-append-add, get_or-drop, get_or-take, length-take-le}
 use lib.IntN.{ℤ}
 use Rattle.rows.specs.Rows.{front}
-use Rattle.rows.proofs.PlacedLaws.{placed-long}
+use Rattle.rows.proofs.PlacedLaws.{placed_long}
 use Rattle.grid.specs.Domain.{count, Contour}
 use Rattle.ring.specs.declared.Rule.{Rule}
 use Rattle.buffer.specs.Sets.{joined}
@@ -18,7 +18,7 @@ use Rattle.buffer.proofs.ListLaws.{map_at}
 use Rattle.pool.specs.Lists.{Entry, entry, capacity, holding, held, if_so, own, Every, Pressed, Even, Fair}
 use Rattle.pool.specs.Rows.{Slot, slot, slots, Lent, lent, used, named, numbers, slots_from, slot_at, contents, laid_out}
 use Rattle.pool.specs.inside.Records.{total, Lies}
-use Rattle.pool.proofs.ListLaws.{every_append, every-split, held-append, total-append, total_held}
+use Rattle.pool.proofs.ListLaws.{every_append, every_split, held-append, total-append, total_held}
 use Rattle.pool.proofs.FairLaws.{held_all, held_added}
 use Rattle.pool.proofs.LayoutLaws.{lent_is, slots_length, numbers-length, contours_are, records_long, points_long, slot_is, slot_at_is, appended}
 use Rattle.sets.specs.Fates.{Fate, fate}
@@ -30,7 +30,7 @@ use Rattle.sifting.specs.declared.inner.sifting.Kept.{Kept}
 use Rattle.sifting.specs.declared.inner.cleaning.Progress.{Progress}
 use Rattle.sifting.specs.inside.Sifting.{lying, kept_of, row_of}
 use Rattle.sifting.specs.inside.Cleaning.{Noted, noted, with_one, with_none, record_behind, noting, Notable, Going, going, field, contour_at, placing, Next, InDomain, Run}
-use Rattle.sifting.proofs.CleanedLaws.{both, cleaned-append, cleaned_one, cleaned_only, Lessened, lessened, cleaned-in-domain, domain_even}
+use Rattle.sifting.proofs.CleanedLaws.{both, cleaned-append, cleaned_one, cleaned_only, Lessened, lessened, cleaned_in_domain, domain_even}
 
 -- what stands behind the front of a row
 module _ {A : Type 0} (a row : List A) where
@@ -40,21 +40,21 @@ module _ {A : Type 0} (a row : List A) where
       ap (λ (k : ℕ). drop k (front a row)) (sym m) ∙ drop-append-add a (drop (length a) row) (n - length a) ∙ drop-drop (n - length a) (length a) row
       ∙ ap (λ (k : ℕ). drop k row) m
 
-  over-at : (n : ℕ) (d : A) → length a ≤ n → get_or (front a row) n d ≡ get_or row n d
-  over-at n d h =
+  over_at : (n : ℕ) (d : A) → length a ≤ n → get_or (front a row) n d ≡ get_or row n d
+  over_at n d h =
       let m : length a + (n - length a) ≡ n = omega arith in
       ap (λ (k : ℕ). get_or (front a row) k d) (sym m) ∙ get_or-append-add a (drop (length a) row) (n - length a) d ∙ get_or-drop (length a) row (n - length a) d
       ∙ ap (λ (k : ℕ). get_or row k d) m
 
-  front-over : (x : List A) → length a ≤ length x → front x (front a row) ≡ front x row
-  front-over x h = ap (λ (l : List A). x ++ l) (over (length x) h)
+  front_over : (x : List A) → length a ≤ length x → front x (front a row) ≡ front x row
+  front_over x h = ap (λ (l : List A). x ++ l) (over (length x) h)
 
 -- a pool that is laid out over another that is no longer
 pub laid_over : (k l : List Entry) (s : Lent) → Every Even k → Every Even l → total k ≤ total l → length k ≤ length l → laid_out l (laid_out k s) ≡ laid_out l s
 laid_over k l s e f h n =
     lent_is
-    (front-over (numbers k) s.points (numbers l) (omega (arith, numbers-length k e, numbers-length l f)))
-    (front-over (slots_from 0 k) s.records (slots_from 0 l) (omega (arith, slots_length 0 k, slots_length 0 l)))
+    (front_over (numbers k) s.points (numbers l) (omega (arith, numbers-length k e, numbers-length l f)))
+    (front_over (slots_from 0 k) s.records (slots_from 0 l) (omega (arith, slots_length 0 k, slots_length 0 l)))
     refl
 
 abbrev nobody : Entry
@@ -132,10 +132,10 @@ module _ (rule : Rule) (points₀ : List ℤ) (records₀ : List (List ℕ)) (n 
       next_first = ap (λ (k : ℕ). take k pool₀) (add-one i) ∙ take-suc pool₀ i nobody (omega (arith, n_is))
 
       pub domain_parts : Every InDomain first × Every InDomain (this ∷ drop (suc i) pool₀)
-      domain_parts = every-split InDomain first (this ∷ drop (suc i) pool₀) (subst (Every InDomain) apart dom)
+      domain_parts = every_split InDomain first (this ∷ drop (suc i) pool₀) (subst (Every InDomain) apart dom)
 
       press_few : this.press ≤ 1
-      press_few = (every-split Pressed first (this ∷ drop (suc i) pool₀) (subst (Every Pressed) apart fair.pressed)).1.0
+      press_few = (every_split Pressed first (this ∷ drop (suc i) pool₀) (subst (Every Pressed) apart fair.pressed)).1.0
 
       pub total_parts : total pool₀ ≡ total first + (count this.contour + total (drop (suc i) pool₀))
       total_parts = ap total apart ∙ total-append first (this ∷ drop (suc i) pool₀)
@@ -161,7 +161,7 @@ module _ (rule : Rule) (points₀ : List ℤ) (records₀ : List (List ℕ)) (n 
       kept = cleaned rule first
 
       kept_even : Every Even kept.pool
-      kept_even = domain_even kept.pool (cleaned-in-domain rule first domain_parts.0)
+      kept_even = domain_even kept.pool (cleaned_in_domain rule first domain_parts.0)
 
       module _ {points : List ℤ} {records : List (List ℕ)} {at : Progress} (s : Reached kept points records at) where
         contours_few : at.contours ≤ i
@@ -174,7 +174,7 @@ module _ (rule : Rule) (points₀ : List ℤ) (records₀ : List (List ℕ)) (n 
             let m : length (slots_from 0 kept.pool) ≤ i = omega (arith, slots_length 0 kept.pool, less.fewer.contours_fewer, length-take-le i pool₀ (omega (arith, n_is))) in
             sym (map_at slot records i (slot []) [] k)
             ∙ ap (λ (x : Lent). get_or x.records i (slot [])) s.rows_are
-            ∙ over-at (slots_from 0 kept.pool) (slots records₀) i (slot []) m
+            ∙ over_at (slots_from 0 kept.pool) (slots records₀) i (slot []) m
             ∙ map_at slot records₀ i (slot []) [] (omega (arith, all_there))
             ∙ slot_there
 
@@ -248,7 +248,7 @@ module _ (rule : Rule) (points₀ : List ℤ) (records₀ : List (List ℕ)) (n 
               held_is = omega (arith, s.held_is, held-append kept.pool (e ∷ []));
               second_is = omega (arith, s.second_is, held_added this.press 1 this.tool d kept.pool, second_holds this.press this.tool d press_few);
               decisions_are = omega (arith, s.decisions_are);
-              same_points = placed-long points (2 * at.points) d room ∙ s.same_points;
+              same_points = placed_long points (2 * at.points) d room ∙ s.same_points;
               same_records = length-set records at.contours _ ∙ s.same_records;
             }
         one_more (gone t) z = record {
@@ -300,22 +300,22 @@ times_few (suc (suc p)) x h = absurd (omega arith)
 
 -- a contour is noted
 module _ (k : Kept) (at : Progress) (tool press : ℕ) (records : List (List ℕ)) where
-  pub noting-none : k.stays ≡ false → noted (with_none k.decisions at) records ≡ noting k.stays k at tool press records
-  noting-none e = ap (λ (b : Bool). noting b k at tool press records) (sym e)
+  pub noting_none : k.stays ≡ false → noted (with_none k.decisions at) records ≡ noting k.stays k at tool press records
+  noting_none e = ap (λ (b : Bool). noting b k at tool press records) (sym e)
 
-  pub noting-one : k.stays ≡ true → (size : ℕ) → size ≡ holding k.points
+  pub noting_one : k.stays ≡ true → (size : ℕ) → size ≡ holding k.points
       → noted (record { contours = at.contours + 1; points = at.points + k.points; held = at.held + size; second = at.second + press * size; decisions = at.decisions + k.decisions })
       (set records at.contours (record_behind k.points tool press at))
       ≡ noting k.stays k at tool press records
-  noting-one e size h =
+  noting_one e size h =
       ap (λ (n : ℕ). noted (record { contours = at.contours + 1; points = at.points + k.points; held = at.held + n; second = at.second + press * n; decisions = at.decisions + k.decisions })
       (set records at.contours (record_behind k.points tool press at))) h
       ∙ ap (λ (b : Bool). noting b k at tool press records) (sym e)
 
   -- and stands behind what is kept
-  pub next-placed : (points : List ℤ) (f : Fate) → k ≡ kept_of f → (r : Progress) (p : List ℤ) (q : List (List ℕ)) → p ≡ row_of f at.points points
+  pub next_placed : (points : List ℤ) (f : Fate) → k ≡ kept_of f → (r : Progress) (p : List ℤ) (q : List (List ℕ)) → p ≡ row_of f at.points points
       → noted r q ≡ noting k.stays k at tool press records → going r p q ≡ placing f tool press (going at points records)
-  next-placed points f e r p q g h = go f g (h ∙ ap (λ (x : Kept). noting x.stays x at tool press records) e)
+  next_placed points f e r p q g h = go f g (h ∙ ap (λ (x : Kept). noting x.stays x at tool press records) e)
     where
       go : (w : Fate) → p ≡ row_of w at.points points → noted r q ≡ noting (kept_of w).stays (kept_of w) at tool press records
           → going r p q ≡ placing w tool press (going at points records)

@@ -19,9 +19,9 @@ use Rattle.ring.specs.inside.Rows.{turns_of, ended_as, Ended}
 use Rattle.ring.proofs.Ends.{walk_few}
 use Rattle.clean.specs.Outcome.{walked, chosen}
 use Rattle.clean.specs.Verdicts.{passes}
-use Rattle.clean.proofs.RowLaws.{length_chosen, Writing, writing_none, writing_more, writing-past, writing_all}
+use Rattle.clean.proofs.RowLaws.{length_chosen, Writing, writing_none, writing_more, writing_past, writing_all}
 use Rattle.clean.proofs.OutcomeLaws.{contour_count}
-use Rattle.clean.proofs.VerdictLaws.{passes-few}
+use Rattle.clean.proofs.VerdictLaws.{passes_few}
 use Rattle.sets.specs.Fates.{none_counted, Fate, walk_fate, fate}
 use Rattle.sets.specs.Fates.Fate.{stays, gone}
 use Rattle.sifting.specs.declared.inner.sifting.Kept.{Kept}
@@ -82,7 +82,7 @@ module _ (row₀ : List ℤ) (start to : ℕ) (mark : List ℕ) where
           ∙ sym (get_or-take (2 * (start + length mark) - 2 * start) (drop (2 * start) row₀) m (pos 0) v)
 
       pub sinking_past : i < length mark → 2 ≤ get_or mark i 0 → Sinking row kept (i + 1)
-      sinking_past h x = record { out = s.out; writing = writing-past s.writing h x; is = s.is }
+      sinking_past h x = record { out = s.out; writing = writing_past s.writing h x; is = s.is }
 
       pub sinking_more : i < length mark → get_or mark i 0 < 2 → (r : List ℤ)
           → r ≡ set (set row (2 * (to + kept)) (get_or row (2 * (start + i)) (pos 0))) (2 * (to + kept) + 1) (get_or row (2 * (start + i) + 1) (pos 0))
@@ -144,7 +144,7 @@ module _ (rule : Rule) (row : List ℤ) (start end to : ℕ) (p : InPlace row st
   sifted_few h r e =
       let few : count own < 3 = omega (arith, counted) in
       let w : walked rule own ≡ ending collapsed (tally 0 0) = walk_few (goes rule own) (count own) few in
-      sifted_as (gone (tally 0 0)) (failing_walks rule own (sym (passes-few own rule few)) ∙ rw w) r row e refl
+      sifted_as (gone (tally 0 0)) (failing_walks rule own (sym (passes_few own rule few)) ∙ rw w) r row e refl
 
   pub sifted_left : passes rule (points own) ≡ true → (exit : List ℤ)
       → exit ≡ placed (2 * to) (take (2 * (end - start)) (drop (2 * to + (2 * start - 2 * to)) row)) row → to ≤ start

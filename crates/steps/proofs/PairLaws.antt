@@ -24,7 +24,7 @@ use Rattle.bits.specs.Signs.{unsigned, fits}
 use Rattle.bits.proofs.SignLaws.{halves}
 use Rattle.bits.proofs.CodeLaws.{one_shifted}
 use Rattle.grid.specs.Limits.{limit, all_on_grid}
-use Rattle.grid.proofs.LimitLaws.{on-grid-in, all-on-grid-at}
+use Rattle.grid.proofs.LimitLaws.{on_grid_in, all_on_grid_at}
 use Rattle.steps.specs.inside.Asked.{step, Narrow, Rising, joined, point_bits}
 use Rattle.steps.proofs.WriteLaws.{side_by_side}
 
@@ -34,26 +34,26 @@ lifted w (pos n) = n + 2 ^ (w - 1)
 lifted w (negsuc n) = 2 ^ (w - 1) - suc n
 
 module _ (w : ℕ) (some : 0 < w) where
-  lifted-is : (z : ℤ) → fits w z ≡ true → pos (lifted w z) ≡ z +ℤ pos (2 ^ (w - 1))
-  lifted-is (pos n) e = refl
-  lifted-is (negsuc n) e =
+  lifted_is : (z : ℤ) → fits w z ≡ true → pos (lifted w z) ≡ z +ℤ pos (2 ^ (w - 1))
+  lifted_is (pos n) e = refl
+  lifted_is (negsuc n) e =
       let h : ℕ = 2 ^ (w - 1) in
       let l : n < h = ltb-true n h e in
       ⊖-pos (h - suc n) ∙ ⊖-eq (h - suc n) 0 (0 + h) (suc n + 0) (omega arith) ∙ sym (⊖-add 0 (suc n) h 0) ∙ sym (ap₂ ◌+ℤ◌ (⊖-negsuc n) (⊖-pos h))
 
-  lifted-below : (z : ℤ) → fits w z ≡ true → lifted w z < 2 ^ w
-  lifted-below (pos n) e = let l : n < 2 ^ (w - 1) = ltb-true n (2 ^ (w - 1)) e in omega (arith, l, halves w some)
-  lifted-below (negsuc n) e = omega (arith, halves w some, pow_pos (w - 1))
+  lifted_below : (z : ℤ) → fits w z ≡ true → lifted w z < 2 ^ w
+  lifted_below (pos n) e = let l : n < 2 ^ (w - 1) = ltb-true n (2 ^ (w - 1)) e in omega (arith, l, halves w some)
+  lifted_below (negsuc n) e = omega (arith, halves w some, pow_pos (w - 1))
 
   -- its first bit turned
-  turned-is : (z : ℤ) → fits w z ≡ true → bit_xor (lifted w z) (2 ^ (w - 1)) ≡ unsigned w z
-  turned-is (pos n) e =
+  turned_is : (z : ℤ) → fits w z ≡ true → bit_xor (lifted w z) (2 ^ (w - 1)) ≡ unsigned w z
+  turned_is (pos n) e =
       let h : ℕ = 2 ^ (w - 1) in
       let l : n < h = ltb-true n h e in
       let a : n + h ≡ 1 * h + n = omega arith in
       let b : h ≡ 1 * h + 0 = omega arith in
       ap₂ bit_xor a b ∙ xor_block (w - 1) 1 1 n 0 l (pow_pos (w - 1)) ∙ ap₂ (λ (x y : ℕ). x * h + y) (xor_self 1) (xor_zero_r n) ∙ omega arith
-  turned-is (negsuc n) e =
+  turned_is (negsuc n) e =
       let h : ℕ = 2 ^ (w - 1) in
       let l : n < h = ltb-true n h e in
       let a : h - suc n ≡ 0 * h + (h - suc n) = omega arith in
@@ -85,7 +85,7 @@ halves_are w n =
 -- points as numbers
 module _ (c : List ℤ) (on : all_on_grid limit c ≡ true) where
   pub in_grid : (i : ℕ) → In limit (get_or c i (pos 0))
-  in_grid i = on-grid-in limit (get_or c i (pos 0)) (all-on-grid-at limit c i on)
+  in_grid i = on_grid_in limit (get_or c i (pos 0)) (all_on_grid_at limit c i on)
 
   pub joined_in : (s : ℤ) → In 32768 s → (k : ℕ) → In (limit * 32768 + limit) (joined s c k)
   joined_in s small k = in_add (in_mul (in_grid k) small) (in_grid (k + 1))
@@ -113,17 +113,17 @@ module _ (c : List ℤ) (w k : ℕ) (n : Narrow w) (x : fits w (step c k) ≡ tr
       let h : ℤ = pos (2 ^ (w - 1)) in
       ap (λ (z : ℤ). z +ℤ pos (middle w)) apart
       ∙ ring (# 0 :* # 1 :+ # 2 :+ (# 3 :* # 1 :+ # 3)) ((# 0 :+ # 3) :* # 1 :+ (# 2 :+ # 3)) (step c k ∷ s ∷ step c (k + 1) ∷ h ∷ []) refl
-      ∙ sym (ap₂ (λ (a b : ℤ). a *ℤ s +ℤ b) (lifted-is w n.some (step c k) x) (lifted-is w n.some (step c (k + 1)) y))
+      ∙ sym (ap₂ (λ (a b : ℤ). a *ℤ s +ℤ b) (lifted_is w n.some (step c k) x) (lifted_is w n.some (step c (k + 1)) y))
 
-  pub up-below : up < 2 ^ (2 * w)
-  up-below =
+  pub up_below : up < 2 ^ (2 * w)
+  up_below =
       let e : 2 * w ≡ w + w = omega arith in
-      rw e (side_by_side w w (lifted w (step c k)) (lifted w (step c (k + 1))) (lifted-below w n.some (step c k) x) (lifted-below w n.some (step c (k + 1)) y))
+      rw e (side_by_side w w (lifted w (step c k)) (lifted w (step c (k + 1))) (lifted_below w n.some (step c k) x) (lifted_below w n.some (step c (k + 1)) y))
 
-  pub up-turned : bit_xor up (middle w) ≡ point_bits w c k
-  up-turned =
-      xor_block w (lifted w (step c k)) (2 ^ (w - 1)) (lifted w (step c (k + 1))) (2 ^ (w - 1)) (lifted-below w n.some (step c (k + 1)) y) (half_below w n.some)
-      ∙ ap₂ (λ (a b : ℕ). a * 2 ^ w + b) (turned-is w n.some (step c k) x) (turned-is w n.some (step c (k + 1)) y)
+  pub up_turned : bit_xor up (middle w) ≡ point_bits w c k
+  up_turned =
+      xor_block w (lifted w (step c k)) (2 ^ (w - 1)) (lifted w (step c (k + 1))) (2 ^ (w - 1)) (lifted_below w n.some (step c (k + 1)) y) (half_below w n.some)
+      ∙ ap₂ (λ (a b : ℕ). a * 2 ^ w + b) (turned_is w n.some (step c k) x) (turned_is w n.some (step c (k + 1)) y)
 
   pub rising : all_on_grid limit c ≡ true → (from to : ℤ) → from ≡ joined s c k → to ≡ joined s c (k + 2) → (h : ℕ) → h ≡ middle w → Rising from to h
   unfolding limit
@@ -145,8 +145,8 @@ module _ (w : ℕ) (n : Narrow w) (a b : ℕ) (first : a < 2 ^ (2 * w)) (second 
   pub word_fits : a * 2 ^ (2 * w) % 2 ^ 64 + b < 2 ^ 64
   word_fits = rw word_is (lt_of_lt_of_le (side_by_side (2 * w) (2 * w) a b first second) (pow_mono {j = 64} (omega (arith, n.few))))
 
-  pub word-turned : bit_xor (a * 2 ^ (2 * w) % 2 ^ 64 + b) (middle w * 2 ^ (2 * w) % 2 ^ 64 + middle w) ≡ bit_xor a (middle w) * 2 ^ (2 * w) + bit_xor b (middle w)
-  word-turned =
+  pub word_turned : bit_xor (a * 2 ^ (2 * w) % 2 ^ 64 + b) (middle w * 2 ^ (2 * w) % 2 ^ 64 + middle w) ≡ bit_xor a (middle w) * 2 ^ (2 * w) + bit_xor b (middle w)
+  word_turned =
       let m : middle w < 2 ^ (2 * w) = middle_below w n.some in
       ap₂ (λ (x y : ℕ). bit_xor (x + b) (y + middle w)) word_is (shl_exact (2 * w) (2 * w) 64 m (omega (arith, n.few)))
       ∙ xor_block (2 * w) a (middle w) b (middle w) second m
@@ -159,49 +159,49 @@ module _ (from to : ℤ) (h : ℕ) (r : Rising from to h) where
   apart_in : In (2 ^ 47 + 2 ^ 47) (to_z w64 (of_z w64 to) -ℤ to_z w64 (of_z w64 from))
   apart_in = in_sub (back_in w64 r.near_too tt) (back_in w64 r.near tt)
 
-  sum-in : In (2 ^ 47 + 2 ^ 47 + 2 ^ 31) (to_z w64 (of_z w64 (to_z w64 (of_z w64 to) -ℤ to_z w64 (of_z w64 from))) +ℤ to_z w64 h)
-  sum-in = in_add {B = 2 ^ 31} (back_in w64 apart_in tt) (in_eq half_is (in_pos (omega (arith, r.few))))
+  sum_in : In (2 ^ 47 + 2 ^ 47 + 2 ^ 31) (to_z w64 (of_z w64 (to_z w64 (of_z w64 to) -ℤ to_z w64 (of_z w64 from))) +ℤ to_z w64 h)
+  sum_in = in_add {B = 2 ^ 31} (back_in w64 apart_in tt) (in_eq half_is (in_pos (omega (arith, r.few))))
 
   pub apart_fits : SFits w64 (to_z w64 (of_z w64 to) -ℤ to_z w64 (of_z w64 from))
   apart_fits = in_fits apart_in tt
 
   pub sum_fits : SFits w64 (to_z w64 (of_z w64 (to_z w64 (of_z w64 to) -ℤ to_z w64 (of_z w64 from))) +ℤ to_z w64 h)
-  sum_fits = in_fits sum-in tt
+  sum_fits = in_fits sum_in tt
 
   abbrev sum : ℤ
   sum = to_z w64 (of_z w64 (to_z w64 (of_z w64 (to_z w64 (of_z w64 to) -ℤ to_z w64 (of_z w64 from))) +ℤ to_z w64 h))
 
   sum_is : sum ≡ (to -ℤ from) +ℤ pos h
-  sum_is = back w64 sum-in tt ∙ ap₂ ◌+ℤ◌ (back w64 apart_in tt ∙ ap₂ ◌-ℤ◌ (back w64 r.near_too tt) (back w64 r.near tt)) half_is
+  sum_is = back w64 sum_in tt ∙ ap₂ ◌+ℤ◌ (back w64 apart_in tt ∙ ap₂ ◌-ℤ◌ (back w64 r.near_too tt) (back w64 r.near tt)) half_is
 
   not_below : lt_z sum (pos 0) ≡ false
   not_below = ap (λ (z : ℤ). lt_z z (pos 0)) sum_is ∙ r.up
 
-  pub sum-cast : T (non_neg sum) × Fits w64 (nat_abs sum)
-  sum-cast = cast_u64 (back_in w64 sum-in tt) tt not_below
+  pub sum_cast : T (non_neg sum) × Fits w64 (nat_abs sum)
+  sum_cast = cast_u64 (back_in w64 sum_in tt) tt not_below
 
-  pub sum-cast-is : pos (nat_abs sum) ≡ (to -ℤ from) +ℤ pos h
-  sum-cast-is = cast_u64_is sum not_below ∙ sum_is
+  pub sum_cast_is : pos (nat_abs sum) ≡ (to -ℤ from) +ℤ pos h
+  sum_cast_is = cast_u64_is sum not_below ∙ sum_is
 
 module _ (x y s a b : ℤ) (x_in : In limit x) (y-in : In limit y) (s-in : In 32768 s) (e : a ≡ x) (f : b ≡ y) where
-  product-in : In (limit * 32768) (to_z w64 (of_z w64 a) *ℤ to_z w64 (of_z w64 s))
+  product_in : In (limit * 32768) (to_z w64 (of_z w64 a) *ℤ to_z w64 (of_z w64 s))
   unfolding limit
-  product-in = in_mul (back_in w64 (in_eq e x_in) tt) (back_in w64 s-in tt)
+  product_in = in_mul (back_in w64 (in_eq e x_in) tt) (back_in w64 s-in tt)
 
-  joined-sum-in : In (limit * 32768 + limit) (to_z w64 (of_z w64 (to_z w64 (of_z w64 a) *ℤ to_z w64 (of_z w64 s))) +ℤ to_z w64 (of_z w64 b))
+  joined_sum_in : In (limit * 32768 + limit) (to_z w64 (of_z w64 (to_z w64 (of_z w64 a) *ℤ to_z w64 (of_z w64 s))) +ℤ to_z w64 (of_z w64 b))
   unfolding limit
-  joined-sum-in = in_add (back_in w64 product-in tt) (back_in w64 (in_eq f y-in) tt)
+  joined_sum_in = in_add (back_in w64 product_in tt) (back_in w64 (in_eq f y-in) tt)
 
-  pub product-fits : SFits w64 (to_z w64 (of_z w64 a) *ℤ to_z w64 (of_z w64 s))
+  pub product_fits : SFits w64 (to_z w64 (of_z w64 a) *ℤ to_z w64 (of_z w64 s))
   unfolding limit
-  product-fits = in_fits product-in tt
+  product_fits = in_fits product_in tt
 
-  pub joined-fits : SFits w64 (to_z w64 (of_z w64 (to_z w64 (of_z w64 a) *ℤ to_z w64 (of_z w64 s))) +ℤ to_z w64 (of_z w64 b))
+  pub joined_fits : SFits w64 (to_z w64 (of_z w64 (to_z w64 (of_z w64 a) *ℤ to_z w64 (of_z w64 s))) +ℤ to_z w64 (of_z w64 b))
   unfolding limit
-  joined-fits = in_fits joined-sum-in tt
+  joined_fits = in_fits joined_sum_in tt
 
   pub joined_is : to_z w64 (of_z w64 (to_z w64 (of_z w64 (to_z w64 (of_z w64 a) *ℤ to_z w64 (of_z w64 s))) +ℤ to_z w64 (of_z w64 b))) ≡ x *ℤ s +ℤ y
   unfolding limit
   joined_is =
-      back w64 joined-sum-in tt
-      ∙ ap₂ ◌+ℤ◌ (back w64 product-in tt ∙ ap₂ ◌*ℤ◌ (back w64 (in_eq e x_in) tt ∙ e) (back w64 s-in tt)) (back w64 (in_eq f y-in) tt ∙ f)
+      back w64 joined_sum_in tt
+      ∙ ap₂ ◌+ℤ◌ (back w64 product_in tt ∙ ap₂ ◌*ℤ◌ (back w64 (in_eq e x_in) tt ∙ e) (back w64 s-in tt)) (back w64 (in_eq f y-in) tt ∙ f)

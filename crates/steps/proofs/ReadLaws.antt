@@ -18,8 +18,8 @@ use Rattle.integers.proofs.Logic.{and_left, and_right, and_both}
 use Rattle.bits.specs.Bits.{value, bits}
 use Rattle.bits.specs.Signs.{signed, fits, all_fit, numbers}
 use Rattle.bits.specs.inside.Words.{Within, leading, Ahead}
-use Rattle.bits.proofs.BitLaws.{bits-length, taken-below}
-use Rattle.bits.proofs.SignLaws.{signed-fits, numbers_fit, numbers-length}
+use Rattle.bits.proofs.BitLaws.{bits-length, taken_below}
+use Rattle.bits.proofs.SignLaws.{signed_fits, numbers_fit, numbers-length}
 use Rattle.grid.specs.Limits.{on_grid, all_on_grid}
 use Rattle.grid.proofs.LimitLaws.{on_grid_size}
 use Rattle.steps.specs.Steps.{sums}
@@ -31,14 +31,14 @@ difference f at w = signed w (value (take w (drop at (bits f))))
 
 -- the number in a field is a number of its width
 pub number_below : {f : List ℕ} {at w : ℕ} → Within f at w → value (take w (drop at (bits f))) < 2 ^ w
-number_below {f} {at} {w} h = taken-below w (drop at (bits f)) (omega (arith, length-drop at (bits f), bits-length f, h.room))
+number_below {f} {at} {w} h = taken_below w (drop at (bits f)) (omega (arith, length-drop at (bits f), bits-length f, h.room))
 
 -- every i32, and every difference, is within 2^31
 pub in_32 : (z : ℤ) → mag z < 2 ^ 31 → In 2147483648 z
 in_32 z h = record { abs = nat_abs-le z h }
 
 pub signed_small : {w : ℕ} (n : ℕ) → Width w → n < 2 ^ w → mag (signed w n) < 2 ^ 31
-signed_small {w} n s h = lt_of_lt_of_le (ltb-true (mag (signed w n)) (2 ^ (w - 1)) (signed-fits w s.some n h)) (pow_mono {i = w - 1} {j = 31} (omega (arith, s.few)))
+signed_small {w} n s h = lt_of_lt_of_le (ltb-true (mag (signed w n)) (2 ^ (w - 1)) (signed_fits w s.some n h)) (pow_mono {i = w - 1} {j = 31} (omega (arith, s.few)))
 
 pub step_small : {f : List ℕ} {at w : ℕ} → Within f at w → Width w → mag (difference f at w) < 2 ^ 31
 step_small {f} {at} {w} h s = signed_small (value (take w (drop at (bits f)))) s (number_below h)
@@ -98,58 +98,58 @@ module _ (f : List ℕ) (at w k : ℕ) where
       let d : drop w (drop (at + w * i) (bits f)) ≡ drop (at + w * (i + 1)) (bits f) = drop-drop w (at + w * i) (bits f) ∙ ap (λ (n : ℕ). drop n (bits f)) b in
       rw (a, ← d)
 
-  pub rest-none : (i : ℕ) → k ≤ i → rest f at w k i ≡ []
+  pub rest_none : (i : ℕ) → k ≤ i → rest f at w k i ≡ []
   unfolding numbers
-  rest-none i h = let z : k - i ≡ 0 = omega arith in rw z
+  rest_none i h = let z : k - i ≡ 0 = omega arith in rw z
 
   -- whether all fit is told by the next, or by those behind it
   module _ (v i : ℕ) (h : i < k) where
-    pub next-unfit : 2 ^ (v - 1) ≤ mag (difference f (at + w * i) w) → all_fit v (rest f at w k i) ≡ false
+    pub next_unfit : 2 ^ (v - 1) ≤ mag (difference f (at + w * i) w) → all_fit v (rest f at w k i) ≡ false
     unfolding all_fit
-    next-unfit e = ap (all_fit v) (rest_more i h) ∙ rw (le-ltb (mag (difference f (at + w * i) w)) (2 ^ (v - 1)) e)
+    next_unfit e = ap (all_fit v) (rest_more i h) ∙ rw (le-ltb (mag (difference f (at + w * i) w)) (2 ^ (v - 1)) e)
 
     pub next_fits : mag (difference f (at + w * i) w) < 2 ^ (v - 1) → all_fit v (rest f at w k i) ≡ all_fit v (rest f at w k (i + 1))
     unfolding all_fit
     next_fits e = ap (all_fit v) (rest_more i h) ∙ rw (lt-ltb (mag (difference f (at + w * i) w)) (2 ^ (v - 1)) e)
 
-  pub none-unfit : (v i : ℕ) → k ≤ i → all_fit v (rest f at w k i) ≡ true
+  pub none_unfit : (v i : ℕ) → k ≤ i → all_fit v (rest f at w k i) ≡ true
   unfolding all_fit
-  none-unfit v i h = ap (all_fit v) (rest-none i h)
+  none_unfit v i h = ap (all_fit v) (rest_none i h)
 
   -- the numbers that they make: the next, of x, and those behind it
   module _ (x y : ℤ) (i : ℕ) (h : i < k) where
     abbrev u : ℤ
     u = x +ℤ difference f (at + w * i) w
 
-    pub sums-rest : sums x y (rest f at w k i) ≡ u ∷ sums y u (rest f at w k (i + 1))
+    pub sums_rest : sums x y (rest f at w k i) ≡ u ∷ sums y u (rest f at w k (i + 1))
     unfolding sums
-    sums-rest = ap (sums x y) (rest_more i h)
+    sums_rest = ap (sums x y) (rest_more i h)
 
     -- where they are the rest of all
     pub next_is : (all : List ℤ) → drop i all ≡ sums x y (rest f at w k i) → get_or all i (pos 0) ≡ u
     next_is all e =
         let z : i + 0 ≡ i = omega arith in
-        ap (λ (n : ℕ). get_or all n (pos 0)) (sym z) ∙ sym (get_or-drop i all 0 (pos 0)) ∙ ap (λ (l : List ℤ). get_or l 0 (pos 0)) (e ∙ sums-rest)
+        ap (λ (n : ℕ). get_or all n (pos 0)) (sym z) ∙ sym (get_or-drop i all 0 (pos 0)) ∙ ap (λ (l : List ℤ). get_or l 0 (pos 0)) (e ∙ sums_rest)
 
-    pub next-behind : (all : List ℤ) → drop i all ≡ sums x y (rest f at w k i) → drop (i + 1) all ≡ sums y u (rest f at w k (i + 1))
-    next-behind all e = sym (drop-drop 1 i all) ∙ ap (drop 1) (e ∙ sums-rest)
+    pub next_behind : (all : List ℤ) → drop i all ≡ sums x y (rest f at w k i) → drop (i + 1) all ≡ sums y u (rest f at w k (i + 1))
+    next_behind all e = sym (drop-drop 1 i all) ∙ ap (drop 1) (e ∙ sums_rest)
 
     -- whether they are on the grid is told by the next, or by those behind it
-    pub next-off : (bound : ℕ) → bound < nat_abs u → all_on_grid bound (sums x y (rest f at w k i)) ≡ false
+    pub next_off : (bound : ℕ) → bound < nat_abs u → all_on_grid bound (sums x y (rest f at w k i)) ≡ false
     unfolding all_on_grid
-    next-off bound e = ap (all_on_grid bound) sums-rest ∙ rw (on_grid_size bound u, lt-leb (nat_abs u) bound e)
+    next_off bound e = ap (all_on_grid bound) sums_rest ∙ rw (on_grid_size bound u, lt-leb (nat_abs u) bound e)
 
-    pub next-on : (bound : ℕ) → nat_abs u ≤ bound → all_on_grid bound (sums x y (rest f at w k i)) ≡ all_on_grid bound (sums y u (rest f at w k (i + 1)))
+    pub next_on : (bound : ℕ) → nat_abs u ≤ bound → all_on_grid bound (sums x y (rest f at w k i)) ≡ all_on_grid bound (sums y u (rest f at w k (i + 1)))
     unfolding all_on_grid
-    next-on bound e = ap (all_on_grid bound) sums-rest ∙ rw (on_grid_size bound u, le-leb (nat_abs u) bound e)
+    next_on bound e = ap (all_on_grid bound) sums_rest ∙ rw (on_grid_size bound u, le-leb (nat_abs u) bound e)
 
-  pub no-sums : (x y : ℤ) (i : ℕ) → k ≤ i → sums x y (rest f at w k i) ≡ []
+  pub no_sums : (x y : ℤ) (i : ℕ) → k ≤ i → sums x y (rest f at w k i) ≡ []
   unfolding sums
-  no-sums x y i h = ap (sums x y) (rest-none i h)
+  no_sums x y i h = ap (sums x y) (rest_none i h)
 
-  pub none-off : (x y : ℤ) (i bound : ℕ) → k ≤ i → all_on_grid bound (sums x y (rest f at w k i)) ≡ true
+  pub none_off : (x y : ℤ) (i bound : ℕ) → k ≤ i → all_on_grid bound (sums x y (rest f at w k i)) ≡ true
   unfolding all_on_grid
-  none-off x y i bound h = ap (all_on_grid bound) (no-sums x y i h)
+  none_off x y i bound h = ap (all_on_grid bound) (no_sums x y i h)
 
 -- so far within the bound that no a and b differences of a width pass it: the numbers that follow are within it
 pub sums_near : (bound w a b : ℕ) (x y : ℤ) (l : List ℤ) → all_fit w l ≡ true → length l ≤ a + b → b ≤ a → a ≤ b + 1 → nat_abs x + a * 2 ^ (w - 1) ≤ bound → nat_abs y + b * 2 ^ (w - 1) ≤ bound

@@ -12,7 +12,7 @@ use Rattle.bits.specs.Signs.{all_fit}
 use Rattle.bits.specs.Widths.{smallest, width_of}
 use Rattle.bits.proofs.SignLaws.{all_fit_wider}
 use Rattle.bits.proofs.WidthLaws.{width_at_most, width_fits}
-use Rattle.steps.proofs.BodyLaws.{width_some, width-within-32}
+use Rattle.steps.proofs.BodyLaws.{width_some, width_within_32}
 
 pub width_of_none : width_of [] ≡ 1
 unfolding smallest all_fit
@@ -24,7 +24,7 @@ no_width l w e = ne_eqb w (width_of l) (by (eqb w 0) refl)
   where
     by : (b : Bool) → eqb w 0 ≡ b → w ≡ width_of l → ⊥
     by true f q = omega (arith, eqb-true w 0 f, width_some l)
-    by false f q = omega (arith, ltb-true 32 w (rw f at e), width-within-32 l)
+    by false f q = omega (arith, ltb-true 32 w (rw f at e), width_within_32 l)
 
 -- a width that all fit is the smallest exactly if one does not fit one bit less
 pub smallest_if : (l : List ℤ) (w : ℕ) → 1 < w → w ≤ 32 → all_fit w l ≡ true → not (all_fit (w - 1) l) ≡ eqb w (width_of l)

@@ -8,7 +8,7 @@ use lib.ListN.{length, take, drop, set, length-set}
 use lib.Seq.{drop-drop}
 use lib.IntN.{ℤ}
 use Rattle.rows.specs.Rows.{placed}
-use Rattle.rows.proofs.PlacedLaws.{placed-behind, set_placed}
+use Rattle.rows.proofs.PlacedLaws.{placed_behind, set_placed}
 use Rattle.bits.specs.Bits.{value}
 use Rattle.bits.specs.Signs.{signed, numbers}
 use Rattle.bits.specs.inside.Words.{Within}
@@ -30,20 +30,20 @@ no_points (suc n) w l e = absurd (omega arith)
 
 -- some points, by where they stand
 module _ (l : List Bool) (at w : ℕ) where
-  pub some-steps : (n : ℕ) → 0 < n → steps_in n w (drop at l) ≡ numbers w (2 * (n - 1)) (drop (at + 64) l)
-  some-steps zero h = absurd (omega arith)
-  some-steps (suc k) h =
+  pub some_steps : (n : ℕ) → 0 < n → steps_in n w (drop at l) ≡ numbers w (2 * (n - 1)) (drop (at + 64) l)
+  some_steps zero h = absurd (omega arith)
+  some_steps (suc k) h =
       let e : 2 * k ≡ 2 * (suc k - 1) = omega arith in
       ap₂ (numbers w) e (drop-drop 64 at l)
 
-  pub some-points : (n : ℕ) → 0 < n → (x y : ℤ) → x ≡ signed 32 (value (take 32 (drop at l))) → y ≡ signed 32 (value (take 32 (drop (at + 32) l)))
+  pub some_points : (n : ℕ) → 0 < n → (x y : ℤ) → x ≡ signed 32 (value (take 32 (drop at l))) → y ≡ signed 32 (value (take 32 (drop (at + 32) l)))
       → points_of_width n w (drop at l) ≡ x ∷ y ∷ sums x y (numbers w (2 * (n - 1)) (drop (at + 64) l))
   unfolding numbers
-  some-points zero h x y p q = absurd (omega arith)
-  some-points (suc k) h x y p q =
+  some_points zero h x y p q = absurd (omega arith)
+  some_points (suc k) h x y p q =
       ap₂ (λ (a b : ℤ). a ∷ b ∷ sums a b (steps_in (suc k) w (drop at l)))
       (sym p) (ap (λ (m : List Bool). signed 32 (value (take 32 m))) (drop-drop 32 at l) ∙ sym q)
-      ∙ ap (λ (ds : List ℤ). x ∷ y ∷ sums x y ds) (some-steps (suc k) h)
+      ∙ ap (λ (ds : List ℤ). x ∷ y ∷ sums x y ds) (some_steps (suc k) h)
 
 -- two numbers and more are on the grid where the two are, and the others
 pub two_on : (bound : ℕ) (x y : ℤ) (l : List ℤ) → all_on_grid bound (x ∷ y ∷ l) ≡ ((on_grid bound x && on_grid bound y) && all_on_grid bound l)
@@ -52,17 +52,17 @@ two_on bound x y l = sym (and_assoc (on_grid bound x) (on_grid bound y) (all_on_
 
 -- two numbers that are stored, and more behind them
 module _ (row : List ℤ) (to : ℕ) (x y : ℤ) (h : to + 2 ≤ length row) where
-  two-placed : set (set row to x) (to + 1) y ≡ placed to (x ∷ y ∷ []) row
-  two-placed =
+  two_placed : set (set row to x) (to + 1) y ≡ placed to (x ∷ y ∷ []) row
+  two_placed =
       set_placed (set row to x) (to + 1) y (omega (arith, length-set row to x))
       ∙ ap (placed (to + 1) (y ∷ [])) (set_placed row to x (omega arith))
-      ∙ placed-behind row to (x ∷ []) (y ∷ []) (to + 1) (omega arith) (omega arith)
+      ∙ placed_behind row to (x ∷ []) (y ∷ []) (to + 1) (omega arith) (omega arith)
 
-  pub stored-long : length (set (set row to x) (to + 1) y) ≡ length row
-  stored-long = length-set (set row to x) (to + 1) y ∙ length-set row to x
+  pub stored_long : length (set (set row to x) (to + 1) y) ≡ length row
+  stored_long = length-set (set row to x) (to + 1) y ∙ length-set row to x
 
-  pub stored-behind : (l : List ℤ) → placed (to + 2) l (set (set row to x) (to + 1) y) ≡ placed to (x ∷ y ∷ l) row
-  stored-behind l = ap (placed (to + 2) l) two-placed ∙ placed-behind row to (x ∷ y ∷ []) l (to + 2) h (omega arith)
+  pub stored_behind : (l : List ℤ) → placed (to + 2) l (set (set row to x) (to + 1) y) ≡ placed to (x ∷ y ∷ l) row
+  stored_behind l = ap (placed (to + 2) l) two_placed ∙ placed_behind row to (x ∷ y ∷ []) l (to + 2) h (omega arith)
 
 module _ {f : List ℕ} {at w n : ℕ} (s : Stands f at w n) (h : 0 < n) where
   size_is : body_size n w ≡ 64 + w * (2 * (n - 1))
@@ -72,14 +72,14 @@ module _ {f : List ℕ} {at w n : ℕ} (s : Stands f at w n) (h : 0 < n) where
       by zero h = absurd (omega arith)
       by (suc k) h = let e : k ≡ suc k - 1 = omega arith in ap (λ (m : ℕ). 64 + w * (2 * m)) e
 
-  pub x-there : Within f at 32
-  x-there = record { some = omega arith; few = omega arith; room = omega (arith, s.room, size_is) }
+  pub x_there : Within f at 32
+  x_there = record { some = omega arith; few = omega arith; room = omega (arith, s.room, size_is) }
 
-  pub y-there : Within f (at + 32) 32
-  y-there = record { some = omega arith; few = omega arith; room = omega (arith, s.room, size_is) }
+  pub y_there : Within f (at + 32) 32
+  y_there = record { some = omega arith; few = omega arith; room = omega (arith, s.room, size_is) }
 
   pub long_enough : 8 ≤ length f
   long_enough = omega (arith, s.room, size_is)
 
-  pub steps-there : Width w → There f (at + 64) w (2 * (n - 1))
-  steps-there v = record { width = v; long = long_enough; short = s.short; room = omega (arith, s.room, size_is) }
+  pub steps_there : Width w → There f (at + 64) w (2 * (n - 1))
+  steps_there v = record { width = v; long = long_enough; short = s.short; room = omega (arith, s.room, size_is) }

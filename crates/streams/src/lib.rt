@@ -1,5 +1,6 @@
 // A stream of bytes, read into a row that the caller lends.
 #![tactic(auto)]
+
 ghost use Rattle.std.specs.Prelude.{◌≤◌, length, IfOk};
 
 use std::io;

@@ -17,10 +17,10 @@ use Rattle.integers.proofs.Modulo.{mod64_lt}
 use Rattle.grid.specs.Points.{points}
 use Rattle.grid.specs.Area.{exact, wrapped, reported}
 use Rattle.grid.specs.Domain.{count}
-use Rattle.rows.proofs.PlacedLaws.{placed-none}
+use Rattle.rows.proofs.PlacedLaws.{placed_none}
 use Rattle.buffer.specs.Spans.{span, spans}
 use Rattle.buffer.specs.Sets.{joined, contour as contour_at, contours}
-use Rattle.sets.proofs.PartLaws.{next-part}
+use Rattle.sets.proofs.PartLaws.{next_part}
 use Rattle.report.specs.Text.{decimal, signed, line_end}
 use Rattle.report.specs.inside.Lines.{Put}
 use Rattle.report.proofs.PutLaws.{Going, going_none, going_room, going_more, going_all, going_same}
@@ -29,13 +29,13 @@ use Rattle.tidy.specs.Words.{contour, dropped_as, has_collapsed, stands_behind, 
 
 -- why a contour went, by its fate
 module _ (fate : ℕ) where
-  pub why-collapsed : fate ≡ 1 → why fate ≡ has_collapsed
+  pub why_collapsed : fate ≡ 1 → why fate ≡ has_collapsed
   unfolding why
-  why-collapsed e = rw (eq-eqb fate 1 e, why)
+  why_collapsed e = rw (eq-eqb fate 1 e, why)
 
-  pub why-behind : (fate ≡ 1 → ⊥) → why fate ≡ stands_behind
+  pub why_behind : (fate ≡ 1 → ⊥) → why fate ≡ stands_behind
   unfolding why
-  why-behind n = rw (ne_eqb fate 1 n, why)
+  why_behind n = rw (ne_eqb fate 1 n, why)
 
   why-length : length (why fate) ≤ 26
   unfolding why
@@ -47,17 +47,17 @@ module _ (fate : ℕ) where
 
 -- the area of a contour as text
 module _ (c : List ℤ) where
-  pub area-none : count c ≡ 0 → area c ≡ no_area
+  pub area_none : count c ≡ 0 → area c ≡ no_area
   unfolding area
-  area-none e = rw (eq-eqb (count c) 0 e, area)
+  area_none e = rw (eq-eqb (count c) 0 e, area)
 
-  pub area-told : (count c ≡ 0 → ⊥) → area c ≡ doubled_area ++ signed (reported (points c))
+  pub area_told : (count c ≡ 0 → ⊥) → area c ≡ doubled_area ++ signed (reported (points c))
   unfolding area
-  area-told n = rw (ne_eqb (count c) 0 n, area)
+  area_told n = rw (ne_eqb (count c) 0 n, area)
 
-  reported-fits : SFits w64 (reported (points c))
+  reported_fits : SFits w64 (reported (points c))
   unfolding wrapped
-  reported-fits = sfits_to_z (record { fits = mod64_lt (exact (points c)) })
+  reported_fits = sfits_to_z (record { fits = mod64_lt (exact (points c)) })
 
   area-length : length (area c) ≤ 35
   unfolding area
@@ -65,7 +65,7 @@ module _ (c : List ℤ) where
     where
       go : (b : Bool) → length {A = ℕ} (elim b [ true ↦ no_area | false ↦ doubled_area ++ signed (reported (points c)) ]) ≤ 35
       go true = omega arith
-      go false = simp length-append (omega (arith, signed-length (reported (points c)) reported-fits))
+      go false = simp length-append (omega (arith, signed-length (reported (points c)) reported_fits))
 
 four_words : (a b c d : List ℕ) → a ++ b ++ c ++ d ≡ joined (a ∷ b ∷ c ∷ d ∷ [])
 unfolding joined
@@ -77,17 +77,17 @@ words k fate c = (contour ++ decimal k ++ dropped_as) ∷ why fate ∷ area c �
 
 -- a line, by whether the contour is kept
 module _ (k fate : ℕ) (c : List ℤ) where
-  line-none : fate ≡ 0 → line k fate c ≡ []
+  line_none : fate ≡ 0 → line k fate c ≡ []
   unfolding line
-  line-none e = rw (eq-eqb fate 0 e, line)
+  line_none e = rw (eq-eqb fate 0 e, line)
 
   pub line_words : (fate ≡ 0 → ⊥) → line k fate c ≡ joined (words k fate c)
   unfolding line
   line_words n = rw (ne_eqb fate 0 n, line) (four_words (contour ++ decimal k ++ dropped_as) (why fate) (area c) line_end)
 
   -- nothing is put where it is
-  pub none-put : fate ≡ 0 → (at : ℕ) (text : List ℕ) → Put at (line k fate c) text at text
-  none-put e at text = rw (line-none e) (record { behind = omega arith; is = sym (placed-none text at) })
+  pub none_put : fate ≡ 0 → (at : ℕ) (text : List ℕ) → Put at (line k fate c) text at text
+  none_put e at text = rw (line_none e) (record { behind = omega arith; is = sym (placed_none text at) })
 
   line-length : k < 10 ^ 4 → length (line k fate c) ≤ 84
   unfolding line
@@ -118,21 +118,21 @@ module _ {p : List ℤ} {ranges : List (List ℕ)} {fs text₀ : List ℕ} {behi
     abbrev next : List ℕ
     next = line (i + 1) (get_or fs i 0) (contour_at p (span (get_or ranges i [])))
 
-    telling-next : Going 0 (lines 1 fs (contours p (spans ranges))) text₀ behind text (next ∷ lines (i + 1 + 1) (drop (i + 1) fs) (drop (i + 1) (contours p (spans ranges))) ∷ [])
+    telling_next : Going 0 (lines 1 fs (contours p (spans ranges))) text₀ behind text (next ∷ lines (i + 1 + 1) (drop (i + 1) fs) (drop (i + 1) (contours p (spans ranges))) ∷ [])
     unfolding joined lines
-    telling-next =
+    telling_next =
         going_same _
-        (rw (drop-cons fs i 0 (omega arith), next-part p ranges i h, add-one (i + 1), add-one i) (simp append_assoc))
+        (rw (drop-cons fs i 0 (omega arith), next_part p ranges i h, add-one (i + 1), add-one i) (simp append_assoc))
         x.going
 
-    pub telling-room : behind + length next ≤ length text
-    telling-room = going_room telling-next
+    pub telling_room : behind + length next ≤ length text
+    telling_room = going_room telling_next
 
-    pub telling-more : {r : ℕ} {exit : List ℕ} → Put behind next text r exit → Telling p ranges fs text₀ r exit (i + 1)
-    telling-more q = record { high = omega arith; going = going_more telling-next q }
+    pub telling_more : {r : ℕ} {exit : List ℕ} → Put behind next text r exit → Telling p ranges fs text₀ r exit (i + 1)
+    telling_more q = record { high = omega arith; going = going_more telling_next q }
 
-  pub telling-all : length ranges ≤ i → Put 0 (lines 1 fs (contours p (spans ranges))) text₀ behind text
+  pub telling_all : length ranges ≤ i → Put 0 (lines 1 fs (contours p (spans ranges))) text₀ behind text
   unfolding joined lines
-  telling-all h =
+  telling_all h =
       let e : drop i fs ≡ [] = drop_of_length-le fs {i = i} (omega arith) in
       going_all (going_same [] (rw e) x.going)

@@ -14,7 +14,7 @@ use Rattle.buffer.specs.Spans.{span, spans, rows, laid, sound}
 use Rattle.buffer.specs.Sets.{joined, cut, contour, contours, shapes, contour_spans, shape_spans}
 use Rattle.buffer.proofs.SpanLaws.{range_within}
 use Rattle.buffer.proofs.PartLaws.{names_of}
-use Rattle.buffer.proofs.Theorems.{a-sound-set's-contours-laid-end-to-end-are-its-points, a-sound-set's-shapes-laid-end-to-end-are-its-contours}
+use Rattle.buffer.proofs.Theorems.{a_sound_set's_contours_laid_end_to_end_are_its_points, a_sound_set's_shapes_laid_end_to_end_are_its_contours}
 use Rattle.sets.specs.declared.inner.shapes.Total.{Total}
 use Rattle.sets.specs.Fates.{shapes_fate}
 use Rattle.sets.specs.Promises.{AllContours}
@@ -24,7 +24,7 @@ use Rattle.sets.specs.inside.Shapes as Cleaning
 use Rattle.sets.specs.inside.Shapes.{Grouped, grouped, run_shapes}
 use Rattle.sets.proofs.BehindLaws.{all_named, all_cut}
 use Rattle.sets.proofs.LaidLaws.{points_even, rows_long}
-use Rattle.sets.proofs.ShapesLaws.{among, shapes-after}
+use Rattle.sets.proofs.ShapesLaws.{among, shapes_after}
 use Rattle.sets.proofs.Kept.{kept_even}
 use Rattle.fates.specs.inside.Telling as Telling
 use Rattle.report.specs.Listing.{most_listed}
@@ -51,7 +51,7 @@ module _ {p : List ℤ} {cs ss : List (List ℕ)} (t : Tidiable p cs ss) where
 
   pub all_joined : joined all ≡ contours p (spans cs)
   all_joined =
-      a-sound-set's-shapes-laid-end-to-end-are-its-contours p (spans cs) (spans ss) t.domain.even t.contours
+      a_sound_set's_shapes_laid_end_to_end_are_its_contours p (spans cs) (spans ss) t.domain.even t.contours
       (ap (sound (spans ss)) (length-map cs span) ∙ t.shapes)
 
   pub contours-length : length (contours p (spans cs)) ≡ length cs
@@ -71,7 +71,7 @@ module _ {p : List ℤ} {cs ss : List (List ℕ)} (t : Tidiable p cs ss) where
   module _ {out : List ℤ} {records groups : List (List ℕ)} (has : Roomy out records groups) where
     room : Room (joined all) none_yet out records
     room =
-        let n = ap length (a-sound-set's-contours-laid-end-to-end-are-its-points p (spans cs) t.domain.even t.contours) in
+        let n = ap length (a_sound_set's_contours_laid_end_to_end_are_its_points p (spans cs) t.domain.even t.contours) in
         rw all_joined (record {
           room = omega (arith, n, t.domain.even, t.few_points, has.numbers);
           space = omega (arith, contours-length, t.few_contours, has.contours);
@@ -104,7 +104,7 @@ module _ {p : List ℤ} {cs ss : List (List ℕ)} {rule : Rule} {out : List ℤ}
   laid_out : grouped w.shapes (reached w.progress out' records') groups' ≡ among (shapes_fate rule (shapes p (spans cs) (spans ss))) (grouped 0 (reached none_yet out records) groups)
   laid_out =
       done.is
-      ∙ shapes-after rule (shapes p (spans cs) (spans ss)) (grouped 0 (reached none_yet out records) groups) (all_contours done.set) (room done.set done.has)
+      ∙ shapes_after rule (shapes p (spans cs) (spans ss)) (grouped 0 (reached none_yet out records) groups) (all_contours done.set) (room done.set done.has)
       (omega (arith, done.set.few_shapes, done.has.shapes, length-map (spans ss) (cut (contours p (spans cs))) ∙ length-map ss span))
 
   numbers_even : length (joined (joined ds)) ≡ 2 * count (joined (joined ds))

@@ -18,7 +18,7 @@ use Rattle.setfile.specs.declared.answer.Read.{Read}
 use Rattle.setfile.specs.Editions.{number, is_second}
 use Rattle.setfile.specs.Reading.{refusals}
 use Rattle.setfile.specs.Promises.{points_of, contour_ranges, shape_ranges}
-use Rattle.setfile.proofs.Theorems.{the-set-that-is-read-can-be-carried}
+use Rattle.setfile.proofs.Theorems.{the_set_that_is_read_can_be_carried}
 use Rattle.report.specs.Listing.{listing_refusals}
 use Rattle.report.specs.inside.Lines.{Put}
 use Rattle.report.proofs.ReportLaws.{accepted}
@@ -63,16 +63,16 @@ module _ {f : List ℕ} {out : List ℤ} {cs ss : List (List ℕ)} {r : Read} {o
       go (suc k) e n = ap (λ (r : ℕ). tidied_by r rule f) (sym e)
 
   module _ (z : r.reply ≡ 0) where
-    pub read-tidied : (rule : Rule) → tidied rule f
+    pub read_tidied : (rule : Rule) → tidied rule f
         ≡ set_tidied rule (eqb r.edition 2) (shapes (take (2 * r.points) out') (spans (take r.contours cs')) (spans (take r.shapes ss')))
     unfolding tidied
-    read-tidied rule =
+    read_tidied rule =
         rw (second_is (is_second f) r.edition (edition_is done z), points_are done z, ranges_are done z, shapes_are done z)
         (ap (λ (r : ℕ). tidied_by r rule f) (accepted_file done z))
 
-    pub read-tidiable : Bytes f → Tidiable (take (2 * r.points) out') (take r.contours cs') (take r.shapes ss')
-    read-tidiable h =
-        let fit = (the-set-that-is-read-can-be-carried f h (front_clear (refusals f) _ (accepted_file done z))).regular in
+    pub read_tidiable : Bytes f → Tidiable (take (2 * r.points) out') (take r.contours cs') (take r.shapes ss')
+    read_tidiable h =
+        let fit = (the_set_that_is_read_can_be_carried f h (front_clear (refusals f) _ (accepted_file done z))).regular in
         let kl = length-take-le r.contours cs' (ranges_in done z) in
         let ml = length-take-le r.shapes ss' (shapes_in_row done z) in
         let nl = length-take-le (2 * r.points) out' (points_in done z) in
@@ -91,10 +91,10 @@ module _ {f : List ℕ} {out : List ℤ} {cs ss : List (List ℕ)} {r : Read} {o
 
 -- what is written stands within both rows
 module _ (rule : Rule) (f out words : List ℕ) {r : Lengths} {exit said : List ℕ} (e : leaving r exit said ≡ tidying rule f out words) where
-  pub file-within : r.bytes ≤ length exit
+  pub file_within : r.bytes ≤ length exit
   unfolding tidying
-  file-within = front_within (tidied rule f).file out r.bytes exit (ap (λ (o : Outcome). o.lengths.bytes) e) (ap (λ (o : Outcome). o.bytes) e)
+  file_within = front_within (tidied rule f).file out r.bytes exit (ap (λ (o : Outcome). o.lengths.bytes) e) (ap (λ (o : Outcome). o.bytes) e)
 
-  pub words-within : r.words ≤ length said
+  pub words_within : r.words ≤ length said
   unfolding tidying
-  words-within = front_within (tidied rule f).words words r.words said (ap (λ (o : Outcome). o.lengths.words) e) (ap (λ (o : Outcome). o.words) e)
+  words_within = front_within (tidied rule f).words words r.words said (ap (λ (o : Outcome). o.lengths.words) e) (ap (λ (o : Outcome). o.words) e)

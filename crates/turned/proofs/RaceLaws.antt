@@ -5,7 +5,7 @@ use native.Mathlib.Omega.{arith}
 use native.Mathlib.Decide.{ℕ_discrete, dec_le, dec_lt}
 use Rattle.turned.specs.inside.Words.{from, Less, Period, Least, Apart}
 use Rattle.turned.specs.inside.Races.{Beaten, Racing}
-use Rattle.turned.proofs.WordLaws.{all_agree, from_period, from-again, some-least}
+use Rattle.turned.proofs.WordLaws.{all_agree, from_period, from_again, some_least}
 
 -- where two rotations agree and then differ, so do those that start up to there
 skipped : (w : ℕ → ℕ) (i j k : ℕ) → ((x : ℕ) → x < k → w (i + x) ≡ w (j + x)) → w (i + k) < w (j + k) → (d : ℕ) → d ≤ k → Less (from w (i + d)) (from w (j + d))
@@ -65,7 +65,7 @@ module _ {w : ℕ → ℕ} {n : ℕ} where
     }
       where
         one : (x : ℕ) × (x < n) × ((y : ℕ) → Less (from w y) (from w x) → ⊥)
-        one = some-least p h
+        one = some_least p h
 
         is : one.0 ≡ i
         is = unbeaten r one.0 (omega (arith, one.1)) one.2
@@ -77,10 +77,10 @@ module _ {w : ℕ → ℕ} {n : ℕ} where
         best y l = one.2 y (subst (λ (z : ℕ). Less (from w y) (from w z)) (sym is) l)
 
         shorter : (q : ℕ) → 0 < q → q < n → Period w q → Dec (i + q < n) → ⊥
-        shorter q a b s (yes m) = let e = unbeaten r (i + q) (omega arith) (λ y l. best y (subst (λ (f : ℕ → ℕ). Less (from w y) f) (from-again s i) l)) in omega (arith, e)
+        shorter q a b s (yes m) = let e = unbeaten r (i + q) (omega arith) (λ y l. best y (subst (λ (f : ℕ → ℕ). Less (from w y) f) (from_again s i) l)) in omega (arith, e)
         shorter q a b s (no m) =
             let f : i + q - n + n ≡ i + q = omega arith in
-            let g : from w (i + q - n) ≡ from w i = sym (from-again p (i + q - n)) ∙ ap (from w) f ∙ from-again s i in
+            let g : from w (i + q - n) ≡ from w i = sym (from_again p (i + q - n)) ∙ ap (from w) f ∙ from_again s i in
             let e = unbeaten r (i + q - n) (omega (arith, r.order, within)) (λ y l. best y (subst (λ (f : ℕ → ℕ). Less (from w y) f) g l)) in
             omega (arith, e)
 
@@ -92,7 +92,7 @@ module _ {w : ℕ → ℕ} {n : ℕ} where
       some = omega (arith, r.order);
       most = omega arith;
       period = period;
-      smallest = λ q a b s. let e = unbeaten r (i + q) (omega arith) (λ y l. best y (subst (λ (f : ℕ → ℕ). Less (from w y) f) (from-again s i) l)) in omega (arith, e);
+      smallest = λ q a b s. let e = unbeaten r (i + q) (omega arith) (λ y l. best y (subst (λ (f : ℕ → ℕ). Less (from w y) f) (from_again s i) l)) in omega (arith, e);
     }
       where
         along : (x : ℕ) → w (i + x) ≡ w (j + x)
@@ -113,10 +113,10 @@ module _ {w : ℕ → ℕ} {n : ℕ} where
         back (suc m) x a b (yes c) = ap (from w) (unbeaten r x c b)
         back (suc m) x a b (no c) =
             let e : x - (j - i) + (j - i) ≡ x = omega (arith, r.order) in
-            let f : from w x ≡ from w (x - (j - i)) = sym (ap (from w) e) ∙ from-again period (x - (j - i)) in
+            let f : from w x ≡ from w (x - (j - i)) = sym (ap (from w) e) ∙ from_again period (x - (j - i)) in
             f ∙ back m (x - (j - i)) (omega (arith, r.order)) (λ y l. b y (subst (λ (g : ℕ → ℕ). Less (from w y) g) (sym f) l)) (dec_lt (x - (j - i)) j)
 
         best : (y : ℕ) → Less (from w y) (from w i) → ⊥
         best y l =
-            let one = some-least p h in
+            let one = some_least p h in
             one.2 y (subst (λ (g : ℕ → ℕ). Less (from w y) g) (sym (back one.0 one.0 (omega arith) one.2 (dec_lt one.0 j))) l)

@@ -8,13 +8,13 @@ use native.Mathlib.Nat.{mod-eq_of_lt}
 use lib.IntN.{ℤ}
 use Rattle.grid.specs.Points.{at}
 use Rattle.turned.specs.inside.Words.{key, keys, word, Apart}
-use Rattle.turned.proofs.WordLaws.{again-mod}
+use Rattle.turned.proofs.WordLaws.{again_mod}
 use Rattle.turned.proofs.KeyLaws.{word_period}
 
 -- a word from a position on, as far as the row goes
 along : (row : List ℤ) (n p d : ℕ) → p % n + d < n → word row n (p + d) ≡ keys row (p % n) d
 unfolding word
-along row n p d h = sym (again-mod (word_period row n) p d) ∙ ap (λ (y : ℕ). key (at row y)) (mod-eq_of_lt h)
+along row n p d h = sym (again_mod (word_period row n) p d) ∙ ap (λ (y : ℕ). key (at row y)) (mod-eq_of_lt h)
 
 module _ (first second : List ℤ) (n i j k run r : ℕ) (far : (i + k) % n + run ≤ n) (off : (j + k) % n + run ≤ n)
     (a : Apart (keys first ((i + k) % n)) (keys second ((j + k) % n)) run r) where
@@ -26,8 +26,8 @@ module _ (first second : List ℤ) (n i j k run r : ℕ) (far : (i + k) % n + ru
     other : word second n (j + (k + d)) ≡ keys second ((j + k) % n) d
     other = let e : j + (k + d) ≡ j + k + d = omega arith in ap (word second n) e ∙ along second n (j + k) d (omega arith)
 
-  pub run-agrees : ((x : ℕ) → x < k → word first n (i + x) ≡ word second n (j + x)) → (x : ℕ) → x < k + r → word first n (i + x) ≡ word second n (j + x)
-  run-agrees so_far x h = go (dec_lt x k)
+  pub run_agrees : ((x : ℕ) → x < k → word first n (i + x) ≡ word second n (j + x)) → (x : ℕ) → x < k + r → word first n (i + x) ≡ word second n (j + x)
+  run_agrees so_far x h = go (dec_lt x k)
     where
       go : Dec (x < k) → word first n (i + x) ≡ word second n (j + x)
       go (yes l) = so_far x l
@@ -36,5 +36,5 @@ module _ (first second : List ℤ) (n i j k run r : ℕ) (far : (i + k) % n + ru
           let d : x - k < run = omega (arith, a.within) in
           subst (λ (y : ℕ). word first n (i + y) ≡ word second n (j + y)) e (one (x - k) d ∙ a.agree (x - k) (omega arith) ∙ sym (other (x - k) d))
 
-  pub run-differs : r < run → word first n (i + (k + r)) ≡ word second n (j + (k + r)) → ⊥
-  run-differs l e = a.differ l (sym (one r l) ∙ e ∙ other r l)
+  pub run_differs : r < run → word first n (i + (k + r)) ≡ word second n (j + (k + r)) → ⊥
+  run_differs l e = a.differ l (sym (one r l) ∙ e ∙ other r l)

@@ -9,9 +9,9 @@ use lib.IntN.{ℤ}
 use Rattle.grid.specs.Domain.{Contour}
 use Rattle.turned.specs.Starts.{smallest_start}
 use Rattle.turned.specs.inside.Words.{word, from, Less, Period, Least, Apart}
-use Rattle.turned.proofs.WordLaws.{told, all_agree, from_period, again-mod}
+use Rattle.turned.proofs.WordLaws.{told, all_agree, from_period, again_mod}
 use Rattle.turned.proofs.SearchLaws.{first_is, refuted}
-use Rattle.turned.proofs.KeyLaws.{word_period, starts-words, words-start}
+use Rattle.turned.proofs.KeyLaws.{word_period, starts_words, words_start}
 
 module _ {u v : ℕ → ℕ} {n i j p q : ℕ} (pu : Period u n) (pv : Period v n) (a : Least u n i p) (b : Least v n j q) where
   -- equal least rotations: v is u from this position on
@@ -19,7 +19,7 @@ module _ {u v : ℕ → ℕ} {n i j p q : ℕ} (pu : Period u n) (pv : Period v 
   found e x =
       let f : j + n - i + x ≡ j + (n - i + x) = omega (arith, a.within) in
       let g : i + (n - i + x) ≡ x + n = omega (arith, a.within) in
-      again-mod b.period (j + n - i) x ∙ ap v f ∙ sym (e (n - i + x)) ∙ ap u g ∙ pu.again x
+      again_mod b.period (j + n - i) x ∙ ap v f ∙ sym (e (n - i + x)) ∙ ap u g ∙ pu.again x
 
   -- and from none before a position below the period
   earliest : (s : ℕ) → s < q → ((x : ℕ) → v (s + x) ≡ u x) → (t : ℕ) → t < s → ((x : ℕ) → v (t + x) ≡ u x) → ⊥
@@ -52,18 +52,18 @@ module _ {first second : List ℤ} {n i j p q k : ℕ} (f : Contour first n) (s 
   start_none m = first_is _ n n (record {
     within = omega arith;
     passes = λ l. absurd (omega arith);
-    before = λ t l. refuted _ (λ e. nowhere (word_period first n) (word_period second n) a b d m t (omega arith) (starts-words first second f.on s.on n t h e));
+    before = λ t l. refuted _ (λ e. nowhere (word_period first n) (word_period second n) a b d m t (omega arith) (starts_words first second f.on s.on n t h e));
   })
 
   -- equal least rotations
-  pub start-some : n ≤ k → {r : ℕ} → r ≡ (j + n - i) % q → r ≡ smallest_start first second n
-  start-some m r =
+  pub start_some : n ≤ k → {r : ℕ} → r ≡ (j + n - i) % q → r ≡ smallest_start first second n
+  start_some m r =
       let e : (x : ℕ) → word first n (i + x) ≡ word second n (j + x) =
       all_agree (from_period (word_period first n) i) (from_period (word_period second n) j) h (λ x l. d.agree x (omega arith)) in
       let on = found (word_period first n) (word_period second n) a b e in
       let low : (j + n - i) % q < q = mod-lt (j + n - i) b.some in
       r ∙ first_is _ n ((j + n - i) % q) (record {
         within = omega (arith, b.most);
-        passes = λ l. words-start first second f.on s.on n ((j + n - i) % q) on;
-        before = λ t l. refuted _ (λ g. earliest (word_period first n) (word_period second n) a b ((j + n - i) % q) low on t l (starts-words first second f.on s.on n t h g));
+        passes = λ l. words_start first second f.on s.on n ((j + n - i) % q) on;
+        before = λ t l. refuted _ (λ g. earliest (word_period first n) (word_period second n) a b ((j + n - i) % q) low on t l (starts_words first second f.on s.on n t h g));
       })

@@ -41,32 +41,32 @@ started-length s row = omega (
 
 module _ (row : List ℤ) (n s : ℕ) (long : length row ≡ 2 * n) (h : s ≤ n) where
   -- the number j behind the start
-  number-ahead : (j : ℕ) → 2 * s + j < 2 * n → get_or (started_at s row) j (pos 0) ≡ get_or row (2 * s + j) (pos 0)
-  number-ahead j l = get_or-append (drop (2 * s) row) (take (2 * s) row) (pos 0) j (omega (arith, length-drop (2 * s) row, long)) ∙ get_or-drop (2 * s) row j (pos 0)
+  number_ahead : (j : ℕ) → 2 * s + j < 2 * n → get_or (started_at s row) j (pos 0) ≡ get_or row (2 * s + j) (pos 0)
+  number_ahead j l = get_or-append (drop (2 * s) row) (take (2 * s) row) (pos 0) j (omega (arith, length-drop (2 * s) row, long)) ∙ get_or-drop (2 * s) row j (pos 0)
 
   -- and, past the end of the row, from its front
-  number-round : (i j : ℕ) → j + 2 * n ≡ 2 * s + i → j < 2 * s → get_or (started_at s row) i (pos 0) ≡ get_or row j (pos 0)
-  number-round i j e l =
+  number_round : (i j : ℕ) → j + 2 * n ≡ 2 * s + i → j < 2 * s → get_or (started_at s row) i (pos 0) ≡ get_or row j (pos 0)
+  number_round i j e l =
       let k : length (drop (2 * s) row) + j ≡ i = omega (arith, length-drop (2 * s) row, long, e) in
       ap (λ (x : ℕ). get_or (started_at s row) x (pos 0)) (sym k) ∙ get_or-append-add (drop (2 * s) row) (take (2 * s) row) j (pos 0) ∙ get_or-take (2 * s) row j (pos 0) l
 
-  pub started-point : (x : ℕ) → x < n → at (started_at s row) x ≡ at row ((s + x) % n)
-  started-point x l = go (dec_lt (s + x) n)
+  pub started_point : (x : ℕ) → x < n → at (started_at s row) x ≡ at row ((s + x) % n)
+  started_point x l = go (dec_lt (s + x) n)
     where
       go : Dec (s + x < n) → at (started_at s row) x ≡ at row ((s + x) % n)
       go (yes m) =
           let a : 2 * s + 2 * x ≡ 2 * (s + x) = omega arith in
           let b : 2 * s + (2 * x + 1) ≡ 2 * (s + x) + 1 = omega arith in
           ap₂ (λ (y z : ℤ). record { x = y; y = z })
-          (number-ahead (2 * x) (omega arith) ∙ ap (λ (i : ℕ). get_or row i (pos 0)) a)
-          (number-ahead (2 * x + 1) (omega arith) ∙ ap (λ (i : ℕ). get_or row i (pos 0)) b)
+          (number_ahead (2 * x) (omega arith) ∙ ap (λ (i : ℕ). get_or row i (pos 0)) a)
+          (number_ahead (2 * x + 1) (omega arith) ∙ ap (λ (i : ℕ). get_or row i (pos 0)) b)
           ∙ ap (at row) (sym (mod-eq_of_lt m))
       go (no m) =
           let k : n ≤ s + x = omega arith in
           let y : s + x - n < n = omega arith in
           ap₂ (λ (y z : ℤ). record { x = y; y = z })
-          (number-round (2 * x) (2 * (s + x - n)) (omega arith) (omega arith))
-          (number-round (2 * x + 1) (2 * (s + x - n) + 1) (omega arith) (omega arith))
+          (number_round (2 * x) (2 * (s + x - n)) (omega arith) (omega arith))
+          (number_round (2 * x + 1) (2 * (s + x - n) + 1) (omega arith) (omega arith))
           ∙ ap (at row) (sym (mod-eq-sub-mod k ∙ mod-eq_of_lt y))
 
 -- a contour that is another one from a start on, and is started there, is that other one
@@ -74,7 +74,7 @@ pub starts_is : (first second : List ℤ) (n t : ℕ) → length first ≡ 2 * n
 unfolding starts_at
 starts_is first second n t lf ls h e =
     points_tell (started_at t second) first n (started-length t second ∙ ls) lf
-    (λ i l. started-point second n t ls h i l ∙ same_is (at second ((t + i) % n)) (at first i) (true_all _ n e i l))
+    (λ i l. started_point second n t ls h i l ∙ same_is (at second ((t + i) % n)) (at first i) (true_all _ n e i l))
 
 -- what is started at s is the contour itself from n - s on
 pub started_starts : (row : List ℤ) (n s : ℕ) → length row ≡ 2 * n → s < n → starts_at row (started_at s row) n (n - s) ≡ true
@@ -82,7 +82,7 @@ unfolding starts_at
 started_starts row n s long h = all_true _ n (λ i l. ap (λ (p : Point). same p (at row i)) (there i l) ∙ same_self (at row i))
   where
     there : (i : ℕ) → i < n → at (started_at s row) ((n - s + i) % n) ≡ at row i
-    there i l = started-point row n s long (omega arith) ((n - s + i) % n) (mod-lt (n - s + i) (omega arith)) ∙ ap (at row) (go (dec_lt (n - s + i) n))
+    there i l = started_point row n s long (omega arith) ((n - s + i) % n) (mod-lt (n - s + i) (omega arith)) ∙ ap (at row) (go (dec_lt (n - s + i) n))
       where
         go : Dec (n - s + i < n) → (s + (n - s + i) % n) % n ≡ i
         go (yes m) =

@@ -55,30 +55,30 @@ compare_to u v (suc n) = ⊎_elim (λ l. inl l) (λ same. go same (ℕ_discrete 
         at x h (no m) = let f : n ≡ x = omega arith in subst (λ (y : ℕ). u y ≡ v y) f e
 
 module _ {w : ℕ → ℕ} {p : ℕ} (r : Period w p) where
-  again-times : (m x : ℕ) → w (x + m * p) ≡ w x
-  again-times zero x = ap w (let e : x + 0 * p ≡ x = omega (arith, zero-mul p) in e)
-  again-times (suc m) x =
+  again_times : (m x : ℕ) → w (x + m * p) ≡ w x
+  again_times zero x = ap w (let e : x + 0 * p ≡ x = omega (arith, zero-mul p) in e)
+  again_times (suc m) x =
       let e : x + suc m * p ≡ x + m * p + p = omega (arith, suc-mul m p) in
-      ap w e ∙ r.again (x + m * p) ∙ again-times m x
+      ap w e ∙ r.again (x + m * p) ∙ again_times m x
 
   -- a position counts modulo the period
-  pub again-mod : (i x : ℕ) → w (i % p + x) ≡ w (i + x)
-  again-mod i x =
+  pub again_mod : (i x : ℕ) → w (i % p + x) ≡ w (i + x)
+  again_mod i x =
       let e : i + x ≡ i % p + x + i / p * p = omega (arith, mod-add-div' i p) in
-      sym (ap w e ∙ again-times (i / p) (i % p + x))
+      sym (ap w e ∙ again_times (i / p) (i % p + x))
 
-  pub from-mod : (i : ℕ) → from w (i % p) ≡ from w i
-  from-mod i = fun_ext (λ x. again-mod i x)
+  pub from_mod : (i : ℕ) → from w (i % p) ≡ from w i
+  from_mod i = fun_ext (λ x. again_mod i x)
 
-  pub from-again : (i : ℕ) → from w (i + p) ≡ from w i
-  from-again i = fun_ext (λ x. let e : i + p + x ≡ i + x + p = omega arith in ap w e ∙ r.again (i + x))
+  pub from_again : (i : ℕ) → from w (i + p) ≡ from w i
+  from_again i = fun_ext (λ x. let e : i + p + x ≡ i + x + p = omega arith in ap w e ∙ r.again (i + x))
 
 -- words of one period that agree so far agree everywhere
 pub all_agree : {u v : ℕ → ℕ} {n : ℕ} → Period u n → Period v n → 0 < n → ((x : ℕ) → x < n → u x ≡ v x) → (x : ℕ) → u x ≡ v x
 all_agree {u} {v} {n} p q h same x =
     let e : x % n + 0 ≡ x % n = omega arith in
     let f : x + 0 ≡ x = omega arith in
-    sym (sym (ap u e) ∙ again-mod p x 0 ∙ ap u f) ∙ same (x % n) (mod-lt x h) ∙ (sym (ap v e) ∙ again-mod q x 0 ∙ ap v f)
+    sym (sym (ap u e) ∙ again_mod p x 0 ∙ ap u f) ∙ same (x % n) (mod-lt x h) ∙ (sym (ap v e) ∙ again_mod q x 0 ∙ ap v f)
 
 pub from_period : {w : ℕ → ℕ} {p : ℕ} → Period w p → (i : ℕ) → Period (from w i) p
 from_period {w} {p} r i = record { again = λ x. let e : i + (x + p) ≡ i + x + p = omega arith in ap w e ∙ r.again (i + x) }
@@ -109,15 +109,15 @@ older {w} {m} {i} t n = record { low = omega (arith, t.low); least = λ y k b. a
 
 -- some rotation is least
 module _ {w : ℕ → ℕ} {n : ℕ} (p : Period w n) (h : 0 < n) where
-  least-to : (m : ℕ) → (i : ℕ) × LeastTo w m i
-  least-to zero = (
+  least_to : (m : ℕ) → (i : ℕ) × LeastTo w m i
+  least_to zero = (
     0,
     record {
       low = omega arith;
       least = λ y k l. let e : y ≡ 0 = omega arith in less_irrefl (subst (λ (z : ℕ). Less (from w z) (from w 0)) e l);
     },
   )
-  least-to (suc m) = go (least-to m)
+  least_to (suc m) = go (least_to m)
     where
       go : (i : ℕ) × LeastTo w m i → (i : ℕ) × LeastTo w (suc m) i
       go (i, t) =
@@ -126,8 +126,8 @@ module _ {w : ℕ → ℕ} {n : ℕ} (p : Period w n) (h : 0 < n) where
           (λ e. (i, older t (λ k. less_irrefl (subst (λ (f : ℕ → ℕ). Less f (from w i)) e k))))
           (compare (from_period p (suc m)) (from_period p i) h)
 
-  pub some-least : (i : ℕ) × (i < n) × ((y : ℕ) → Less (from w y) (from w i) → ⊥)
-  some-least = go (least-to (n - 1))
+  pub some_least : (i : ℕ) × (i < n) × ((y : ℕ) → Less (from w y) (from w i) → ⊥)
+  some_least = go (least_to (n - 1))
     where
       go : (i : ℕ) × LeastTo w (n - 1) i → (i : ℕ) × (i < n) × ((y : ℕ) → Less (from w y) (from w i) → ⊥)
-      go (i, t) = (i, omega (arith, t.low), λ y l. t.least (y % n) (omega (arith, mod-lt y h)) (subst (λ (f : ℕ → ℕ). Less f (from w i)) (sym (from-mod p y)) l))
+      go (i, t) = (i, omega (arith, t.low), λ y l. t.least (y % n) (omega (arith, mod-lt y h)) (subst (λ (f : ℕ → ℕ). Less f (from w i)) (sym (from_mod p y)) l))

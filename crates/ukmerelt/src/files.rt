@@ -1,9 +1,9 @@
 // The set file: read into a shape set's rows, written from them, and salvaged where it is damaged.
 ghost use Rattle.std.specs.Prelude.{◌≡◌};
-ghost use Rattle.setfile.specs.Reading.{leaving, outcome as read-outcome};
-ghost use Rattle.setfile.specs.Writing.{leaving as write-leaving, outcome as write_outcome};
-ghost use Rattle.setfile.specs.Writing2.{outcome as write-2-outcome};
-ghost use Rattle.salvage.specs.Outcome.{leaving as salvage-leaving, outcome as salvage-outcome};
+ghost use Rattle.setfile.specs.Reading.{leaving, outcome as read_outcome};
+ghost use Rattle.setfile.specs.Writing.{leaving as write_leaving, outcome as write_outcome};
+ghost use Rattle.setfile.specs.Writing2.{outcome as write_2_outcome};
+ghost use Rattle.salvage.specs.Outcome.{leaving as salvage_leaving, outcome as salvage_outcome};
 
 use salvage::Salvaged;
 use setfile::{Read, Written};
@@ -16,7 +16,7 @@ pub fn ukm_read_set(
     groups: &mut [[usize; 2]],
 ) -> Read
     ensures { leaving result out.new records.new groups.new
-        ≡ read-outcome bytes.now out.old records.old groups.old }
+        ≡ read_outcome bytes.now out.old records.old groups.old }
 {
     setfile::read(bytes, out, records, groups)
 }
@@ -28,7 +28,7 @@ pub fn ukm_write_set(
     shapes: &[[usize; 2]],
     bytes: &mut [u8],
 ) -> Written
-    ensures { write-leaving result.reply result.bytes bytes.new
+    ensures { write_leaving result.reply result.bytes bytes.new
         ≡ write_outcome points.now contours.now shapes.now bytes.old }
 {
     setfile::write(points, contours, shapes, bytes)
@@ -41,16 +41,16 @@ pub fn ukm_write_set_2(
     shapes: &[[usize; 2]],
     bytes: &mut [u8],
 ) -> Written
-    ensures { write-leaving result.reply result.bytes bytes.new
-        ≡ write-2-outcome points.now contours.now shapes.now bytes.old }
+    ensures { write_leaving result.reply result.bytes bytes.new
+        ≡ write_2_outcome points.now contours.now shapes.now bytes.old }
 {
     setfile::write_2(points, contours, shapes, bytes)
 }
 
 // Writes what is sound of a damaged file into the front of the row of bytes, and lists the contours that were dropped.
 pub fn ukm_salvage(bytes: &[u8], out: &mut [u8], dropped: &mut [[usize; 2]]) -> Salvaged
-    ensures { salvage-leaving result out.new dropped.new
-        ≡ salvage-outcome bytes.now out.old dropped.old }
+    ensures { salvage_leaving result out.new dropped.new
+        ≡ salvage_outcome bytes.now out.old dropped.old }
 {
     salvage::mend(bytes, out, dropped)
 }

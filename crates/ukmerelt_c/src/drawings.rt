@@ -1,8 +1,8 @@
 // Drawings in millimetres: brought onto the grid as a contour set, and given back from one.
 ghost use Rattle.std.specs.Prelude.{◌≡◌, []};
 ghost use Rattle.buffer.specs.Answers.{leaving};
-ghost use Rattle.drawing.specs.Importing.{outcome as import-outcome};
-ghost use Rattle.drawing.specs.Exporting.{leaving as export-leaving, outcome as export-outcome};
+ghost use Rattle.drawing.specs.Importing.{outcome as import_outcome};
+ghost use Rattle.drawing.specs.Exporting.{leaving as export_leaving, outcome as export_outcome};
 
 use buffer::Packed;
 use drawing::Drawn;
@@ -16,7 +16,7 @@ pub extern "C" fn ukm_import_mm(
     records: &mut [[usize; 2]],
 ) -> Packed
     ensures { leaving result out.new records.new []
-        ≡ import-outcome kinds.now floats.now out.old records.old }
+        ≡ import_outcome kinds.now floats.now out.old records.old }
 {
     ukmerelt::drawings::ukm_import_mm(kinds, floats, out, records)
 }
@@ -29,8 +29,8 @@ pub extern "C" fn ukm_export_mm(
     kinds: &mut [u8],
     floats: &mut [f64],
 ) -> Drawn
-    ensures { export-leaving result kinds.new floats.new
-        ≡ export-outcome points.now ranges.now kinds.old floats.old }
+    ensures { export_leaving result kinds.new floats.new
+        ≡ export_outcome points.now ranges.now kinds.old floats.old }
 {
     ukmerelt::drawings::ukm_export_mm(points, ranges, kinds, floats)
 }

@@ -1,9 +1,9 @@
 // The set file: read into a shape set's rows, written from them, and salvaged where it is damaged.
 ghost use Rattle.std.specs.Prelude.{◌≡◌};
-ghost use Rattle.setfile.specs.Reading.{leaving, outcome as read-outcome};
-ghost use Rattle.setfile.specs.Writing.{leaving as write-leaving, outcome as write_outcome};
-ghost use Rattle.setfile.specs.Writing2.{outcome as write-2-outcome};
-ghost use Rattle.salvage.specs.Outcome.{leaving as salvage-leaving, outcome as salvage-outcome};
+ghost use Rattle.setfile.specs.Reading.{leaving, outcome as read_outcome};
+ghost use Rattle.setfile.specs.Writing.{leaving as write_leaving, outcome as write_outcome};
+ghost use Rattle.setfile.specs.Writing2.{outcome as write_2_outcome};
+ghost use Rattle.salvage.specs.Outcome.{leaving as salvage_leaving, outcome as salvage_outcome};
 
 use salvage::Salvaged;
 use setfile::{Read, Written};
@@ -17,7 +17,7 @@ pub extern "C" fn ukm_read_set(
     groups: &mut [[usize; 2]],
 ) -> Read
     ensures { leaving result out.new records.new groups.new
-        ≡ read-outcome bytes.now out.old records.old groups.old }
+        ≡ read_outcome bytes.now out.old records.old groups.old }
 {
     ukmerelt::files::ukm_read_set(bytes, out, records, groups)
 }
@@ -30,7 +30,7 @@ pub extern "C" fn ukm_write_set(
     shapes: &[[usize; 2]],
     bytes: &mut [u8],
 ) -> Written
-    ensures { write-leaving result.reply result.bytes bytes.new
+    ensures { write_leaving result.reply result.bytes bytes.new
         ≡ write_outcome points.now contours.now shapes.now bytes.old }
 {
     ukmerelt::files::ukm_write_set(points, contours, shapes, bytes)
@@ -44,8 +44,8 @@ pub extern "C" fn ukm_write_set_2(
     shapes: &[[usize; 2]],
     bytes: &mut [u8],
 ) -> Written
-    ensures { write-leaving result.reply result.bytes bytes.new
-        ≡ write-2-outcome points.now contours.now shapes.now bytes.old }
+    ensures { write_leaving result.reply result.bytes bytes.new
+        ≡ write_2_outcome points.now contours.now shapes.now bytes.old }
 {
     ukmerelt::files::ukm_write_set_2(points, contours, shapes, bytes)
 }
@@ -53,8 +53,8 @@ pub extern "C" fn ukm_write_set_2(
 // Writes what is sound of a damaged file into the front of the row of bytes, and lists the contours that were dropped.
 #[unsafe(no_mangle)]
 pub extern "C" fn ukm_salvage(bytes: &[u8], out: &mut [u8], dropped: &mut [[usize; 2]]) -> Salvaged
-    ensures { salvage-leaving result out.new dropped.new
-        ≡ salvage-outcome bytes.now out.old dropped.old }
+    ensures { salvage_leaving result out.new dropped.new
+        ≡ salvage_outcome bytes.now out.old dropped.old }
 {
     ukmerelt::files::ukm_salvage(bytes, out, dropped)
 }

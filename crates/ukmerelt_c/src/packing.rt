@@ -1,7 +1,7 @@
 // Sets written in front of lent rows: packed, or enlarged by one.
 ghost use Rattle.std.specs.Prelude.{◌≡◌, []};
 ghost use Rattle.buffer.specs.Answers.{leaving};
-ghost use Rattle.buffer.specs.Contours.{with_one_more as with-one-contour-more};
+ghost use Rattle.buffer.specs.Contours.{with_one_more as with_one_contour_more};
 ghost use Rattle.buffer.specs.Shapes.{with_contour, with_shape, with_shapes, with_one_more};
 
 use buffer::Packed;
@@ -63,7 +63,7 @@ pub extern "C" fn ukm_add_contour(
     records: &mut [[usize; 2]],
 ) -> Packed
     ensures { leaving result out.new records.new []
-        ≡ with-one-contour-more points.now ranges.now contour.now
+        ≡ with_one_contour_more points.now ranges.now contour.now
         out.old records.old }
 {
     ukmerelt::packing::ukm_add_contour(points, ranges, contour, out, records)

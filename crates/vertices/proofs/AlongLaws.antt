@@ -32,8 +32,8 @@ unfoldable pub along_none : {s : Bool} {f : List ℕ} {n : ℕ} {points : List �
 along_none {s} {f} r p = record { high = omega arith; rest = contained f; due = rest_all r; within = omega arith; is = p }
 
 module _ {s : Bool} {f : List ℕ} {n : ℕ} {points : List ℤ} {i at start : ℕ} (x : Along s f n points i at start) where
-  pub along-all : n ≤ i → x.rest ≡ []
-  along-all h = done x.due (omega (arith, x.high))
+  pub along_all : n ≤ i → x.rest ≡ []
+  along_all h = done x.due (omega (arith, x.high))
 
   module _ (l : i < n) where
     pub coming : Next s f n i at x.rest
@@ -43,38 +43,38 @@ module _ {s : Bool} {f : List ℕ} {n : ℕ} {points : List ℤ} {i at start : �
     abbrev pub here : List ℤ
     here = front_points s (from_bit f at)
 
-    pub along-there : Whole s f at
-    along-there = coming.all_there
+    pub along_there : Whole s f at
+    along_there = coming.all_there
 
-    pub along-on : all_on_grid limit here ≡ true
-    along-on = all_on_wider (bound s) limit here (bound_within s) coming.on
+    pub along_on : all_on_grid limit here ≡ true
+    along_on = all_on_wider (bound s) limit here (bound_within s) coming.on
 
-    pub along-met : x.rest ≡ entry (begins (from_bit f at)) here ∷ coming.rest
-    along-met = coming.is ∙ ap (λ (e : Entry). e ∷ coming.rest) (front_is s (from_bit f at))
+    pub along_met : x.rest ≡ entry (begins (from_bit f at)) here ∷ coming.rest
+    along_met = coming.is ∙ ap (λ (e : Entry). e ∷ coming.rest) (front_is s (from_bit f at))
 
     pub ahead : drop start points ≡ here ++ joined (contours_of coming.rest)
     unfolding joined
-    ahead = x.is ∙ ap (λ (m : List Entry). joined (contours_of m)) along-met
+    ahead = x.is ∙ ap (λ (m : List Entry). joined (contours_of m)) along_met
 
     module _ (h : Header) (e : h ≡ header_in s (from_bit f at)) where
-      pub along-long : length here ≡ 2 * h.count
-      along-long = omega (arith, front_length s (from_bit f at), ap (λ (h : Header). h.count) e)
+      pub along_long : length here ≡ 2 * h.count
+      along_long = omega (arith, front_length s (from_bit f at), ap (λ (h : Header). h.count) e)
 
       -- its points are in the row
-      pub along-ends : start + 2 * h.count ≤ length points
-      along-ends =
-          omega (arith, x.within, along-long, ap length ahead, length-append here (joined (contours_of coming.rest)), length-drop start points)
+      pub along_ends : start + 2 * h.count ≤ length points
+      along_ends =
+          omega (arith, x.within, along_long, ap length ahead, length-append here (joined (contours_of coming.rest)), length-drop start points)
 
-      pub along-part : take (2 * h.count) (drop start points) ≡ here
-      along-part = ap (take (2 * h.count)) ahead ∙ take_at here _ (2 * h.count) along-long
+      pub along_part : take (2 * h.count) (drop start points) ≡ here
+      along_part = ap (take (2 * h.count)) ahead ∙ take_at here _ (2 * h.count) along_long
 
-      unfoldable pub along-more : (to : ℕ) → to ≡ start + 2 * h.count → (z : ℕ) → z ≡ size_of s h → Along s f n points (i + 1) (at + z) to
-      along-more to p z g = record {
+      unfoldable pub along_more : (to : ℕ) → to ≡ start + 2 * h.count → (z : ℕ) → z ≡ size_of s h → Along s f n points (i + 1) (at + z) to
+      along_more to p z g = record {
         high = omega arith;
         rest = coming.rest;
         due = subst (λ (y : ℕ). Rest s f n (i + 1) (at + y) coming.rest) (size_is s (from_bit f at) ∙ ap (size_of s) (sym e) ∙ sym g) coming.due;
-        within = omega (arith, along-ends);
+        within = omega (arith, along_ends);
         is =
             ap (λ (k : ℕ). drop k points) p ∙ sym (drop-drop (2 * h.count) start points) ∙ ap (drop (2 * h.count)) ahead
-            ∙ drop_at here _ (2 * h.count) along-long;
+            ∙ drop_at here _ (2 * h.count) along_long;
       }

@@ -10,7 +10,7 @@ use lib.IntN.{ℤ}
 use Rattle.grid.specs.declared.Point.{Point}
 use Rattle.grid.specs.Points.{at, origin, points}
 use Rattle.grid.proofs.RowLaws.{points_count, points_at}
-use Rattle.rows.proofs.PlacedLaws.{placed-none}
+use Rattle.rows.proofs.PlacedLaws.{placed_none}
 use Rattle.buffer.specs.Sets.{joined}
 use Rattle.ring.specs.Walk.{removed}
 use Rattle.report.specs.Text.{signed, space}
@@ -47,28 +47,28 @@ module _ (row : List ℤ) (mark : List ℕ) (h : length row ≡ 2 * length mark)
   pub marked-length : length (vertices (survive mark) (points row)) ≡ length mark
   marked-length = vertices-length (survive mark) (points row) as_many ∙ length-map mark (λ (x : ℕ). ltb x removed)
 
-  pub marked-at : (i : ℕ) (d : Vertex) → i < length mark → get_or (vertices (survive mark) (points row)) i d ≡ vertex (at row i) (ltb (get_or mark i 0) removed)
-  marked-at i d l =
+  pub marked_at : (i : ℕ) (d : Vertex) → i < length mark → get_or (vertices (survive mark) (points row)) i d ≡ vertex (at row i) (ltb (get_or mark i 0) removed)
+  marked_at i d l =
       vertices_at (survive mark) (points row) i d (omega (arith, length-map mark (λ (x : ℕ). ltb x removed))) as_many
       ∙ ap₂ vertex (points_at row i (omega arith)) (survive_at mark i l)
 
 -- whether a vertex is one of those asked for
 module _ (b k : Bool) (p : Point) where
-  pub kept-shown : b ≡ true → k ≡ true → dot_if b (vertex p k) ≡ dot p
-  kept-shown e g = ap₂ (λ (b k : Bool). dot_if b (vertex p k)) e g
+  pub kept_shown : b ≡ true → k ≡ true → dot_if b (vertex p k) ≡ dot p
+  kept_shown e g = ap₂ (λ (b k : Bool). dot_if b (vertex p k)) e g
 
-  pub removed-hidden : b ≡ true → k ≡ false → dot_if b (vertex p k) ≡ []
-  removed-hidden e g = ap₂ (λ (b k : Bool). dot_if b (vertex p k)) e g
+  pub removed_hidden : b ≡ true → k ≡ false → dot_if b (vertex p k) ≡ []
+  removed_hidden e g = ap₂ (λ (b k : Bool). dot_if b (vertex p k)) e g
 
-  pub kept-hidden : b ≡ false → k ≡ true → dot_if b (vertex p k) ≡ []
-  kept-hidden e g = ap₂ (λ (b k : Bool). dot_if b (vertex p k)) e g
+  pub kept_hidden : b ≡ false → k ≡ true → dot_if b (vertex p k) ≡ []
+  kept_hidden e g = ap₂ (λ (b k : Bool). dot_if b (vertex p k)) e g
 
-  pub removed-shown : b ≡ false → k ≡ false → dot_if b (vertex p k) ≡ dot p
-  removed-shown e g = ap₂ (λ (b k : Bool). dot_if b (vertex p k)) e g
+  pub removed_shown : b ≡ false → k ≡ false → dot_if b (vertex p k) ≡ dot p
+  removed_shown e g = ap₂ (λ (b k : Bool). dot_if b (vertex p k)) e g
 
 -- nothing is put
 pub nothing_put : (at : ℕ) (text : List ℕ) → Put at [] text at text
-nothing_put at text = record { behind = omega arith; is = sym (placed-none text at) }
+nothing_put at text = record { behind = omega arith; is = sym (placed_none text at) }
 
 -- the words of a dot
 pub dot_words : (p : Point) → dot p ≡ joined ((77 ∷ []) ∷ signed p.x ∷ space ∷ signed p.y ∷ (104 ∷ 48 ∷ []) ∷ [])

@@ -64,17 +64,17 @@ module _ (rule : R.Rule) (c : List ℤ) (n : ℕ) (x : Contour c n) where
   fallen : (walked rule c).end ≡ collapsed → (mark : List ℕ) → mark ≡ replicate n removed → survive mark ≡ kept_of rule c
   fallen w mark e = ap survive e ∙ none_survive n ∙ sym (by_end collapsed w)
 
-  pub settled-few : n < 3 → (mark : List ℕ) → mark ≡ replicate n removed → survive mark ≡ kept_of rule c
-  settled-few h = fallen (ap (λ (w : Walked). w.end) (walk_few (goes rule c) (count c) (omega (arith, contour_count x))))
+  pub settled_few : n < 3 → (mark : List ℕ) → mark ≡ replicate n removed → survive mark ≡ kept_of rule c
+  settled_few h = fallen (ap (λ (w : Walked). w.end) (walk_few (goes rule c) (count c) (omega (arith, contour_count x))))
 
   module _ (w : Ending) (mark prev : List ℕ) (e : Ended (goes rule c) n mark prev w) where
     ended_is : walked rule c ≡ ended_as w mark
     ended_is = ap (walk (goes rule c)) (contour_count x) ∙ e.is
 
-    pub settled-fallen : w.kept ≡ false → (exit : List ℕ) → exit ≡ replicate n removed → survive exit ≡ kept_of rule c
-    settled-fallen t = let k : (walked rule c).end ≡ collapsed = rw (ended_is, t) in fallen k
+    pub settled_fallen : w.kept ≡ false → (exit : List ℕ) → exit ≡ replicate n removed → survive exit ≡ kept_of rule c
+    settled_fallen t = let k : (walked rule c).end ≡ collapsed = rw (ended_is, t) in fallen k
 
-    pub settled-kept : w.kept ≡ true → length mark ≡ n → survive mark ≡ kept_of rule c
-    settled-kept t l =
+    pub settled_kept : w.kept ≡ true → length mark ≡ n → survive mark ≡ kept_of rule c
+    settled_kept t l =
         let k : (walked rule c).end ≡ kept (survivors mark) = rw (ended_is, t) in
         sym (told_survive mark 0) ∙ ap (λ (j : ℕ). told j 0 (survivors mark)) l ∙ sym (by_end (kept (survivors mark)) k)

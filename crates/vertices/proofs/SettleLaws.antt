@@ -19,7 +19,7 @@ use Rattle.report.specs.Listing.{rule_of, job}
 use Rattle.report.specs.inside.Lines.{Contours, Listable}
 use Rattle.vertices.specs.Vertices.{kept_of, all_kept}
 use Rattle.vertices.specs.inside.Marks.{survive}
-use Rattle.vertices.proofs.AlongLaws.{Along, along_none, along-all, coming, here, along-met, along-long, along-more}
+use Rattle.vertices.proofs.AlongLaws.{Along, along_none, along_all, coming, here, along_met, along_long, along_more}
 
 -- the marks before position i are those of removed points
 pub record Removing (row₀ row : List ℕ) (i : ℕ) : Type 0 where
@@ -31,8 +31,8 @@ pub removing_none : (row : List ℕ) → Removing row row 0
 removing_none row = record { is = fill_none row removed; long = refl; high = omega arith }
 
 module _ {row₀ row : List ℕ} {i : ℕ} (x : Removing row₀ row i) where
-  pub removing-more : i < length row → Removing row₀ (set row i removed) (i + 1)
-  removing-more h =
+  pub removing_more : i < length row → Removing row₀ (set row i removed) (i + 1)
+  removing_more h =
       let below : i < length row₀ = omega (arith, x.long) in
       record {
         is = ap (λ (l : List ℕ). set l i removed) x.is ∙ fill_more i removed row₀ below;
@@ -40,8 +40,8 @@ module _ {row₀ row : List ℕ} {i : ℕ} (x : Removing row₀ row i) where
         high = omega arith;
       }
 
-  pub removing-all : length row ≤ i → row ≡ replicate (length row₀) removed
-  removing-all h =
+  pub removing_all : length row ≤ i → row ≡ replicate (length row₀) removed
+  removing_all h =
       let e : i ≡ length row₀ = omega (arith, x.long, x.high) in
       x.is ∙ rw (e, drop-length row₀) (append-nil (replicate (length row₀) removed))
 
@@ -60,34 +60,34 @@ settling_none mark l p = record { along = along_none l.readable p; sound = l.sou
 module _ {s : Bool} {f : List ℕ} {n : ℕ} {points : List ℤ} {mark₀ mark : List ℕ} {i at start : ℕ} (x : Settling s f n points mark₀ mark i at start) where
   module _ (l : i < n) where
     both : Contour (here x.along l) (count (here x.along l)) × Contours (contours_of (coming x.along l).rest)
-    both = subst (λ (m : List Entry). Contours (contours_of m)) (along-met x.along l) x.sound
+    both = subst (λ (m : List Entry). Contours (contours_of m)) (along_met x.along l) x.sound
 
     module _ (h : Header) (e : h ≡ header_in s (from_bit f at)) where
-      pub settling-contour : Contour (here x.along l) h.count
-      settling-contour =
-          let k : count (here x.along l) ≡ h.count = omega (arith, along-long x.along l h e) in
+      pub settling_contour : Contour (here x.along l) h.count
+      settling_contour =
+          let k : count (here x.along l) ≡ h.count = omega (arith, along_long x.along l h e) in
           subst (Contour (here x.along l)) k both.0
 
-      pub settling-more : (part new : List ℕ) → survive part ≡ kept_of (rule_of s) (here x.along l) → take (start + h.count) new ≡ take start mark ++ part
+      pub settling_more : (part new : List ℕ) → survive part ≡ kept_of (rule_of s) (here x.along l) → take (start + h.count) new ≡ take start mark ++ part
           → length new ≡ length mark → (z : ℕ) → z ≡ size_of s h → Settling s f n points mark₀ new (i + 1) (at + z) (start + h.count)
-      unfolding joined along-more
-      settling-more part new k t g z q =
+      unfolding joined along_more
+      settling_more part new k t g z q =
           let before : List Bool = survive (take start mark) in
           let behind : List Bool = all_kept (rule_of s) (contours_of (coming x.along l).rest) in
           record {
-            along = along-more x.along l h e (2 * (start + h.count)) (omega arith) z q;
+            along = along_more x.along l h e (2 * (start + h.count)) (omega arith) z q;
             sound = both.1;
             long = g ∙ x.long;
             kept =
                 ap (λ (m : List Bool). m ++ behind) (ap survive t ∙ map-append (λ (j : ℕ). ltb j removed) (take start mark) part)
                 ∙ append_assoc before (survive part) behind ∙ ap (λ (m : List Bool). before ++ (m ++ behind)) k
-                ∙ sym (ap (λ (m : List Entry). before ++ all_kept (rule_of s) (contours_of m)) (along-met x.along l)) ∙ x.kept;
+                ∙ sym (ap (λ (m : List Entry). before ++ all_kept (rule_of s) (contours_of m)) (along_met x.along l)) ∙ x.kept;
           }
 
-  pub settling-all : n ≤ i → length points ≡ 2 * length mark → survive mark ≡ all_kept (rule_of s) (job f)
+  pub settling_all : n ≤ i → length points ≡ 2 * length mark → survive mark ≡ all_kept (rule_of s) (job f)
   unfolding joined
-  settling-all h p =
-      let e : x.along.rest ≡ [] = along-all x.along h in
+  settling_all h p =
+      let e : x.along.rest ≡ [] = along_all x.along h in
       let d = sym (length-drop (2 * start) points) ∙ ap length (x.along.is ∙ ap (λ (m : List Entry). joined (contours_of m)) e) in
       sym (ap survive (take_all start mark (omega (arith, d)))) ∙ sym (append-nil (survive (take start mark)))
       ∙ ap (λ (m : List Entry). survive (take start mark) ++ all_kept (rule_of s) (contours_of m)) (sym e) ∙ x.kept

@@ -40,8 +40,8 @@ module _ (h l : ℕ) where
       let r : number ≡ rest % 100000000 = omega arith in
       ap (λ (b : Bool). digits_by b number) (lt-ltb number (10 ^ 8) s) ∙ ap decimal r
 
-  pub wide-long : (front ≡ 0 → ⊥) → long_decimal number ≡ decimal front ++ last_digits 10 8 (rest % 100000000)
-  wide-long n =
+  pub wide_long : (front ≡ 0 → ⊥) → long_decimal number ≡ decimal front ++ last_digits 10 8 (rest % 100000000)
+  wide_long n =
       let s : 10 ^ 8 ≤ number = omega arith in
       ap (λ (b : Bool). digits_by b number) (le-ltb number (10 ^ 8) s)
       ∙ ap₂ (λ (a b : List ℕ). a ++ b) (ap decimal (sym front_is)) (sym (digits_low 8 number) ∙ ap (last_digits 10 8) (sym last_is))
@@ -63,13 +63,13 @@ module _ (l : ℕ) (small : l < 2 ^ 32) where
       let r : l ≡ 2 ^ 32 - suc ((m * 2 ^ 32 + (2 ^ 32 - 1 - l)) % 2 ^ 32) = omega arith in
       ap₂ (λ (a b : ℕ). whole (negsuc a) b) q r ∙ whole_is (negsuc n)
 
-  pub area-above : (z : ℤ) → lt_z z (pos 0) ≡ false → long_signed (whole z l) ≡ long_decimal (nat_abs z * 2 ^ 32 + l)
-  area-above (pos h) t = ap long_signed (whole_above h)
-  area-above (negsuc m) t = absurd (subst T t tt)
+  pub area_above : (z : ℤ) → lt_z z (pos 0) ≡ false → long_signed (whole z l) ≡ long_decimal (nat_abs z * 2 ^ 32 + l)
+  area_above (pos h) t = ap long_signed (whole_above h)
+  area_above (negsuc m) t = absurd (subst T t tt)
 
-  pub area-below : (z : ℤ) → lt_z z (pos 0) ≡ true → long_signed (whole z l) ≡ dash ++ long_decimal (nat_abs z * 2 ^ 32 - l)
-  area-below (pos h) t = let g : h < 0 = ltb-true h 0 t in absurd (omega arith)
-  area-below (negsuc m) t =
+  pub area_below : (z : ℤ) → lt_z z (pos 0) ≡ true → long_signed (whole z l) ≡ dash ++ long_decimal (nat_abs z * 2 ^ 32 - l)
+  area_below (pos h) t = let g : h < 0 = ltb-true h 0 t in absurd (omega arith)
+  area_below (negsuc m) t =
       let e : suc (m * 2 ^ 32 + (2 ^ 32 - 1 - l)) ≡ suc m * 2 ^ 32 - l = omega arith in
       ap long_signed (whole_below m) ∙ ap (λ (n : ℕ). dash ++ long_decimal n) e
 

@@ -30,7 +30,7 @@ use Rattle.setfile.specs.Editions.{number, layout, is_second, head_damage, parse
 use Rattle.setfile.specs.inside.Reading.{from_bit}
 use Rattle.report.specs.Listing.{rule_of, most_listed, job, listing_refusals}
 use Rattle.report.proofs.ReportLaws.{accepted}
-use Rattle.changes.proofs.ReadLaws.{HasRead, contours-back, set-sound, accepted_file, edition_is, points_are, ranges_are}
+use Rattle.changes.proofs.ReadLaws.{HasRead, contours_back, set_sound, accepted_file, edition_is, points_are, ranges_are}
 use Rattle.figures.specs.declared.answer.Figures.{Figures}
 use Rattle.figures.specs.declared.answer.Added.{Added}
 use Rattle.figures.specs.Entries.{Found, entries, refused-set}
@@ -66,24 +66,24 @@ contours_small s (suc k) first n l =
     go (suc r) h g = h
 
 module _ (file : List ℕ) where
-  damage-small : damage (parsed file) ≤ 21
+  damage_small : damage (parsed file) ≤ 21
   unfolding parsed
-  damage-small = go (head_damage file) (first_within 21 _ refl)
+  damage_small = go (head_damage file) (first_within 21 _ refl)
     where
       go : (r : ℕ) → r ≤ 21 → damage (elim r [ suc r ↦ damaged (suc r) | zero ↦ read_in (layout (is_second file)) file ]) ≤ 21
       go zero h = contours_small (is_second file) (promised file) true 0 (from_bit file 16)
       go (suc r) h = h
 
   -- and so no refusal of a file
-  pub refusal-small : first_of (listing_refusals file) ≤ 21
-  refusal-small = first_within 21 (listing_refusals file) (rw (le-leb (damage (parsed file)) 21 damage-small))
+  pub refusal_small : first_of (listing_refusals file) ≤ 21
+  refusal_small = first_within 21 (listing_refusals file) (rw (le-leb (damage (parsed file)) 21 damage_small))
 
   -- a refused file counts once, under its number
-  pub refused-counted : (f : Figures) (r : ℕ) → r ≡ first_of (listing_refusals file) → (r ≡ 0 → ⊥)
+  pub refused_counted : (f : Figures) (r : ℕ) → r ≡ first_of (listing_refusals file) → (r ≡ 0 → ⊥)
       → answered (first_of (over (fits f 1))) f (sum f (figures_of (refused-set r ∷ []))) ≡ with_found f (found_file file)
   unfolding with_found
-  refused-counted f zero e n = absurd (n refl)
-  refused-counted f (suc k) e n = rw (← e)
+  refused_counted f zero e n = absurd (n refl)
+  refused_counted f (suc k) e n = rw (← e)
 
 -- a sound set of so few points, in rows that have room for it
 module _ (p : List ℤ) (ranges : List (List ℕ)) (l : Lent) where
@@ -132,12 +132,12 @@ second_is false e h = ap (λ (k : ℕ). eqb k 2) h
 
 -- a file that is read and not refused
 module _ {file : List ℕ} {out : List ℤ} {cs ss : List (List ℕ)} {r : Read} {out' : List ℤ} {cs' ss' : List (List ℕ)} (done : HasRead file out cs ss r out' cs' ss') (z : r.reply ≡ 0) where
-  pub read-sound : Sound (take (2 * r.points) out') (take r.contours cs') × (count (take (2 * r.points) out') ≤ most_listed)
-  read-sound =
+  pub read_sound : Sound (take (2 * r.points) out') (take r.contours cs') × (count (take (2 * r.points) out') ≤ most_listed)
+  read_sound =
       let few = (accepted file (accepted_file done z)).few in
-      rw (points_are done z, ranges_are done z) (set-sound file (accepted_file done z), omega (arith, few))
+      rw (points_are done z, ranges_are done z) (set_sound file (accepted_file done z), omega (arith, few))
 
-  pub read-counted : (f : Figures) → with_found f (taken (rule_of (eqb r.edition 2)) (contours (take (2 * r.points) out') (spans (take r.contours cs')))) ≡ with_found f (found_file file)
-  read-counted f =
-      rw (second_is (is_second file) r.edition (edition_is done z), points_are done z, ranges_are done z, spans_of_file file, contours-back file)
+  pub read_counted : (f : Figures) → with_found f (taken (rule_of (eqb r.edition 2)) (contours (take (2 * r.points) out') (spans (take r.contours cs')))) ≡ with_found f (found_file file)
+  read_counted f =
+      rw (second_is (is_second file) r.edition (edition_is done z), points_are done z, ranges_are done z, spans_of_file file, contours_back file)
       (ap (λ (k : ℕ). with_found f (record { rule = rule_of (is_second file); refusal = k; contours = job file })) (sym (accepted_file done z)))

@@ -28,8 +28,8 @@ module _ (s : Bool) (l : List Bool) where
     all_there g = rw (le-leb (header_size s) (length l) h, le-leb ((layout s).size l) (length l) g)
 
   -- one that is there ends within them
-  pub next-within : bits_of_next s l ≤ length l
-  next-within = go (leb (header_size s) (length l)) (leb ((layout s).size l) (length l)) refl
+  pub next_within : bits_of_next s l ≤ length l
+  next_within = go (leb (header_size s) (length l)) (leb ((layout s).size l) (length l)) refl
     where
       go : (a b : Bool) → leb ((layout s).size l) (length l) ≡ b → or_none (a && b) ((layout s).size l) ≤ length l
       go true true e = leb-true ((layout s).size l) (length l) e
@@ -48,7 +48,7 @@ first_whole l = go (is_there false l)
 pub behind_next : (s : Bool) (f : List ℕ) (at : ℕ) → At s f at → (r : ℕ) → r ≡ bits_of_next s (from_bit f at) → At s f (at + r)
 behind_next s f at a r e = record {
   short = a.short;
-  within = omega (arith, e, next-within s (from_bit f at), from-length f at a.within);
+  within = omega (arith, e, next_within s (from_bit f at), from-length f at a.within);
   whole = go s a.whole e;
 }
   where
@@ -61,9 +61,9 @@ module _ (s : Bool) (f : List ℕ) (n i at : ℕ) (h : i < n) (r : ℕ) (e : r �
   one_less : n - i ≡ suc (n - (i + 1))
   one_less = omega arith
 
-  pub none-behind : r ≡ 0 → 0 ≡ bit_behind s (n - i) at (from_bit f at)
+  pub none_behind : r ≡ 0 → 0 ≡ bit_behind s (n - i) at (from_bit f at)
   unfolding bit_behind
-  none-behind z = rw (one_less, ← e, z)
+  none_behind z = rw (one_less, ← e, z)
 
   unless : (r m : ℕ) → (r ≡ 0 → ⊥) → unless_none r m ≡ m
   unless zero m z = absurd (z refl)
@@ -73,8 +73,8 @@ module _ (s : Bool) (f : List ℕ) (n i at : ℕ) (h : i < n) (r : ℕ) (e : r �
   unfolding bit_behind
   stepped z = rw (one_less, ← e) (unless r _ z)
 
-  pub more-behind : (r ≡ 0 → ⊥) → bit_behind s (n - i) at (from_bit f at) ≡ bit_behind s (n - (i + 1)) (at + r) (from_bit f (at + r))
-  more-behind z = stepped z ∙ ap (bit_behind s (n - (i + 1)) (at + r)) (drop-drop r at (bits f))
+  pub more_behind : (r ≡ 0 → ⊥) → bit_behind s (n - i) at (from_bit f at) ≡ bit_behind s (n - (i + 1)) (at + r) (from_bit f (at + r))
+  more_behind z = stepped z ∙ ap (bit_behind s (n - (i + 1)) (at + r)) (drop-drop r at (bits f))
 
 pub nothing_more : (s : Bool) (k at : ℕ) (l : List Bool) → k ≡ 0 → at ≡ bit_behind s k at l
 unfolding bit_behind
@@ -83,7 +83,7 @@ nothing_more s k at l e = rw e
 -- it ends within the bits
 within_step : (s : Bool) (at : ℕ) (l : List Bool) (r m : ℕ) → r ≡ bits_of_next s l → m ≤ at + r + length (drop r l) → unless_none r m ≤ at + length l
 within_step s at l zero m e h = omega arith
-within_step s at l (suc r) m e h = omega (arith, length-drop (suc r) l, e, next-within s l)
+within_step s at l (suc r) m e h = omega (arith, length-drop (suc r) l, e, next_within s l)
 
 pub ends_within : (s : Bool) (k at : ℕ) (l : List Bool) → bit_behind s k at l ≤ at + length l
 unfolding bit_behind

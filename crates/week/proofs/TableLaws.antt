@@ -34,9 +34,9 @@ module _ (t : List ℕ) where
   unfolding joined
   contours-length = simp length-append (omega (arith, decimal_short (get_or t 0 0), decimal_short (get_or t 7 0)))
 
-  unread-length : length (joined (unread_lines t)) ≤ 245
+  unread_length : length (joined (unread_lines t)) ≤ 245
   unfolding joined
-  unread-length = simp length-append (omega (arith, decimal_short (get_or t 2 0), decimal_short (get_or t 9 0), decimal_short (get_or t 10 0), decimal_short (get_or t 11 0)))
+  unread_length = simp length-append (omega (arith, decimal_short (get_or t 2 0), decimal_short (get_or t 9 0), decimal_short (get_or t 10 0), decimal_short (get_or t 11 0)))
 
   refused-length : length (joined (refused_lines t)) ≤ 240
   unfolding joined
@@ -58,7 +58,7 @@ table-length f =
       arith,
       four-length (joined (contour_lines t)) (joined (unread_lines t)) (joined (refused_lines t)) (joined (sum_lines f)),
       contours-length t,
-      unread-length t,
+      unread_length t,
       refused-length t,
       sums-length f,
     )

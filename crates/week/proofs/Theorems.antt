@@ -9,7 +9,7 @@ use lib.ListN.{length, take, drop, length-append}
 use lib.Seq.{drop_at, drop-drop}
 use borrow.Author.Tests.{ltb-false, le-ltb}
 use Rattle.bits.specs.Bits.{value, field, bits, fill}
-use Rattle.bits.proofs.BitLaws.{field-length, front-value, front-gone, bits-append, bits_padded, bytes-length}
+use Rattle.bits.proofs.BitLaws.{field-length, front_value, front_gone, bits-append, bits_padded, bytes-length}
 use Rattle.replies.specs.Ladder.{Rung, first_of}
 use Rattle.replies.proofs.LadderLaws.{first_is}
 use Rattle.replies.proofs.LadderLaws.First.{past, foot}
@@ -95,27 +95,27 @@ module _ (s : Bool) (l : List Entry) (c : Carried s l) (more : List ℕ) where
       ∙ ap (λ (b : List Bool). field 4 (number s) ++ b) (append_assoc (field 12 (length l)) own (last ++ bits more))
 
   edition : edition_of (file s l ++ more) ≡ number s
-  edition = ap (λ (b : List Bool). value (take 4 b)) laid_out ∙ front-value 4 (number s) behind (number_small s)
+  edition = ap (λ (b : List Bool). value (take 4 b)) laid_out ∙ front_value 4 (number s) behind (number_small s)
 
   behind_edition : drop 4 (bits (file s l ++ more)) ≡ behind
-  behind_edition = ap (drop 4) laid_out ∙ front-gone 4 (number s) behind
+  behind_edition = ap (drop 4) laid_out ∙ front_gone 4 (number s) behind
 
   promise : promised (file s l ++ more) ≡ length l
-  promise = ap (λ (b : List Bool). value (take 12 b)) behind_edition ∙ front-value 12 (length l) (all_coded (layout s) l ++ rest) (omega (arith, c.few))
+  promise = ap (λ (b : List Bool). value (take 12 b)) behind_edition ∙ front_value 12 (length l) (all_coded (layout s) l ++ rest) (omega (arith, c.few))
 
   behind_head : drop 16 (bits (file s l ++ more)) ≡ all_coded (layout s) l ++ rest
-  behind_head = sym (drop-drop 12 4 (bits (file s l ++ more))) ∙ ap (drop 12) behind_edition ∙ front-gone 12 (length l) (all_coded (layout s) l ++ rest)
+  behind_head = sym (drop-drop 12 4 (bits (file s l ++ more))) ∙ ap (drop 12) behind_edition ∙ front_gone 12 (length l) (all_coded (layout s) l ++ rest)
 
-  own-bytes : whole_bytes (16 + length (all_coded (layout s) l)) ≡ length (file s l)
-  own-bytes =
+  own_bytes : whole_bytes (16 + length (all_coded (layout s) l)) ≡ length (file s l)
+  own_bytes =
       let own : List Bool = all_coded (layout s) l in
       let n : 16 + length own ≡ length (file_bits (number s) (layout s) l) =
       omega (arith, length-append (field 4 (number s)) (field 12 (length l) ++ own), field-length 4 (number s), length-append (field 12 (length l)) own, field-length 12 (length l)) in
       ap whole_bytes n ∙ sym (bytes-length _ _)
 
   -- a file that a writer wrote is taken off whole, whatever stands behind it
-  pub a-file-that-was-written-is-taken-off-whole : length (file s l ++ more) ≤ most_bytes → own-length (file s l ++ more) ≡ length (file s l)
-  a-file-that-was-written-is-taken-off-whole short =
+  pub a_file_that_was_written_is_taken_off_whole : length (file s l ++ more) ≤ most_bytes → own-length (file s l ++ more) ≡ length (file s l)
+  a_file_that_was_written_is_taken_off_whole short =
       let head = the_file_has_a_head (layout s) (Holds s) (faithful s) (number s) l (number_small s) c.few in
       let clear : 0 ≡ first_of (head_refusals (file s l ++ more)) =
       first_is _ 0
@@ -127,4 +127,4 @@ module _ (s : Bool) (l : List Entry) (c : Carried s l) (more : List ℕ) where
       (ap₂ (λ (b : Bool) (k : ℕ). bit_behind b k 16 (drop 16 (bits (file s l ++ more)))) (ap (λ (v : ℕ). eqb v 2) edition ∙ second_told s) promise
       ∙ ap (bit_behind s (length l) 16) behind_head
       ∙ contours_passed s l true 0 16 rest c.all)
-      ∙ own-bytes
+      ∙ own_bytes

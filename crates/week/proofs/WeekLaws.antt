@@ -23,7 +23,7 @@ use Rattle.figures.proofs.LimitLaws.{set_counts, entries_count}
 use Rattle.figures.proofs.Theorems.{the_totals_add_up_to_the_contours_and_refused_sets, real_figures_are_never_told_damaged}
 use Rattle.week.specs.declared.answer.Week.{Week}
 use Rattle.week.specs.Counting.{found_file, with_found, counted_by, with_file}
-use Rattle.week.proofs.CountingLaws.{refusal-small}
+use Rattle.week.proofs.CountingLaws.{refusal_small}
 
 -- figures of real sets, as many as are counted
 pub record Counted (f : Figures) : Type 0 where
@@ -49,25 +49,25 @@ file_real file = go (first_of (listing_refusals file)) refl
   where
     go : (r : ℕ) → first_of (listing_refusals file) ≡ r → RealBy r (job file)
     go zero e = in_domain (job file) (accepted file e).sound
-    go (suc k) e = omega (arith, e, refusal-small file)
+    go (suc k) e = omega (arith, e, refusal_small file)
 
 -- one set more, or all as it was
 module _ (f : Figures) (s : Found) where
-  full-figures : fits f (length (entries s)) ≡ false → (with_found f s).figures ≡ f
+  full_figures : fits f (length (entries s)) ≡ false → (with_found f s).figures ≡ f
   unfolding with_found
-  full-figures h = rw (over_is _ h)
+  full_figures h = rw (over_is _ h)
 
-  more-figures : fits f (length (entries s)) ≡ true → (with_found f s).figures ≡ sum f (figures_of (entries s))
+  more_figures : fits f (length (entries s)) ≡ true → (with_found f s).figures ≡ sum f (figures_of (entries s))
   unfolding with_found
-  more-figures h = rw (over_not _ h)
+  more_figures h = rw (over_not _ h)
 
 module _ (a : List Found) (s : Found) where
-  one-more-set : sum (batch_figures a) (figures_of (entries s)) ≡ batch_figures (a ++ s ∷ [])
+  one_more_set : sum (batch_figures a) (figures_of (entries s)) ≡ batch_figures (a ++ s ∷ [])
   unfolding all_entries
-  one-more-set = ap (λ (l : List Entry). sum (batch_figures a) (figures_of l)) (sym (append-nil (entries s))) ∙ batches_add_up a (s ∷ [])
+  one_more_set = ap (λ (l : List Entry). sum (batch_figures a) (figures_of l)) (sym (append-nil (entries s))) ∙ batches_add_up a (s ∷ [])
 
-  one-more-counts : contours_and_refused_sets (a ++ s ∷ []) ≡ contours_and_refused_sets a + length (entries s)
-  one-more-counts =
+  one_more_counts : contours_and_refused_sets (a ++ s ∷ []) ≡ contours_and_refused_sets a + length (entries s)
+  one_more_counts =
       omega (
         arith,
         entries_count (a ++ s ∷ []),
@@ -86,57 +86,57 @@ counted_more : (f : Figures) (s : Found) → Counted f → RealBy s.refusal s.co
 counted_more f s c h = go (fits f (length (entries s))) refl
   where
     go : (b : Bool) → fits f (length (entries s)) ≡ b → Counted (with_found f s).figures
-    go false e = record { sets = c.sets; real = c.real; few = c.few; are = full-figures f s e ∙ c.are }
+    go false e = record { sets = c.sets; real = c.real; few = c.few; are = full_figures f s e ∙ c.are }
     go true e = record {
       sets = c.sets ++ s ∷ [];
       real = real_more c.sets s c.real h;
       few =
           omega (
             arith,
-            one-more-counts c.sets s,
+            one_more_counts c.sets s,
             the_totals_add_up_to_the_contours_and_refused_sets c.sets c.real,
             ap in_all c.are,
             (fits_means f (length (entries s)) e).0,
           );
-      are = more-figures f s e ∙ ap (λ (g : Figures). sum g (figures_of (entries s))) c.are ∙ one-more-set c.sets s;
+      are = more_figures f s e ∙ ap (λ (g : Figures). sum g (figures_of (entries s))) c.are ∙ one_more_set c.sets s;
     }
 
 -- a week with one file more
 module _ (files : ℕ) (untold : Bool) (f : Figures) where
-  by-figures : (r : ℕ) → (counted_by r files untold f).figures ≡ f
-  by-figures zero = refl
-  by-figures (suc k) = refl
+  by_figures : (r : ℕ) → (counted_by r files untold f).figures ≡ f
+  by_figures zero = refl
+  by_figures (suc k) = refl
 
-  by-files : (r : ℕ) → (counted_by r files untold f).full ≡ false → (counted_by r files untold f).files ≡ files + 1
-  by-files zero e = refl
-  by-files (suc k) e = absurd (true≢false e)
+  by_files : (r : ℕ) → (counted_by r files untold f).full ≡ false → (counted_by r files untold f).files ≡ files + 1
+  by_files zero e = refl
+  by_files (suc k) e = absurd (true≢false e)
 
-  by-none : (r : ℕ) → r ≡ 0 → counted_by 0 files untold f ≡ counted_by r files untold f
-  by-none r e = ap (λ (k : ℕ). counted_by k files untold f) (sym e)
+  by_none : (r : ℕ) → r ≡ 0 → counted_by 0 files untold f ≡ counted_by r files untold f
+  by_none r e = ap (λ (k : ℕ). counted_by k files untold f) (sym e)
 
-  by-some : (r : ℕ) → (r ≡ 0 → ⊥) → counted_by 1 files untold f ≡ counted_by r files untold f
-  by-some zero n = absurd (n refl)
-  by-some (suc k) n = refl
+  by_some : (r : ℕ) → (r ≡ 0 → ⊥) → counted_by 1 files untold f ≡ counted_by r files untold f
+  by_some zero n = absurd (n refl)
+  by_some (suc k) n = refl
 
 -- by what adding the file answers
 module _ (w : Week) (untold : Bool) (a came : Added) (is : a ≡ came) where
-  pub file-counted : a.reply ≡ 0 → counted_by 0 w.files untold a.figures ≡ with_file w untold came
-  file-counted e = by-none w.files untold a.figures a.reply e ∙ ap (with_file w untold) is
+  pub file_counted : a.reply ≡ 0 → counted_by 0 w.files untold a.figures ≡ with_file w untold came
+  file_counted e = by_none w.files untold a.figures a.reply e ∙ ap (with_file w untold) is
 
-  pub file-too-many : (a.reply ≡ 0 → ⊥) → counted_by 1 w.files untold a.figures ≡ with_file w untold came
-  file-too-many n = by-some w.files untold a.figures a.reply n ∙ ap (with_file w untold) is
+  pub file_too_many : (a.reply ≡ 0 → ⊥) → counted_by 1 w.files untold a.figures ≡ with_file w untold came
+  file_too_many n = by_some w.files untold a.figures a.reply n ∙ ap (with_file w untold) is
 
 module _ (w : Week) (untold : Bool) (file : List ℕ) (next : Week) (is : next ≡ with_file w untold (with_found w.figures (found_file file))) where
-  abbrev came-to : Added
-  came-to = with_found w.figures (found_file file)
+  abbrev came_to : Added
+  came_to = with_found w.figures (found_file file)
 
-  pub week-counted : Counted w.figures → Counted next.figures
-  week-counted c =
+  pub week_counted : Counted w.figures → Counted next.figures
+  week_counted c =
       let more = counted_more w.figures (found_file file) c (file_real file) in
-      let e : next.figures ≡ came-to.figures = ap (λ (x : Week). x.figures) is ∙ by-figures w.files untold came-to.figures came-to.reply in
+      let e : next.figures ≡ came_to.figures = ap (λ (x : Week). x.figures) is ∙ by_figures w.files untold came_to.figures came_to.reply in
       record { sets = more.sets; real = more.real; few = more.few; are = e ∙ more.are }
 
-  pub week-goes-on : next.full ≡ false → next.files ≡ w.files + 1
-  week-goes-on e =
+  pub week_goes_on : next.full ≡ false → next.files ≡ w.files + 1
+  week_goes_on e =
       ap (λ (x : Week). x.files) is
-      ∙ by-files w.files untold came-to.figures came-to.reply (sym (ap (λ (x : Week). x.full) is) ∙ e)
+      ∙ by_files w.files untold came_to.figures came_to.reply (sym (ap (λ (x : Week). x.full) is) ∙ e)

@@ -1,7 +1,7 @@
 // The lines of an account.
 ghost use Rattle.std.specs.Prelude.{◌+◌, ◌≤◌, length};
 ghost use Rattle.report.specs.inside.Lines.{Put};
-ghost use Rattle.account.specs.Words.{why, line as Line-of, lines as lines_of, counts as Counts-of};
+ghost use Rattle.account.specs.Words.{why, line as line_of, lines as lines_of, counts as counts_of};
 ghost use Rattle.account.specs.inside.Lines.{Numbers};
 
 use report::inner::text;
@@ -19,8 +19,8 @@ fn put_reason(text: &mut [u8], at: usize, reason: usize) -> usize
 
 // Puts the line of contour number `k`, which is dropped.
 fn put_line(text: &mut [u8], at: usize, k: usize, reason: usize) -> usize
-    requires { at + length (Line-of k reason) ≤ length text.old }
-    ensures { Put at (Line-of k reason) text.old result text.new }
+    requires { at + length (line_of k reason) ≤ length text.old }
+    ensures { Put at (line_of k reason) text.old result text.new }
 {
     let second = text::put(text, at, b"contour ");
     let third = text::put_number(text, second, k as u64);
@@ -48,8 +48,8 @@ pub fn put(list: &[[usize; 2]], text: &mut [u8]) -> usize
 
 // Puts how many contours never came, and how many bytes stand past the promised count.
 pub fn put_counts(text: &mut [u8], at: usize, missing: usize, past: usize) -> usize
-    requires { at + length (Counts-of missing past) ≤ length text.old }
-    ensures { Put at (Counts-of missing past) text.old result text.new }
+    requires { at + length (counts_of missing past) ≤ length text.old }
+    ensures { Put at (counts_of missing past) text.old result text.new }
 {
     let behind = text::put_line(text, at, b"never came: ", missing as u64);
     text::put_line(text, behind, b"bytes past the count: ", past as u64)

@@ -1,7 +1,7 @@
 // Two's complement of a width.
 ghost use Rattle.std.specs.Prelude.{◌≡◌, ◌^◌, ◌<◌, ◌≤◌};
 ghost use Rattle.std.specs.Int.Signed.{mag};
-ghost use Rattle.bits.specs.Signs.{signed as Signed-of};
+ghost use Rattle.bits.specs.Signs.{signed as signed_of};
 
 // How far a number reaches: z, or -1 - z where it is below zero.
 pub fn reach(z: i64) -> u64
@@ -13,7 +13,7 @@ pub fn reach(z: i64) -> u64
 // The signed number that `width` bits are.
 pub fn signed(n: u64, width: usize) -> i64
     requires { (0 < width) × (width ≤ 32) × (n < 2 ^ width) }
-    ensures { result ≡ Signed-of width n }
+    ensures { result ≡ signed_of width n }
 {
     let half: u64 = 1 << (width - 1);
     if n < half {

@@ -1,7 +1,7 @@
 // The last line: how many lines of a listing have each kind.
 ghost use Rattle.std.specs.Prelude.{◌≡◌, ◌+◌, ◌≤◌, length};
 ghost use Rattle.report.specs.inside.Lines.{Put};
-ghost use Rattle.changes.specs.Words.{of_kind, how_many, counts as Counts-of};
+ghost use Rattle.changes.specs.Words.{of_kind, how_many, counts as counts_of};
 
 use difference::kind;
 use report::inner::text;
@@ -33,8 +33,8 @@ fn put_count(text: &mut [u8], at: usize, word: &[u8], listing: &[[usize; 2]], ki
 
 // Puts the counts of all kinds.
 pub fn put(listing: &[[usize; 2]], text: &mut [u8], at: usize) -> usize
-    requires { at + length (Counts-of listing.now) ≤ length text.old }
-    ensures { Put at (Counts-of listing.now) text.old result text.new }
+    requires { at + length (counts_of listing.now) ≤ length text.old }
+    ensures { Put at (counts_of listing.now) text.old result text.new }
 {
     let second = put_count(text, at, b"the same: ", listing, kind::SAME);
     let third = put_count(

@@ -1,7 +1,7 @@
 // The lines of what changed.
 ghost use Rattle.std.specs.Prelude.{◌+◌, ◌≤◌, length};
 ghost use Rattle.report.specs.inside.Lines.{Put};
-ghost use Rattle.changes.specs.Words.{change, line as Line-of, lines as lines_of};
+ghost use Rattle.changes.specs.Words.{change, line as line_of, lines as lines_of};
 ghost use Rattle.changes.specs.inside.Lines.{Places};
 
 use difference::kind;
@@ -28,8 +28,8 @@ fn put_change(text: &mut [u8], at: usize, kind: usize, place: usize) -> usize
 
 // Puts the line of contour number `k`; none where it is the same.
 fn put_line(text: &mut [u8], at: usize, k: usize, kind: usize, place: usize) -> usize
-    requires { (place ≤ 65536) × (at + length (Line-of k kind place) ≤ length text.old) }
-    ensures { Put at (Line-of k kind place) text.old result text.new }
+    requires { (place ≤ 65536) × (at + length (line_of k kind place) ≤ length text.old) }
+    ensures { Put at (line_of k kind place) text.old result text.new }
 {
     if kind == kind::SAME {
         return at;

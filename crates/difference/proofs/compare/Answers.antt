@@ -1,5 +1,5 @@
 -- `difference::compare` meets its contract, one law for each way out.
-use Rattle.difference.proofs.OutcomeLaws.{is_sound, first_refused, second_refused, no_room, listed-all}
+use Rattle.difference.proofs.OutcomeLaws.{is_sound, first_refused, second_refused, no_room, listed_all}
 use Rattle.difference.proofs.compare.Goals as goal
 
 pub returns-then-first-ne0 : goal.returns-then-first-ne0
@@ -31,6 +31,6 @@ fill-requires c =
 pub returns : goal.returns
 returns c =
     let s = c.args in
-    listed-all s.points.now s.ranges.now s.others.now s.other_ranges.now _
+    listed_all s.points.now s.ranges.now s.others.now s.other_ranges.now _
     c.refused-first.ensures c.if-first-ne0.false c.refused-second.ensures c.if-second-ne0.false c.larger-n.ensures c.if-listing-n.false
     c.fill.ensures

@@ -1,7 +1,7 @@
 // What two contours are to each other.
 ghost use Rattle.std.specs.Prelude.{◌≡◌};
 ghost use Rattle.grid.specs.Domain.{count, Contour};
-ghost use Rattle.difference.specs.Lines.{first_other as first-other-of, compared};
+ghost use Rattle.difference.specs.Lines.{first_other as first_other_of, compared};
 ghost use Rattle.difference.specs.inside.Sets.{Long};
 
 use crate::kind;
@@ -16,7 +16,7 @@ pub struct Line {
 // The first of n positions at which two contours differ; n where they do not.
 fn first_other(first: &[i32], second: &[i32], n: usize) -> usize
     requires { Long first.now n × Long second.now n }
-    ensures { result ≡ first-other-of first.now second.now n }
+    ensures { result ≡ first_other_of first.now second.now n }
 {
     turned::inner::level(first, 0, second, 0, n)
 }

@@ -1,6 +1,6 @@
 // Places and commands, read from the rows of kinds and floats, and brought onto the grid.
 ghost use Rattle.std.specs.Prelude.{◌≡◌, true, ◌+◌, ◌≤◌, ◌<◌, length, drop};
-ghost use Rattle.drawing.specs.Commands.{Item, place_of, item, brought as brought-of};
+ghost use Rattle.drawing.specs.Commands.{Item, place_of, item, brought as brought_of};
 ghost use Rattle.drawing.specs.inside.Rows.{on as on_grid, point as point_at};
 
 use crate::command::{Command, LINE, MOVE, Place};
@@ -19,7 +19,7 @@ pub fn place_from(floats: &[f64], at: usize) -> Place
 
 // The command of a kind, whose floats, if it brings any, stand from `at` on.
 pub fn read(kind: u8, floats: &[f64], at: usize) -> Command
-    requires { (kind ≤ 2) × (at + brought-of kind ≤ length floats.now) }
+    requires { (kind ≤ 2) × (at + brought_of kind ≤ length floats.now) }
     ensures { Item.command result ≡ item kind (drop at floats.now) }
 {
     if kind == MOVE {

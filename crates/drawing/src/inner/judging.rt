@@ -2,7 +2,7 @@
 ghost use Rattle.std.specs.Prelude.{◌≡◌, false, ◌*◌, length};
 ghost use Rattle.replies.specs.Ladder.{first_of};
 ghost use Rattle.drawing.specs.Commands.{Item, items, asked};
-ghost use Rattle.drawing.specs.Faults.{place_faults, faults, first_fault as first-fault-of};
+ghost use Rattle.drawing.specs.Faults.{place_faults, faults, first_fault as first_fault_of};
 ghost use Rattle.drawing.specs.Importing.{refusals};
 
 use crate::command;
@@ -48,7 +48,7 @@ fn fault(opened: bool, command: Command) -> u32
 // The number of the first faulty command, or 0.
 fn first_fault(kinds: &[u8], floats: &[f64]) -> u32
     requires { length floats.now ≡ asked kinds.now }
-    ensures { result ≡ first-fault-of false (items kinds.now floats.now) }
+    ensures { result ≡ first_fault_of false (items kinds.now floats.now) }
 {
     let mut opened = false;
     let mut at: usize = 0;

@@ -3,7 +3,7 @@ ghost use Rattle.std.specs.Prelude.{◌≡◌, map, ◌+◌, ◌*◌, ◌%◌, �
 ghost use Rattle.rows.specs.Rows.{front, placed};
 ghost use Rattle.buffer.specs.Spans.{spans};
 ghost use Rattle.millimetres.specs.Scale.{millimetres};
-ghost use Rattle.drawing.specs.inside.Rows.{contour_kinds, set_kinds, Forward, filled as Filled-of};
+ghost use Rattle.drawing.specs.inside.Rows.{contour_kinds, set_kinds, Forward, filled as filled_of};
 
 use crate::command;
 
@@ -41,7 +41,7 @@ pub fn places(points: &[i32], floats: &mut [f64])
 
 // How many of the contours have points.
 pub fn filled(ranges: &[[usize; 2]]) -> usize
-    ensures { result ≡ Filled-of (spans ranges.now) }
+    ensures { result ≡ filled_of (spans ranges.now) }
 {
     let mut n: usize = 0;
     let mut i: usize = 0;

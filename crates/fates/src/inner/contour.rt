@@ -1,7 +1,7 @@
 // What becomes of one contour. No point that is kept is written.
 ghost use Rattle.std.specs.Prelude.{◌≡◌};
 ghost use Rattle.sets.specs.Fates.{fate};
-ghost use Rattle.fates.specs.Fates.{told, later as later-fate};
+ghost use Rattle.fates.specs.Fates.{told, later as later_fate};
 ghost use Rattle.fates.specs.inside.Telling.{Walkable};
 
 use clean::inner::look;
@@ -50,7 +50,7 @@ pub fn later(
     mark: &mut [u8],
 ) -> u8
     requires { Walkable contour.now next.old prev.old mark.old }
-    ensures { result ≡ later-fate rule outline contour.now }
+    ensures { result ≡ later_fate rule outline contour.now }
 {
     if outline != KEPT {
         return BEHIND;

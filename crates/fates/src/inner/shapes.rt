@@ -4,7 +4,7 @@ ghost use Rattle.ring.specs.Walk.{occurrences};
 ghost use Rattle.buffer.specs.Spans.{spans};
 ghost use Rattle.buffer.specs.Sets.{shapes as shapes_of};
 ghost use Rattle.sets.specs.inside.Shape.{Zeroed};
-ghost use Rattle.fates.specs.Fates.{kept as kept-fate, fates as fates_of};
+ghost use Rattle.fates.specs.Fates.{kept as kept_fate, fates as fates_of};
 ghost use Rattle.fates.specs.inside.Telling.{Each};
 
 use crate::inner::{contour, shape};
@@ -12,7 +12,7 @@ use ring::Rule;
 
 // How many are kept.
 fn kept(fates: &[u8]) -> usize
-    ensures { result ≡ occurrences kept-fate fates.now }
+    ensures { result ≡ occurrences kept_fate fates.now }
 {
     let mut found: usize = 0;
     let mut i: usize = 0;
@@ -73,7 +73,7 @@ pub fn sweep(
     fates: &mut [u8],
 ) -> usize
     requires { Each points.now contours.now shapes.now next.old prev.old mark.old fates.old }
-    ensures value { result ≡ occurrences kept-fate (fates_of rule
+    ensures value { result ≡ occurrences kept_fate (fates_of rule
         (shapes_of points.now (spans contours.now) (spans shapes.now))) }
     ensures fates_after { fates.new
         ≡ fates_of rule

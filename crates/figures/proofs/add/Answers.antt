@@ -8,7 +8,7 @@ use Rattle.grid.specs.Domain.{count}
 use Rattle.clean.specs.Outcome.{Lent, lent}
 use Rattle.sets.specs.inside.Contour.{Scratch}
 use Rattle.figures.specs.Joining.{fits}
-use Rattle.figures.proofs.OutcomeLaws.{rungs, first-refusal, refusal-small, added-refused, scratch-fits, added-over, countable, all-joinable, all-added}
+use Rattle.figures.proofs.OutcomeLaws.{rungs, first_refusal, refusal_small, added_refused, scratch_fits, added_over, countable, all_joinable, all_added}
 use Rattle.figures.proofs.add.Goals as goal
 
 abbrev rows_of : goal.Then-refused-ne0 → Lent
@@ -42,34 +42,34 @@ abbrev rows_of_10 : goal.After-sweep-arg-3-1 → Lent
 rows_of_10 s = lent s.args.next.now s.args.prev.now s.args.mark.now s.args.out.now
 
 first_of_all : (c : goal.Then-refused-ne0) → c.or_lacking-refused.result ≡ first_of (rungs c.args.points.now c.args.contours.now (rows_of c))
-first_of_all c = first-refusal c.args.points.now c.args.contours.now (rows_of c) _ _ c.refused-asked.ensures c.or_lacking-refused.ensures
+first_of_all c = first_refusal c.args.points.now c.args.contours.now (rows_of c) _ _ c.refused-asked.ensures c.or_lacking-refused.ensures
 
 first_of_all_2 : (c : goal.After-add_refused) → c.or_lacking-refused.result ≡ first_of (rungs c.args.points.now c.args.contours.now (rows_of_2 c))
-first_of_all_2 c = first-refusal c.args.points.now c.args.contours.now (rows_of_2 c) _ _ c.refused-asked.ensures c.or_lacking-refused.ensures
+first_of_all_2 c = first_refusal c.args.points.now c.args.contours.now (rows_of_2 c) _ _ c.refused-asked.ensures c.or_lacking-refused.ensures
 
 first_of_all_3 : (c : goal.Then-not-fits) → c.or_lacking-refused.result ≡ first_of (rungs c.args.points.now c.args.contours.now (rows_of_3 c))
-first_of_all_3 c = first-refusal c.args.points.now c.args.contours.now (rows_of_3 c) _ _ c.refused-asked.ensures c.or_lacking-refused.ensures
+first_of_all_3 c = first_refusal c.args.points.now c.args.contours.now (rows_of_3 c) _ _ c.refused-asked.ensures c.or_lacking-refused.ensures
 
 first_of_all_4 : (c : goal.After-sweep-arg-4-1) → c.or_lacking-refused.result ≡ first_of (rungs c.args.points.now c.args.contours.now (rows_of_4 c))
-first_of_all_4 c = first-refusal c.args.points.now c.args.contours.now (rows_of_4 c) _ _ c.refused-asked.ensures c.or_lacking-refused.ensures
+first_of_all_4 c = first_refusal c.args.points.now c.args.contours.now (rows_of_4 c) _ _ c.refused-asked.ensures c.or_lacking-refused.ensures
 
 first_of_all_5 : (c : goal.After-out-1) → c.or_lacking-refused.result ≡ first_of (rungs c.args.points.now c.args.contours.now (rows_of_5 c))
-first_of_all_5 c = first-refusal c.args.points.now c.args.contours.now (rows_of_5 c) _ _ c.refused-asked.ensures c.or_lacking-refused.ensures
+first_of_all_5 c = first_refusal c.args.points.now c.args.contours.now (rows_of_5 c) _ _ c.refused-asked.ensures c.or_lacking-refused.ensures
 
 first_of_all_6 : (c : goal.After-sum) → c.or_lacking-refused.result ≡ first_of (rungs c.args.points.now c.args.contours.now (rows_of_6 c))
-first_of_all_6 c = first-refusal c.args.points.now c.args.contours.now (rows_of_6 c) _ _ c.refused-asked.ensures c.or_lacking-refused.ensures
+first_of_all_6 c = first_refusal c.args.points.now c.args.contours.now (rows_of_6 c) _ _ c.refused-asked.ensures c.or_lacking-refused.ensures
 
 first_of_all_7 : (c : goal.Else-not-fits) → c.or_lacking-refused.result ≡ first_of (rungs c.args.points.now c.args.contours.now (rows_of_7 c))
-first_of_all_7 c = first-refusal c.args.points.now c.args.contours.now (rows_of_7 c) _ _ c.refused-asked.ensures c.or_lacking-refused.ensures
+first_of_all_7 c = first_refusal c.args.points.now c.args.contours.now (rows_of_7 c) _ _ c.refused-asked.ensures c.or_lacking-refused.ensures
 
 first_of_all_8 : (c : goal.After-sweep-arg-1) → c.or_lacking-refused.result ≡ first_of (rungs c.args.points.now c.args.contours.now (rows_of_8 c))
-first_of_all_8 c = first-refusal c.args.points.now c.args.contours.now (rows_of_8 c) _ _ c.refused-asked.ensures c.or_lacking-refused.ensures
+first_of_all_8 c = first_refusal c.args.points.now c.args.contours.now (rows_of_8 c) _ _ c.refused-asked.ensures c.or_lacking-refused.ensures
 
 first_of_all_9 : (c : goal.After-sweep-arg-2-1) → c.or_lacking-refused.result ≡ first_of (rungs c.args.points.now c.args.contours.now (rows_of_9 c))
-first_of_all_9 c = first-refusal c.args.points.now c.args.contours.now (rows_of_9 c) _ _ c.refused-asked.ensures c.or_lacking-refused.ensures
+first_of_all_9 c = first_refusal c.args.points.now c.args.contours.now (rows_of_9 c) _ _ c.refused-asked.ensures c.or_lacking-refused.ensures
 
 first_of_all_10 : (c : goal.After-sweep-arg-3-1) → c.or_lacking-refused.result ≡ first_of (rungs c.args.points.now c.args.contours.now (rows_of_10 c))
-first_of_all_10 c = first-refusal c.args.points.now c.args.contours.now (rows_of_10 c) _ _ c.refused-asked.ensures c.or_lacking-refused.ensures
+first_of_all_10 c = first_refusal c.args.points.now c.args.contours.now (rows_of_10 c) _ _ c.refused-asked.ensures c.or_lacking-refused.ensures
 
 -- what is not refused, and what fits
 clear_of : (c : goal.Then-not-fits) → first_of (rungs c.args.points.now c.args.contours.now (rows_of_3 c)) ≡ 0
@@ -113,27 +113,27 @@ fits_of_3 : (c : goal.After-sum) → fits c.args.f (length c.args.contours.now) 
 fits_of_3 c = sym c.fits2.ensures ∙ c.if-not-fits.false
 
 scratch_of : (c : goal.Else-not-fits) → Scratch (count c.args.points.now) c.args.next.now c.args.prev.now c.args.mark.now
-scratch_of c = scratch-fits c.args.points.now c.args.contours.now (rows_of_7 c) (clear_of_5 c)
+scratch_of c = scratch_fits c.args.points.now c.args.contours.now (rows_of_7 c) (clear_of_5 c)
 
 scratch_of_2 : (c : goal.After-sweep-arg-1) → Scratch (count c.args.points.now) c.args.next.now c.args.prev.now c.args.mark.now
-scratch_of_2 c = scratch-fits c.args.points.now c.args.contours.now (rows_of_8 c) (clear_of_6 c)
+scratch_of_2 c = scratch_fits c.args.points.now c.args.contours.now (rows_of_8 c) (clear_of_6 c)
 
 scratch_of_3 : (c : goal.After-sweep-arg-2-1) → Scratch (count c.args.points.now) c.args.next.now c.args.prev.now c.args.mark.now
-scratch_of_3 c = scratch-fits c.args.points.now c.args.contours.now (rows_of_9 c) (clear_of_7 c)
+scratch_of_3 c = scratch_fits c.args.points.now c.args.contours.now (rows_of_9 c) (clear_of_7 c)
 
 scratch_of_4 : (c : goal.After-sweep-arg-3-1) → Scratch (count c.args.points.now) c.args.next.now c.args.prev.now c.args.mark.now
-scratch_of_4 c = scratch-fits c.args.points.now c.args.contours.now (rows_of_10 c) (clear_of_8 c)
+scratch_of_4 c = scratch_fits c.args.points.now c.args.contours.now (rows_of_10 c) (clear_of_8 c)
 
 pub add_refused-requires : goal.add_refused-requires
-add_refused-requires c = rw (first_of_all c) (refusal-small c.args.points.now c.args.contours.now (rows_of c))
+add_refused-requires c = rw (first_of_all c) (refusal_small c.args.points.now c.args.contours.now (rows_of c))
 
 pub returns-then-refused-ne0 : goal.returns-then-refused-ne0
 returns-then-refused-ne0 c =
-    added-refused c.args.points.now c.args.contours.now (rows_of_2 c) c.args.f c.args.rule _ (first_of_all_2 c) c.if-refused-ne0.true _ c.add_refused.ensures
+    added_refused c.args.points.now c.args.contours.now (rows_of_2 c) c.args.f c.args.rule _ (first_of_all_2 c) c.if-refused-ne0.true _ c.add_refused.ensures
 
 pub returns-then-not-fits : goal.returns-then-not-fits
 returns-then-not-fits c =
-    added-over c.args.points.now c.args.contours.now (rows_of_3 c) (clear_of c) c.args.f c.args.rule (sym c.fits2.ensures ∙ c.if-not-fits.true)
+    added_over c.args.points.now c.args.contours.now (rows_of_3 c) (clear_of c) c.args.f c.args.rule (sym c.fits2.ensures ∙ c.if-not-fits.true)
 
 pub slice_bounds-sweep-end : goal.slice_bounds-sweep-end
 slice_bounds-sweep-end c = (scratch_of c).in_next
@@ -159,8 +159,8 @@ sweep-all-requires c =
 
 pub sum-requires : goal.sum-requires
 sum-requires c =
-    all-joinable c.args.points.now c.args.contours.now (rows_of_5 c) (clear_of_3 c) c.args.f c.args.rule (fits_of_2 c) _ _ c.sweep-all.ensures.counts_all
+    all_joinable c.args.points.now c.args.contours.now (rows_of_5 c) (clear_of_3 c) c.args.f c.args.rule (fits_of_2 c) _ _ c.sweep-all.ensures.counts_all
 
 pub returns : goal.returns
 returns c =
-    all-added c.args.points.now c.args.contours.now (rows_of_6 c) (clear_of_4 c) c.args.f c.args.rule (fits_of_3 c) _ _ _ _ _ _ c.sweep-all.ensures.counts_all c.sum.ensures c.sweep-all.ensures.zeroed
+    all_added c.args.points.now c.args.contours.now (rows_of_6 c) (clear_of_4 c) c.args.f c.args.rule (fits_of_3 c) _ _ _ _ _ _ c.sweep-all.ensures.counts_all c.sum.ensures c.sweep-all.ensures.zeroed

@@ -2,7 +2,7 @@
 use mathlib.Core.Path.{◌≡◌, sym, ◌∙◌, ap}
 use mathlib.Core.Bool.{true}
 use Rattle.figures.specs.Joining.{in_all, fits}
-use Rattle.figures.proofs.SumLaws.{joined-full, joined-never, joined-done, joinable}
+use Rattle.figures.proofs.SumLaws.{joined_full, joined_never, joined_done, joinable}
 use Rattle.figures.proofs.joined.Goals as goal
 
 -- what the first test tells
@@ -31,11 +31,11 @@ passed_3 : (c : goal.After-sum) → fits c.args.f (in_all c.args.g) ≡ true
 passed_3 c = sym (fitted_4 c) ∙ c.if-not-fits.false
 
 pub returns-then-not-fits : goal.returns-then-not-fits
-returns-then-not-fits c = joined-full c.args.f c.args.g (sym (fitted c) ∙ c.if-not-fits.true)
+returns-then-not-fits c = joined_full c.args.f c.args.g (sym (fitted c) ∙ c.if-not-fits.true)
 
 pub returns-then-not-possible : goal.returns-then-not-possible
 returns-then-not-possible c =
-    joined-never c.args.f c.args.g (passed c) (sym c.possible.ensures ∙ c.if-not-possible.true)
+    joined_never c.args.f c.args.g (passed c) (sym c.possible.ensures ∙ c.if-not-possible.true)
 
 pub sum-requires : goal.sum-requires
 sum-requires c =
@@ -43,4 +43,4 @@ sum-requires c =
 
 pub returns : goal.returns
 returns c =
-    joined-done c.args.f c.args.g (passed_3 c) c.sum.result (sym c.possible.ensures ∙ c.if-not-possible.false) c.sum.ensures
+    joined_done c.args.f c.args.g (passed_3 c) c.sum.result (sym c.possible.ensures ∙ c.if-not-possible.false) c.sum.ensures

@@ -3,7 +3,7 @@ ghost use mathlib.Core.Path.{◌≡◌};
 ghost use mathlib.Core.List.{[], ◌∷◌};
 ghost use Prim.Native.Nat.{◌<◌};
 ghost use Rattle.sets.specs.inside.Contour.{Cleanable};
-ghost use Rattle.figures.specs.Halves.{high as high-of, low as low_of};
+ghost use Rattle.figures.specs.Halves.{high as high_of, low as low_of};
 ghost use Rattle.figures.specs.Entries.{entry};
 ghost use Rattle.figures.specs.Batch.{numbers, figures_of};
 ghost use Rattle.figures.specs.inside.Adding.{Counts};
@@ -20,7 +20,7 @@ pub struct Halves {
 
 // Of an area below 0 both are rounded down, by how far it lies below -1.
 fn split(area: i64) -> Halves
-    ensures { (result.high ≡ high-of area) × (result.low ≡ low_of area) }
+    ensures { (result.high ≡ high_of area) × (result.low ≡ low_of area) }
 {
     if area < 0 {
         let rest = (-1 - area) as u64;

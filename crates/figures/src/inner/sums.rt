@@ -2,7 +2,7 @@
 ghost use mathlib.Core.Path.{◌≡◌};
 ghost use Prim.Native.Nat.{◌+◌, ◌≤◌};
 ghost use lib.ListN.{length};
-ghost use Rattle.figures.specs.Joining.{most_counted, total as total_of, added_up, in_all, sum as sum_of, possible as possible-of, fits as fits_in};
+ghost use Rattle.figures.specs.Joining.{most_counted, total as total_of, added_up, in_all, sum as sum_of, possible as possible_of, fits as fits_in};
 ghost use Rattle.figures.specs.inside.Adding.{Joinable};
 
 use crate::answer::Figures;
@@ -44,7 +44,7 @@ fn add_totals(row: &mut [u32], other: &[u32])
 
 // Whether sets can have the figures, the totals aside.
 pub fn possible(f: Figures) -> bool
-    ensures { result ≡ possible-of f }
+    ensures { result ≡ possible_of f }
 {
     if 4_294_901_760 < f.before {
         return false;

@@ -2,7 +2,7 @@
 ghost use Rattle.std.specs.Prelude.{◌≡◌, ◌≤◌, not};
 ghost use Rattle.replies.specs.Ladder.{first_of};
 ghost use Rattle.grid.specs.Limits.{limit, on_grid, all_on_grid};
-ghost use Rattle.grid.specs.Domain.{domain as domain-of};
+ghost use Rattle.grid.specs.Domain.{domain as domain_of};
 
 // The lowest number whose top bit is set.
 const TOP: u32 = 2_147_483_648;
@@ -55,7 +55,7 @@ fn all_on_grid(bound: u32, row: &[i32]) -> bool
 // What every call asks of a row of coordinates within the bound: 0, or the number of its first refusal.
 pub fn domain(bound: u32, points: &[i32]) -> u32
     requires { bound ≤ limit }
-    ensures { result ≡ first_of (domain-of bound points.now) }
+    ensures { result ≡ first_of (domain_of bound points.now) }
 {
     if points.len() % 2 == 1 {
         return replies::ODD;

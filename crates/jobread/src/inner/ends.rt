@@ -1,6 +1,6 @@
 // The ends of words, numbers and lines.
 ghost use Rattle.std.specs.Prelude.{◌≡◌, ◌<◌};
-ghost use Rattle.jobread.specs.Reading.{moved as moved_to, opened as opened-by, after_start, slot as slot_of, opens as opens_by, counted as counted_of, ended as Ended-of, behind as behind-of, in_word};
+ghost use Rattle.jobread.specs.Reading.{moved as moved_to, opened as opened_by, after_start, slot as slot_of, opens as opens_by, counted as counted_of, ended as ended_of, behind as behind_of, in_word};
 ghost use Rattle.jobread.specs.inside.Rows.{lines_of, Ranges};
 
 use crate::inner::places;
@@ -23,7 +23,7 @@ pub fn moved(reader: Reader, place: Place) -> Reader
 
 // Behind the first letter of a line.
 fn opened(reader: Reader, begins: bool) -> Reader
-    ensures { result ≡ opened-by reader begins }
+    ensures { result ≡ opened_by reader begins }
 {
     Reader {
         place: Place::Word(begins, 1),
@@ -73,7 +73,7 @@ fn opens(begins: bool, n: usize, first: usize) -> usize
 fn ended(reader: Reader, contours: &mut [[usize; 2]], shapes: &mut [[usize; 2]]) -> Reader
     requires { Ranges contours.old shapes.old }
     ensures { lines_of result contours.new shapes.new
-        ≡ Ended-of (lines_of reader contours.old shapes.old) }
+        ≡ ended_of (lines_of reader contours.old shapes.old) }
 {
     let n = reader.contours;
     let m = reader.shapes;
@@ -108,7 +108,7 @@ pub fn behind(
 ) -> Reader
     requires { Ranges contours.old shapes.old }
     ensures { lines_of result contours.new shapes.new
-        ≡ behind-of (lines_of reader contours.old shapes.old) c }
+        ≡ behind_of (lines_of reader contours.old shapes.old) c }
 {
     if c == b' ' {
         return moved(reader, Place::Space);

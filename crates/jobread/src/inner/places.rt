@@ -1,7 +1,7 @@
 // What a character means, by where the reader is.
 ghost use Rattle.std.specs.Prelude.{◌≡◌, ◌<◌, get_or};
 ghost use Rattle.jobtext.specs.Text.{word as word_of};
-ghost use Rattle.jobread.specs.Places.{digit as digit-of, after_head, begun as begun-by, after_space, after_dash, more as more_of, after_digit};
+ghost use Rattle.jobread.specs.Places.{digit as digit_of, after_head, begun as begun_by, after_space, after_dash, more as more_of, after_digit};
 
 use crate::Place;
 
@@ -10,7 +10,7 @@ pub const LARGEST: usize = 2147483647;
 
 // What a character is worth as a digit; 10 where it is none.
 pub fn digit(c: u8) -> usize
-    ensures { result ≡ digit-of c }
+    ensures { result ≡ digit_of c }
 {
     if (48 <= c) & (c <= 57) {
         return (c - 48) as usize;
@@ -44,7 +44,7 @@ pub fn head(k: usize, c: u8) -> Place
 
 // Where a number's first digit is due.
 fn begun(below: bool, c: u8) -> Place
-    ensures { result ≡ begun-by below c }
+    ensures { result ≡ begun_by below c }
 {
     let d = digit(c);
     if d < 10 {

@@ -3,7 +3,7 @@ ghost use Rattle.std.specs.Prelude.{◌+◌, ◌≤◌, length};
 ghost use Rattle.report.specs.inside.Lines.{Put};
 ghost use Rattle.setfile.specs.Entries.{entry};
 ghost use Rattle.setfile.specs.inside.Reading.{contained};
-ghost use Rattle.jobtext.specs.Text.{word as word_of, spaced, numbers as numbers_of, line as Line-of, lines as lines_of};
+ghost use Rattle.jobtext.specs.Text.{word as word_of, spaced, numbers as numbers_of, line as line_of, lines as lines_of};
 ghost use Rattle.jobtext.specs.inside.Rows.{Dumpable};
 
 use report::inner::text;
@@ -45,8 +45,8 @@ fn put_numbers(text: &mut [u8], at: usize, contour: &[i32]) -> usize
 
 // Puts the line of a contour.
 fn put_line(text: &mut [u8], at: usize, begins: bool, contour: &[i32]) -> usize
-    requires { at + length (Line-of (entry begins contour.now)) ≤ length text.old }
-    ensures { Put at (Line-of (entry begins contour.now)) text.old result text.new }
+    requires { at + length (line_of (entry begins contour.now)) ≤ length text.old }
+    ensures { Put at (line_of (entry begins contour.now)) text.old result text.new }
 {
     let second = put_word(text, at, begins);
     let third = put_numbers(text, second, contour);

@@ -5,13 +5,13 @@ use mathlib.Core.Path.{sym, ◌∙◌, ap}
 use lib.IntN.{ℤ, pos}
 use lib.Signed.{le_z}
 use mir.Facts.{to_z-of_z}
-use Rattle.replies.proofs.VerdictLaws.{verdict-refused, verdict-given}
+use Rattle.replies.proofs.VerdictLaws.{verdict_refused, verdict_given}
 use Rattle.path.specs.Clockwise.{clockwise}
 use Rattle.path.proofs.is_clockwise_ordered.Goals as goal
 
 pub returns-then-refusal-ne0 : goal.returns-then-refusal-ne0
 unfolding clockwise
-returns-then-refusal-ne0 c = verdict-refused _ _ _ c.refusal-refusal.ensures c.if-refusal-ne0.true
+returns-then-refusal-ne0 c = verdict_refused _ _ _ c.refusal-refusal.ensures c.if-refusal-ne0.true
 
 pub doubled_area-requires : goal.doubled_area-requires
 doubled_area-requires c = sym c.refusal-refusal.ensures ∙ c.if-refusal-ne0.false
@@ -19,5 +19,5 @@ doubled_area-requires c = sym c.refusal-refusal.ensures ∙ c.if-refusal-ne0.fal
 pub returns : goal.returns
 unfolding clockwise
 returns c =
-    verdict-given _ _ _ (sym c.refusal-refusal.ensures ∙ c.if-refusal-ne0.false)
+    verdict_given _ _ _ (sym c.refusal-refusal.ensures ∙ c.if-refusal-ne0.false)
     (ap (λ (z : ℤ). le_z z (pos 0)) (to_z-of_z {w = w64} (sfits_of c.doubled_area.type_inv) ∙ c.doubled_area.ensures))

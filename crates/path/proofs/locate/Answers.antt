@@ -10,7 +10,7 @@ use Rattle.grid.specs.Points.{on, points}
 use Rattle.grid.specs.Domain.{count}
 use Rattle.grid.proofs.DomainLaws.{in_domain}
 use Rattle.path.specs.Locate.{location}
-use Rattle.path.proofs.LocateLaws.{located-refused, located-off, located-given}
+use Rattle.path.proofs.LocateLaws.{located_refused, located_off, located_given}
 use Rattle.path.proofs.locate.Goals as goal
 
 -- the asked point, as it is passed on
@@ -38,11 +38,11 @@ told_3 : (c : goal.After-location) → c.point_on_grid.result ≡ on limit (reco
 told_3 c = c.point_on_grid.ensures ∙ ap (on limit) (asked_2 c)
 
 pub returns-then-refusal-ne0 : goal.returns-then-refusal-ne0
-returns-then-refusal-ne0 c = located-refused _ _ _ _ c.domain-refusal.ensures c.if-refusal-ne0.true
+returns-then-refusal-ne0 c = located_refused _ _ _ _ c.domain-refusal.ensures c.if-refusal-ne0.true
 
 pub returns-then-not-point_on_grid : goal.returns-then-not-point_on_grid
 returns-then-not-point_on_grid c =
-    located-off _ _ _ (sym c.domain-refusal.ensures ∙ c.if-refusal-ne0.false) (sym (told c) ∙ c.if-not-point_on_grid.true)
+    located_off _ _ _ (sym c.domain-refusal.ensures ∙ c.if-refusal-ne0.false) (sym (told c) ∙ c.if-not-point_on_grid.true)
 
 pub location_of_four-requires : goal.location_of_four-requires
 location_of_four-requires c =
@@ -54,7 +54,7 @@ location_of_four-requires c =
 
 pub returns-then-points-eq8 : goal.returns-then-points-eq8
 returns-then-points-eq8 c =
-    located-given _ _ _ (sym c.domain-refusal.ensures ∙ c.if-refusal-ne0.false) _ (sym (told_2 c) ∙ c.if-not-point_on_grid.false)
+    located_given _ _ _ (sym c.domain-refusal.ensures ∙ c.if-refusal-ne0.false) _ (sym (told_2 c) ∙ c.if-not-point_on_grid.false)
     (c.location_of_four.ensures ∙ ap (λ (p : Point). location p (points c.args.points.now)) (asked c))
 
 pub location-requires : goal.location-requires
@@ -63,5 +63,5 @@ location-requires c =
 
 pub returns : goal.returns
 returns c =
-    located-given _ _ _ (sym c.domain-refusal.ensures ∙ c.if-refusal-ne0.false) _ (sym (told_3 c) ∙ c.if-not-point_on_grid.false)
+    located_given _ _ _ (sym c.domain-refusal.ensures ∙ c.if-refusal-ne0.false) _ (sym (told_3 c) ∙ c.if-not-point_on_grid.false)
     (c.location.ensures ∙ ap (λ (p : Point). location p (points c.args.points.now)) (asked_2 c))

@@ -4,7 +4,7 @@ ghost use Rattle.grid.specs.Domain.{count, Contour};
 ghost use Rattle.grid.specs.Limits.{limit};
 ghost use Rattle.grid.specs.Points.{on, points as points_of};
 ghost use Rattle.report.specs.inside.Lines.{Put};
-ghost use Rattle.picture.specs.Frame.{lesser as lesser-of, greater as greater-of, widened as widened-of, extent as extent-of, letter as letter-of, sizes as sizes-of};
+ghost use Rattle.picture.specs.Frame.{lesser as lesser_of, greater as greater_of, widened as widened_of, extent as extent-of, letter as letter_of, sizes as sizes-of};
 ghost use Rattle.picture.specs.inside.Parts.{On, Small, opening, offset};
 
 use crate::inner::words;
@@ -28,14 +28,14 @@ pub struct Sizes {
 
 // The lesser of two coordinates.
 fn lesser(a: i32, b: i32) -> i32
-    ensures { result ≡ lesser-of a b }
+    ensures { result ≡ lesser_of a b }
 {
     if a < b { a } else { b }
 }
 
 // The greater of two.
 fn greater(a: i32, b: i32) -> i32
-    ensures { result ≡ greater-of a b }
+    ensures { result ≡ greater_of a b }
 {
     if a < b { b } else { a }
 }
@@ -43,7 +43,7 @@ fn greater(a: i32, b: i32) -> i32
 // One point more.
 fn widened(e: Extent, p: Point) -> Extent
     requires { On e × (on limit p ≡ true) }
-    ensures { result ≡ widened-of e p }
+    ensures { result ≡ widened_of e p }
 {
     let low = e.low;
     let high = e.high;
@@ -89,7 +89,7 @@ pub fn extent_of(points: &[i32]) -> Extent
 
 // How high a letter is.
 fn letter(width: u64, height: u64) -> u64
-    ensures { result ≡ letter-of width height }
+    ensures { result ≡ letter_of width height }
 {
     if width < height {
         return height / 40 + 1;

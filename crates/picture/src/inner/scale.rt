@@ -1,7 +1,7 @@
 // The scale below the job, with which a picture ends.
 ghost use Rattle.std.specs.Prelude.{◌≡◌, ◌+◌, ◌≤◌, ◌<◌, length};
 ghost use Rattle.report.specs.inside.Lines.{Put};
-ghost use Rattle.picture.specs.Frame.{bar as bar-of, label};
+ghost use Rattle.picture.specs.Frame.{bar as bar_of, label};
 ghost use Rattle.picture.specs.inside.Parts.{Small, closing};
 
 use crate::inner::frame::Sizes;
@@ -11,7 +11,7 @@ use report::inner::text;
 // How long the bar is, in micrometres: the largest power of ten that is no longer than so many units, or 1.
 fn bar(width: u64) -> u64
     requires { width < 4294967296 }
-    ensures { result ≡ bar-of width }
+    ensures { result ≡ bar_of width }
 {
     let mut long: u64 = 1;
     let mut left: usize = 9;

@@ -3,7 +3,7 @@ ghost use Rattle.std.specs.Prelude.{◌≡◌, true, ◌+◌, ◌*◌, ◌≤◌
 ghost use Rattle.grid.specs.Limits.{limit, all_on_grid};
 ghost use Rattle.grid.specs.Points.{points as points_of};
 ghost use Rattle.report.specs.inside.Lines.{Put};
-ghost use Rattle.vertices.specs.Vertices.{vertices as vertices-of, job_vertices};
+ghost use Rattle.vertices.specs.Vertices.{vertices as vertices_of, job_vertices};
 ghost use Rattle.vertices.specs.inside.Marks.{survive, Marked};
 ghost use Rattle.picture.specs.Picture.{all_spots};
 ghost use Rattle.picture.specs.inside.Parts.{Dotted};
@@ -16,9 +16,9 @@ use vertices::inner::{dots, settling};
 fn put_marked(text: &mut [u8], at: usize, points: &[i32], mark: &[u8]) -> usize
     requires points_value { (all_on_grid limit points.now ≡ true)
         × (length points.now ≡ 2 * length mark.now) }
-    requires points_in_bounds { at + length (all_spots (vertices-of (survive mark.now) (points_of points.now)))
+    requires points_in_bounds { at + length (all_spots (vertices_of (survive mark.now) (points_of points.now)))
         ≤ length text.old }
-    ensures { Put at (all_spots (vertices-of (survive mark.now) (points_of points.now)))
+    ensures { Put at (all_spots (vertices_of (survive mark.now) (points_of points.now)))
         text.old result text.new }
 {
     let second = text::put(text, at, b"<path class=\"removed\" d=\"");

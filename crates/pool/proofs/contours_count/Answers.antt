@@ -7,14 +7,14 @@ use Rattle.pool.specs.Lists.{own}
 use Rattle.pool.specs.Rows.{lent}
 use Rattle.pool.specs.Outcome.{number, contours_count}
 use Rattle.pool.proofs.CallLaws.{records_there}
-use Rattle.pool.proofs.ReadLaws.{count-unsound, contours-given}
+use Rattle.pool.proofs.ReadLaws.{count_unsound, contours_given}
 use Rattle.pool.proofs.contours_count.Goals as goal
 
 pub returns-then-not-found : goal.returns-then-not-found
 unfolding contours_count
 returns-then-not-found c =
     c.how_many.ensures
-    ∙ count-unsound _ _ c.surveyed-found.ensures (λ l. length (own (number c.args.second) l)) (not-true _ c.if-not-found.true)
+    ∙ count_unsound _ _ c.surveyed-found.ensures (λ l. length (own (number c.args.second) l)) (not-true _ c.if-not-found.true)
 
 pub count-n-requires : goal.count-n-requires
 count-n-requires c =
@@ -25,5 +25,5 @@ pub returns : goal.returns
 returns c =
     let s = c.args in
     c.how_many-2.ensures
-    ∙ contours-given _ _ c.surveyed-found.ensures (not-false _ c.if-not-found.false) _ _ c.count-n.ensures
+    ∙ contours_given _ _ c.surveyed-found.ensures (not-false _ c.if-not-found.false) _ _ c.count-n.ensures
     ∙ ap (λ (p : ℕ). contours_count p (lent s.points.now s.records.now s.contours)) c.number.ensures

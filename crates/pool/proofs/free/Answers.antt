@@ -2,24 +2,24 @@
 use borrow.Author.Tests.{not-true, not-false}
 use mathlib.Core.Path.{refl, ◌∙◌}
 use native.Mathlib.Omega.{arith}
-use Rattle.pool.specs.Lists.{free as Free-of}
+use Rattle.pool.specs.Lists.{free as free_of}
 use Rattle.pool.specs.Outcome.{free_count}
-use Rattle.pool.proofs.ReadLaws.{count-unsound, both-within, free-given}
+use Rattle.pool.proofs.ReadLaws.{count_unsound, both_within, free_given}
 use Rattle.pool.proofs.free.Goals as goal
 
 pub returns-then-not-found : goal.returns-then-not-found
 unfolding free_count
 returns-then-not-found c =
-    c.how_many.ensures ∙ count-unsound _ _ c.surveyed-found.ensures Free-of (not-true _ c.if-not-found.true)
+    c.how_many.ensures ∙ count_unsound _ _ c.surveyed-found.ensures free_of (not-true _ c.if-not-found.true)
 
 pub overflow_add-found : goal.overflow_add-found
 overflow_add-found c =
-    record { fits = omega (arith, both-within _ _ c.surveyed-found.ensures (not-false _ c.if-not-found.false)) }
+    record { fits = omega (arith, both_within _ _ c.surveyed-found.ensures (not-false _ c.if-not-found.false)) }
 
 pub overflow_sub-found : goal.overflow_sub-found
 overflow_sub-found c =
-    both-within _ _ c.surveyed-found.ensures (not-false _ c.if-not-found.false)
+    both_within _ _ c.surveyed-found.ensures (not-false _ c.if-not-found.false)
 
 pub returns : goal.returns
 returns c =
-    c.how_many-2.ensures ∙ free-given _ _ c.surveyed-found.ensures (not-false _ c.if-not-found.false) _ refl
+    c.how_many-2.ensures ∙ free_given _ _ c.surveyed-found.ensures (not-false _ c.if-not-found.false) _ refl

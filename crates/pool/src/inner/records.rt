@@ -1,7 +1,7 @@
 // The records of a pool, each a start, an end, a tool and a press.
 ghost use Rattle.std.specs.Prelude.{◌≡◌, ◌&&◌, ◌≤◌, leb, length, take};
-ghost use Rattle.pool.specs.Lists.{holding as holding-of};
-ghost use Rattle.pool.specs.Rows.{slots, follows as Follows-of};
+ghost use Rattle.pool.specs.Lists.{holding as holding_of};
+ghost use Rattle.pool.specs.Rows.{slots, follows as follows_of};
 ghost use Rattle.pool.specs.Outcome.{own_slots};
 ghost use Rattle.pool.specs.inside.Records.{Newest, Found};
 
@@ -19,14 +19,14 @@ pub fn follows(
     press: usize,
 ) -> bool
     ensures { result
-        ≡ (Follows-of at (record { start = start; end = end; tool = tool; press = press }) && leb end places) }
+        ≡ (follows_of at (record { start = start; end = end; tool = tool; press = press }) && leb end places) }
 {
     (((at == start) & (at <= end)) & ((tool <= 255) & (press <= 1))) & (end <= places)
 }
 
 // How many points a contour of n holds: an empty one counts as one.
 pub fn holding(n: usize) -> usize
-    ensures { result ≡ holding-of n }
+    ensures { result ≡ holding_of n }
 {
     if n == 0 { 1 } else { n }
 }

@@ -1,6 +1,6 @@
 // A look at all records of a pool.
 ghost use Rattle.std.specs.Prelude.{◌≡◌, false, ◌+◌, ◌<◌, ◌^◌};
-ghost use Rattle.pool.specs.Rows.{lent, fair as fair-of};
+ghost use Rattle.pool.specs.Rows.{lent, fair as fair_of};
 ghost use Rattle.pool.specs.Outcome.{number as number_of_lem};
 ghost use Rattle.pool.specs.inside.Surveys.{Surveyed, share_of};
 
@@ -32,7 +32,7 @@ pub fn share(found: Survey, second: bool) -> usize
 // Whether neither press holds any of what is kept for the other, and both no more than the pool.
 fn fair(first: usize, second: usize) -> bool
     requires { first + second < 2 ^ 64 }
-    ensures { result ≡ fair-of first second }
+    ensures { result ≡ fair_of first second }
 {
     let most = records::CAPACITY - records::RESERVE;
     ((first <= most) & (second <= most)) & (first + second <= records::CAPACITY)

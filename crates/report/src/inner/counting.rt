@@ -1,7 +1,7 @@
 // What cleaning a contour answers. A listing shows no point that is kept, so none is written.
 ghost use Rattle.std.specs.Prelude.{◌≡◌, [], ◌<◌, ◌≤◌, length};
 ghost use Rattle.grid.specs.Domain.{Contour};
-ghost use Rattle.ring.specs.Walk.{survivors as survivors-of};
+ghost use Rattle.ring.specs.Walk.{survivors as survivors_of};
 ghost use Rattle.ring.specs.Rule.{goes};
 ghost use Rattle.ring.specs.inside.Rows.{FirstStand};
 ghost use Rattle.clean.specs.inside.Settling.{alone};
@@ -23,7 +23,7 @@ pub fn rule(second: bool) -> Rule
 // How many positions survive. There are so few points that 16 bits count them, eight at a time.
 fn survivors(mark: &[u8]) -> usize
     requires { length mark.now ≤ 8192 }
-    ensures { result ≡ length (survivors-of mark.now) }
+    ensures { result ≡ length (survivors_of mark.now) }
 {
     let mut kept: u16 = 0;
     let mut i: usize = 0;

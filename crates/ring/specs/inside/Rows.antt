@@ -1,6 +1,6 @@
 -- The two rows that link a ring, and what the code asks and leaves of them and of the marks.
 use Rattle.std.specs.Prelude.{ℕ, ◌+◌, ◌-◌, ◌^◌, ◌<◌, ◌≤◌, ◌≡◌, Bool, true, false, List, ◌++◌, length, get_or, set, replicate}
-use Rattle.ring.specs.Walk.{unmarked, marked, removed, mark_at, Survivor, survivors, successor, predecessor, occurrences, unmark, unmark_about, remove, fresh, to-go, Walked, tally, ending, walk}
+use Rattle.ring.specs.Walk.{unmarked, marked, removed, mark_at, Survivor, survivors, successor, predecessor, occurrences, unmark, unmark_about, remove, fresh, to_go, Walked, tally, ending, walk}
 use Rattle.ring.specs.Walk.End.{kept, collapsed}
 use Rattle.ring.specs.Promises.{idle_round}
 use Rattle.ring.specs.declared.Ending.{Ending}
@@ -31,13 +31,13 @@ first_marked n k = replicate k marked ++ fresh (n - k)
 module _ (goes : ℕ → ℕ → ℕ → Bool) (n : ℕ) where
   -- The first k positions of a ring of n stand: none of them is to go, with its neighbours where nothing is removed.
   abbrev pub FirstStand : ℕ → Type 0
-  FirstStand k = (j : ℕ) → j < k → to-go goes (fresh n) j ≡ false
+  FirstStand k = (j : ℕ) → j < k → to_go goes (fresh n) j ≡ false
 
   -- The first k stand, and the next one is to go, if there is one.
   pub record Standing (k : ℕ) : Type 0 where
     pub within : k ≤ n
     pub stand : FirstStand k
-    pub next_goes : k < n → to-go goes (fresh n) k ≡ true
+    pub next_goes : k < n → to_go goes (fresh n) k ≡ true
 
   -- All positions are linked, and the first k are marked, which stand.
   pub record Begun (k : ℕ) (mark next prev : List ℕ) : Type 0 where

@@ -5,7 +5,7 @@ use native.Mathlib.Omega.{arith}
 use Rattle.bits.specs.Bits.{Bytes}
 use Rattle.setfile.specs.Layouts.{promised}
 use Rattle.setfile.proofs.SizeLaws.{promised_few}
-use Rattle.salvage.proofs.MendLaws.{Accepted, mend-refused, roomy, missing_few, dropped_few, head_room, mend_done}
+use Rattle.salvage.proofs.MendLaws.{Accepted, mend_refused, roomy, missing_few, dropped_few, head_room, mend_done}
 use Rattle.salvage.proofs.mend.Goals as goal
 
 bytes_of : (c : goal.Else-refusal-ne0) → Bytes c.args.bytes.now
@@ -90,7 +90,7 @@ accepted_5 c = free_6 c _ c.promised-n.ensures
 pub returns-then-refusal-ne0 : goal.returns-then-refusal-ne0
 returns-then-refusal-ne0 c =
     let s = c.args in
-    mend-refused s.bytes.now s.out.now s.dropped.now _
+    mend_refused s.bytes.now s.out.now s.dropped.now _
     c.refused-refusal.ensures c.if-refusal-ne0.true c.refused.ensures
 
 pub promised-n-requires : goal.promised-n-requires

@@ -4,7 +4,7 @@ ghost use Rattle.bits.specs.Bits.{value, bits};
 ghost use Rattle.bits.specs.Signs.{signed};
 ghost use Rattle.grid.specs.Limits.{narrow, all_on_grid};
 ghost use Rattle.rows.specs.Rows.{placed};
-ghost use Rattle.setfile.specs.inside.Bytes.{pair as pair_of, low_first, swapped as swapped-of, decoded, starts as starts-of, held as held_of};
+ghost use Rattle.setfile.specs.inside.Bytes.{pair as pair_of, low_first, swapped as swapped_of, decoded, starts as starts_of, held as held_of};
 
 use grid::NARROW;
 use grid::inner::bounds;
@@ -30,7 +30,7 @@ fn word(bytes: &[u8], at: usize) -> u32
 
 // A number with its four bytes in the opposite order.
 fn swapped(n: u32) -> u32
-    ensures { result ≡ swapped-of n }
+    ensures { result ≡ swapped_of n }
 {
     n % 256 * 16_777_216 + n / 256 % 256 * 65_536 + n / 65_536 % 256 * 256 + n / 16_777_216
 }
@@ -46,7 +46,7 @@ pub fn coordinate(bytes: &[u8], at: usize) -> i32
 // Whether the contour at `at` begins a shape.
 pub fn starts(bytes: &[u8], at: usize) -> bool
     requires { at + 1 < length bytes.now }
-    ensures { result ≡ starts-of (drop at bytes.now) }
+    ensures { result ≡ starts_of (drop at bytes.now) }
 {
     32768 <= pair(bytes, at)
 }

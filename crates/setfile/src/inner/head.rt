@@ -1,7 +1,7 @@
 // The head of a file: its edition, and how many contours it promises.
 ghost use Rattle.std.specs.Prelude.{◌≡◌, ◌≤◌, length};
 ghost use Rattle.replies.specs.Ladder.{first_of};
-ghost use Rattle.setfile.specs.Layouts.{promised as promised-of};
+ghost use Rattle.setfile.specs.Layouts.{promised as promised_of};
 ghost use Rattle.setfile.specs.Editions.{number as number_of_lem, is_second};
 ghost use Rattle.setfile.specs.inside.Reading.{head_refusals, either_refusals};
 
@@ -61,7 +61,7 @@ pub fn either_refused(bytes: &[u8]) -> u32
 // How many contours a file promises.
 pub fn promised(bytes: &[u8]) -> usize
     requires { 2 ≤ length bytes.now }
-    ensures { result ≡ promised-of bytes.now }
+    ensures { result ≡ promised_of bytes.now }
 {
     (fields::pair(bytes, 0) % 4096) as usize
 }

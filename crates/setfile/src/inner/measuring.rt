@@ -2,7 +2,7 @@
 ghost use Rattle.std.specs.Prelude.{◌≡◌, ◌+◌, ◌-◌, ◌/◌, ◌≤◌, length};
 ghost use Rattle.buffer.specs.Spans.{spans};
 ghost use Rattle.setfile.specs.Writing.{most_contours};
-ghost use Rattle.setfile.specs.inside.Writing.{Named, Widths, longer as longer-of, all_size};
+ghost use Rattle.setfile.specs.inside.Writing.{Named, Widths, longer as longer_of, all_size};
 
 use crate::inner::headers;
 
@@ -15,7 +15,7 @@ fn size(start: usize, end: usize) -> usize
 
 // How many of the ranges are longer than n.
 pub fn longer(ranges: &[[usize; 2]], n: usize) -> usize
-    ensures { result ≡ longer-of n (spans ranges.now) }
+    ensures { result ≡ longer_of n (spans ranges.now) }
 {
     let mut some: usize = 0;
     let mut i: usize = 0;

@@ -1,11 +1,11 @@
 // Whether a shape that is not refused has a point.
 ghost use Rattle.std.specs.Prelude.{◌≡◌, ◌<◌, [], length, drop, slice_index_or};
 ghost use Rattle.grid.specs.Points.{points as points_of};
-ghost use Rattle.path.specs.Locate.{location as location-of};
+ghost use Rattle.path.specs.Locate.{location as location_of};
 ghost use Rattle.buffer.specs.Spans.{span, spans};
 ghost use Rattle.buffer.specs.Sets.{contour, contours};
 ghost use Rattle.sets.specs.inside.Asked.{Asked};
-ghost use Rattle.sets.specs.Contains.{inside_none, has as has-point};
+ghost use Rattle.sets.specs.Contains.{inside_none, has as has_point};
 
 use buffer::inner::parts;
 use grid::Point;
@@ -13,7 +13,7 @@ use grid::Point;
 // Where the point lies to contour number k.
 fn location(points: &[i32], ranges: &[[usize; 2]], k: usize, p: Point) -> u8
     requires { Asked points.now ranges.now p × (k < length ranges.now) }
-    ensures { result ≡ location-of p (points_of (contour points.now (span (slice_index_or ranges.now k [])))) }
+    ensures { result ≡ location_of p (points_of (contour points.now (span (slice_index_or ranges.now k [])))) }
 {
     path::inner::location(parts::named(points, ranges, k), p)
 }
@@ -36,7 +36,7 @@ fn inside_no_later(points: &[i32], ranges: &[[usize; 2]], p: Point) -> bool
 // Whether the point lies inside the first contour or on its boundary, and inside no later one.
 pub fn has(points: &[i32], ranges: &[[usize; 2]], p: Point) -> bool
     requires { Asked points.now ranges.now p }
-    ensures { result ≡ has-point p (contours points.now (spans ranges.now)) }
+    ensures { result ≡ has_point p (contours points.now (spans ranges.now)) }
 {
     if ranges.len() == 0 {
         return false;

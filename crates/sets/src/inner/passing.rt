@@ -4,12 +4,12 @@ ghost use Rattle.grid.specs.Limits.{limit};
 ghost use Rattle.grid.specs.Points.{points as points_of};
 ghost use Rattle.replies.specs.Ladder.{first_of};
 ghost use Rattle.grid.specs.Domain.{domain};
-ghost use Rattle.replies.specs.Verdicts.{verdict as verdict-of};
+ghost use Rattle.replies.specs.Verdicts.{verdict as verdict_of};
 ghost use Rattle.buffer.specs.Spans.{spans};
 ghost use Rattle.buffer.specs.Sets.{contours};
 ghost use Rattle.buffer.specs.Contours.{refusals};
-ghost use Rattle.clean.specs.Verdicts.{passes as passes-by};
-ghost use Rattle.sets.specs.Verdicts.{all_pass as all-pass-by, verdict_by};
+ghost use Rattle.clean.specs.Verdicts.{passes as passes_by};
+ghost use Rattle.sets.specs.Verdicts.{all_pass as all_pass_by, verdict_by};
 
 use buffer::inner::parts;
 use replies::Verdict;
@@ -18,7 +18,7 @@ use ring::Rule;
 // Whether a contour passes. A box does, by either rule.
 pub fn passes(rule: Rule, contour: &[i32]) -> bool
     requires { first_of (domain limit contour.now) ≡ 0 }
-    ensures { result ≡ passes-by rule (points_of contour.now) }
+    ensures { result ≡ passes_by rule (points_of contour.now) }
 {
     if grid::inner::boxes::is_box(contour, contour.len() / 2) {
         return true;
@@ -32,7 +32,7 @@ pub fn passes(rule: Rule, contour: &[i32]) -> bool
 // Whether every contour passes, of a set that no call refuses.
 fn all_pass(rule: Rule, points: &[i32], ranges: &[[usize; 2]]) -> bool
     requires { first_of (refusals points.now ranges.now) ≡ 0 }
-    ensures { result ≡ all-pass-by rule (contours points.now (spans ranges.now)) }
+    ensures { result ≡ all_pass_by rule (contours points.now (spans ranges.now)) }
 {
     let mut i: usize = 0;
     while i < ranges.len() {
@@ -47,7 +47,7 @@ fn all_pass(rule: Rule, points: &[i32], ranges: &[[usize; 2]]) -> bool
 // The answer of a set that was refused with this number, or was not.
 pub fn asked(rule: Rule, refusal: u32, points: &[i32], ranges: &[[usize; 2]]) -> Verdict
     requires { refusal ≡ 0 → first_of (refusals points.now ranges.now) ≡ 0 }
-    ensures { result ≡ verdict-of refusal (all-pass-by rule (contours points.now (spans ranges.now))) }
+    ensures { result ≡ verdict_of refusal (all_pass_by rule (contours points.now (spans ranges.now))) }
 {
     if refusal != 0 {
         return Verdict {

@@ -4,7 +4,7 @@ ghost use Rattle.buffer.specs.Spans.{span, spans};
 ghost use Rattle.buffer.specs.Sets.{cut, contours, shapes as shapes_of};
 ghost use Rattle.sets.specs.inside.Contour.{reached, none_yet};
 ghost use Rattle.sets.specs.inside.Shape.{Going, tested, run_shape, Zeroed};
-ghost use Rattle.sets.specs.inside.Shapes.{Groupable, Addable, Within, Each, grouped, adding, added, run_shapes, only as Only-of};
+ghost use Rattle.sets.specs.inside.Shapes.{Groupable, Addable, Within, Each, grouped, adding, added, run_shapes, only as only_of};
 
 use crate::inner::contour::{Progress, Tried};
 use crate::inner::shape;
@@ -159,7 +159,7 @@ pub fn sweep_shapes(
 
 // The only shape of a set stands where it is written.
 fn only(at: Total) -> Tried
-    ensures { result ≡ Only-of at }
+    ensures { result ≡ only_of at }
 {
     let progress = at.progress;
     Tried {

@@ -3,7 +3,7 @@ ghost use mathlib.Core.Path.{◌≡◌};
 ghost use mathlib.Core.Bool.{true, false};
 ghost use Rattle.grid.specs.Limits.{limit};
 ghost use Rattle.grid.specs.Points.{on, points as points_of};
-ghost use Rattle.path.specs.Locate.{location as location-of};
+ghost use Rattle.path.specs.Locate.{location as location_of};
 ghost use Rattle.sifting.specs.inside.Sifting.{InPlace, lying};
 ghost use Rattle.shift.specs.inside.Asking.{ruled_by, has_from, shape_from, Askable};
 
@@ -12,7 +12,7 @@ use grid::Point;
 // Where the point lies to the contour from point `start` up to point `end`.
 fn location(row: &[i32], start: usize, end: usize, p: Point) -> u8
     requires { InPlace row.now start end × (on limit p ≡ true) }
-    ensures { result ≡ location-of p (points_of (lying row.now start end)) }
+    ensures { result ≡ location_of p (points_of (lying row.now start end)) }
 {
     let from = 2 * start;
     let behind = 2 * end;

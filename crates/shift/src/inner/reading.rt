@@ -5,7 +5,7 @@ ghost use Prim.Native.Nat.{◌<◌};
 ghost use lib.Dec.{leb};
 ghost use lib.IntN.{pos};
 ghost use lib.ListN.{length};
-ghost use Rattle.shift.specs.Steps.{pressed, second as second-of};
+ghost use Rattle.shift.specs.Steps.{pressed, second as second_of};
 ghost use Rattle.shift.specs.inside.Heads.{Bits, head as head_of, headless, head_if, Heads, HeadsAs, WithPress};
 
 pub const ADDS: u8 = 0;
@@ -68,7 +68,7 @@ fn if_there(kind: u8, second: bool, count: usize, size: usize, left: usize) -> H
 
 // Kind 0, whose press is one of two.
 fn adding(row: &[i32], second: bool) -> Head
-    requires { (pressed row.now ≡ true) × (second ≡ second-of row.now) }
+    requires { (pressed row.now ≡ true) × (second ≡ second_of row.now) }
     ensures { HeadsAs (pos 0) row.now result }
 {
     if row.len() < 3 {

@@ -4,7 +4,7 @@ ghost use Rattle.integers.specs.Bound.{In};
 ghost use Rattle.bits.specs.Signs.{all_fit};
 ghost use Rattle.grid.specs.Limits.{limit, all_on_grid};
 ghost use Rattle.steps.specs.Steps.{differences};
-ghost use Rattle.steps.specs.inside.Asked.{Narrow, Rising, joined as Joined-of, point_bits};
+ghost use Rattle.steps.specs.inside.Asked.{Narrow, Rising, joined as joined_of, point_bits};
 
 // How much heavier the first coordinate of a point is than its second.
 pub fn scale(width: usize) -> i64
@@ -20,7 +20,7 @@ pub fn joined(contour: &[i32], k: usize, scale: i64) -> i64
     requires { (k + 1 < length contour.now)
         × (all_on_grid limit contour.now ≡ true)
         × In 32768 scale }
-    ensures { result ≡ Joined-of scale contour.now k }
+    ensures { result ≡ joined_of scale contour.now k }
 {
     integers::wide(contour[k]) * scale + integers::wide(contour[k + 1])
 }
@@ -55,11 +55,11 @@ pub fn four(contour: &[i32], k: usize, width: usize, from: i64) -> Pair
         × (all_on_grid limit contour.now ≡ true)
         × Narrow width
         × (all_fit width (differences (drop k contour.now)) ≡ true)
-        × (from ≡ Joined-of (pos (2 ^ width)) contour.now k) }
+        × (from ≡ joined_of (pos (2 ^ width)) contour.now k) }
     ensures { (result.bits
         ≡ point_bits width contour.now k * 2 ^ (2 * width)
         + point_bits width contour.now (k + 2))
-        × (result.last ≡ Joined-of (pos (2 ^ width)) contour.now (k + 4)) }
+        × (result.last ≡ joined_of (pos (2 ^ width)) contour.now (k + 4)) }
 {
     let scale = scale(width);
     let halves = halves(width);

@@ -2,7 +2,7 @@
 ghost use Rattle.std.specs.Prelude.{◌≡◌, true, ◌+◌, ◌*◌, ◌^◌, ◌<◌, ◌≤◌, length, take};
 ghost use Rattle.std.specs.Int.Signed.{mag};
 ghost use Rattle.bits.specs.Bits.{field};
-ghost use Rattle.bits.specs.Signs.{unsigned as Unsigned-of, fits, fields};
+ghost use Rattle.bits.specs.Signs.{unsigned as unsigned_of, fits, fields};
 ghost use Rattle.bits.specs.Widths.{width_for};
 ghost use Rattle.bits.specs.inside.Pens.{reached, Ready, Wrote};
 ghost use Rattle.grid.specs.Limits.{limit, all_on_grid};
@@ -57,7 +57,7 @@ pub fn width(contour: &[i32]) -> usize
 // Writes a coordinate in 32 bits behind the pen.
 fn put_whole(bytes: &mut [u8], pen: Pen, x: i32) -> Pen
     requires { Ready pen × (reached pen + 32 ≤ 8 * length bytes.old) }
-    ensures { Wrote pen (field 32 (Unsigned-of 32 x)) bytes.old result bytes.new
+    ensures { Wrote pen (field 32 (unsigned_of 32 x)) bytes.old result bytes.new
         × (result.width < 32) }
 {
     pens::write(bytes, pen, 32, integers::bits_32(x) as u64)
@@ -82,7 +82,7 @@ fn step_bits(contour: &[i32], k: usize, width: usize) -> u64
         × (all_on_grid limit contour.now ≡ true)
         × Width width
         × (fits width (step contour.now k) ≡ true) }
-    ensures { result ≡ Unsigned-of width (step contour.now k) }
+    ensures { result ≡ unsigned_of width (step contour.now k) }
 {
     integers::bits_32(difference(contour, k)) as u64 % (1 << width)
 }

@@ -5,7 +5,7 @@ ghost use Rattle.buffer.specs.Spans.{spans};
 ghost use Rattle.buffer.specs.Sets.{contours};
 ghost use Rattle.sets.specs.inside.Shape.{Named};
 ghost use Rattle.report.specs.inside.Lines.{Put};
-ghost use Rattle.tidy.specs.Words.{why, area as area_of, line as Line-of, lines as lines_of};
+ghost use Rattle.tidy.specs.Words.{why, area as area_of, line as line_of, lines as lines_of};
 
 use buffer::inner::parts;
 use fates::inner::contour;
@@ -39,8 +39,8 @@ fn put_area(text: &mut [u8], at: usize, contour: &[i32]) -> usize
 // Puts the line of contour number `k`; none where it is kept.
 fn put_line(text: &mut [u8], at: usize, k: usize, fate: u8, contour: &[i32]) -> usize
     requires contour { Contour contour.now (count contour.now) }
-    requires contour_in_bounds { at + length (Line-of k fate contour.now) ≤ length text.old }
-    ensures { Put at (Line-of k fate contour.now) text.old result text.new }
+    requires contour_in_bounds { at + length (line_of k fate contour.now) ≤ length text.old }
+    ensures { Put at (line_of k fate contour.now) text.old result text.new }
 {
     if fate == contour::KEPT {
         return at;

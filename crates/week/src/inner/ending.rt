@@ -4,7 +4,7 @@ ghost use Prim.Native.Nat.{◌≤◌};
 ghost use lib.ListN.{length, take};
 ghost use Rattle.setfile.specs.Reading.{most_bytes};
 ghost use Rattle.setfile.specs.inside.Reading.{from_bit, At};
-ghost use Rattle.week.specs.Files.{bits_of_next, bit_behind, own-length as own-length-of};
+ghost use Rattle.week.specs.Files.{bits_of_next, bit_behind, own-length as own_length_of};
 
 use crate::MOST_BYTES;
 use setfile::inner::{head, headers};
@@ -46,7 +46,7 @@ fn bit_behind(second: bool, bytes: &[u8], n: usize) -> usize
 
 // How many bytes the first file of a row has, or 0 where its headers do not tell.
 pub fn own_length(bytes: &[u8]) -> usize
-    ensures value { result ≡ own-length-of bytes.now }
+    ensures value { result ≡ own_length_of bytes.now }
     ensures upper_bound { result ≤ length bytes.now }
 {
     if head::either_refused(bytes) != 0 {
@@ -59,7 +59,7 @@ pub fn own_length(bytes: &[u8]) -> usize
 
 // The same of a window, which may show one byte more than a file has.
 pub fn first_length(window: &[u8]) -> usize
-    ensures value { result ≡ own-length-of (take most_bytes window.now) }
+    ensures value { result ≡ own_length_of (take most_bytes window.now) }
     ensures upper_bound { result ≤ length window.now }
 {
     if window.len() <= MOST_BYTES {

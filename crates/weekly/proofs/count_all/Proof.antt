@@ -7,7 +7,7 @@ use native.Mathlib.Omega.{arith}
 use borrow.Author.Rules.{rules}
 use lib.ListN.{length, take}
 use lib.Seq.{length-take-le}
-use Rattle.week.proofs.WeekLaws.{Counted, counted_none, counted_possible, week-counted, week-goes-on}
+use Rattle.week.proofs.WeekLaws.{Counted, counted_none, counted_possible, week_counted, week_goes_on}
 use Rattle.weekly.proofs.count_all.Statement.{statement}
 use Rattle.weekly.proofs.count_all.Tie as tie
 
@@ -36,12 +36,12 @@ not_all c = omega (arith, c.before.before.before.loop.invariant.2, c.if1.false)
 counted : (c : tie.After-count2 invariant-loop decreases-loop) → Counted c.count2.result.figures
 counted c =
     let l = c.before.before.before.before.before.before.before.before.loop in
-    week-counted l.week false (take c.before.before.before.first-length.result l.window) c.count2.result c.count2.ensures l.invariant.3
+    week_counted l.week false (take c.before.before.before.first-length.result l.window) c.count2.result c.count2.ensures l.invariant.3
 
 one_more : (c : tie.Else3 invariant-loop decreases-loop) → c.before.count2.result.files ≡ c.before.before.before.before.before.before.before.before.before.loop.week.files + 1
 one_more c =
     let l = c.before.before.before.before.before.before.before.before.before.loop in
-    week-goes-on l.week false (take c.before.before.before.before.first-length.result l.window) c.before.count2.result c.before.count2.ensures c.if3.false
+    week_goes_on l.week false (take c.before.before.before.before.first-length.result l.window) c.before.count2.result c.before.count2.ensures c.if3.false
 
 none-requires : tie.Need-none-requires invariant-loop decreases-loop
 none-requires c κs = search rules
@@ -87,7 +87,7 @@ same-length-2 c = search rules
 returns-2 : tie.Need-returns-2 invariant-loop decreases-loop
 returns-2 c =
     let l = c.before.before.before.before.before.before.before.before.loop in
-    counted_possible (week-counted l.week true (take l.n l.window) c.count.result c.count.ensures l.invariant.3)
+    counted_possible (week_counted l.week true (take l.n l.window) c.count.result c.count.ensures l.invariant.3)
 
 slice-reshare-prefix-count-2 : tie.Need-slice-reshare-prefix-count-2 invariant-loop decreases-loop
 slice-reshare-prefix-count-2 c = in_window c.before

@@ -2,11 +2,11 @@
 use Rattle.std.proofs.Common.{ap, ◌∙◌, to_z-of_z, w64, to_z}
 use borrow.Author.Rules.{sfits_of}
 use Rattle.grid.specs.Area.{wrapped}
-use Rattle.area.proofs.AnswerLaws.{filled-contour}
+use Rattle.area.proofs.AnswerLaws.{filled_contour}
 use Rattle.area.proofs.inner.doubled_area.Goals as goal
 
 pub total-requires : goal.total-requires
-total-requires c = filled-contour c.args.points.now c.requires
+total-requires c = filled_contour c.args.points.now c.requires
 
 pub returns : goal.returns
 unfolding wrapped

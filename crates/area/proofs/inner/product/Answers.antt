@@ -3,12 +3,12 @@ use Rattle.std.proofs.Common.{◌*ℤ◌, ◌∙◌, ap₂, w64}
 use Rattle.integers.specs.Bound.{In}
 use Rattle.integers.proofs.Bound.{in_fits, in_eq, in_mul, back, back_in}
 use Rattle.grid.specs.Limits.{limit}
-use Rattle.grid.proofs.LimitLaws.{on-grid-in, on_grid_back}
+use Rattle.grid.proofs.LimitLaws.{on_grid_in, on_grid_back}
 use Rattle.area.proofs.inner.product.Goals as goal
 
 -- the coordinate, widened
 x_in : (c : goal.After-wide) → In limit c.wide.result
-x_in c = let e = c.requires.0 in in_eq (c.wide.ensures ∙ on_grid_back _ e) (on-grid-in limit _ e)
+x_in c = let e = c.requires.0 in in_eq (c.wide.ensures ∙ on_grid_back _ e) (on_grid_in limit _ e)
 
 pub overflow_mul-result : goal.overflow_mul-result
 unfolding limit

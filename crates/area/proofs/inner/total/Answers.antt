@@ -7,7 +7,7 @@ use Rattle.integers.proofs.Bound.{in_eq, in_more}
 use Rattle.grid.specs.Limits.{limit, all_on_grid}
 use Rattle.area.specs.Shares.{share}
 use Rattle.area.proofs.ShareLaws.{share_within}
-use Rattle.area.proofs.Sums.{gathered-few, gathered-ends, gathered_more, gathered_all}
+use Rattle.area.proofs.Sums.{gathered_few, gathered_ends, gathered_more, gathered_all}
 use Rattle.area.proofs.inner.total.Goals as goal
 
 -- a share is small enough to be added
@@ -28,7 +28,7 @@ many_3 : (c : goal.After-added-sum) → 3 ≤ c.args.n
 many_3 c = omega (arith, c.if-n-lt3.false)
 
 pub returns-then-n-lt3 : goal.returns-then-n-lt3
-returns-then-n-lt3 c = gathered-few c.requires.0 c.if-n-lt3.true
+returns-then-n-lt3 c = gathered_few c.requires.0 c.if-n-lt3.true
 
 pub overflow_sub-n : goal.overflow_sub-n
 overflow_sub-n c = omega (arith, many c)
@@ -63,7 +63,7 @@ overflow_sub-i c = omega (arith, many_3 c)
 
 pub loop-i-init : goal.loop-i-init
 loop-i-init c =
-    gathered-ends c.requires.0 c.added.result c.added-sum.result (omega (arith, many_3 c))
+    gathered_ends c.requires.0 c.added.result c.added-sum.result (omega (arith, many_3 c))
     (c.added.ensures ∙ ap (λ (z : ℤ). mod64 (pos 0 +ℤ z)) (to_z-of_z {w = w64} (sfits_of c.share.type_inv) ∙ c.share.ensures))
     (c.added-sum.ensures ∙ ap (λ (z : ℤ). mod64 (pos c.added.result +ℤ z)) (to_z-of_z {w = w64} (sfits_of c.share-2.type_inv) ∙ c.share-2.ensures))
 

@@ -1,23 +1,23 @@
 -- `buffer::contours::contour` meets its contract.
 use mathlib.Core.Path.{◌∙◌}
 use Rattle.rows.specs.Parts.{part}
-use Rattle.buffer.proofs.PartLaws.{contour-refused, contour-absent, contour_there, contour-named}
+use Rattle.buffer.proofs.PartLaws.{contour_refused, contour_absent, contour_there, contour_named}
 use Rattle.buffer.proofs.contours.contour.Goals as goal
 
 pub returns-then-refused-ne0 : goal.returns-then-refused-ne0
 returns-then-refused-ne0 c =
     let s = c.args in
-    contour-refused (part s.points) s.ranges.now s.k _ c.refused.ensures c.if-refused-ne0.true
+    contour_refused (part s.points) s.ranges.now s.k _ c.refused.ensures c.if-refused-ne0.true
 
 pub returns-then-ranges-k : goal.returns-then-ranges-k
 returns-then-ranges-k c =
     let s = c.args in
-    contour-absent (part s.points) s.ranges.now s.k _ c.refused.ensures c.if-refused-ne0.false c.if-ranges-k.true
+    contour_absent (part s.points) s.ranges.now s.k _ c.refused.ensures c.if-refused-ne0.false c.if-ranges-k.true
 
 pub named-requires : goal.named-requires
 named-requires c =
     let s = c.args in
-    contour-named s.points.now s.ranges.now s.k _ c.refused.ensures c.if-refused-ne0.false c.if-ranges-k.false
+    contour_named s.points.now s.ranges.now s.k _ c.refused.ensures c.if-refused-ne0.false c.if-ranges-k.false
 
 pub returns : goal.returns
 returns c =

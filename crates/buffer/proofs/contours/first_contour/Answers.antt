@@ -1,7 +1,7 @@
 -- `buffer::contours::first_contour` meets its contract.
 use mathlib.Core.Path.{◌∙◌}
 use Rattle.rows.specs.Parts.{part}
-use Rattle.buffer.proofs.PartLaws.{first_there, first_refused, first-loose}
+use Rattle.buffer.proofs.PartLaws.{first_there, first_refused, first_loose}
 use Rattle.buffer.proofs.contours.first_contour.Goals as goal
 
 pub returns-then-ranges-ne0 : goal.returns-then-ranges-ne0
@@ -17,4 +17,4 @@ returns-then-domain-ne0 c =
 pub returns : goal.returns
 returns c =
     let s = c.args in
-    first-loose (part s.points) s.ranges.now c.if-ranges-ne0.false _ c.domain.ensures c.if-domain-ne0.false
+    first_loose (part s.points) s.ranges.now c.if-ranges-ne0.false _ c.domain.ensures c.if-domain-ne0.false

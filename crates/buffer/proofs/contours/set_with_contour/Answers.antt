@@ -6,7 +6,7 @@ use Rattle.grid.specs.Limits.{limit}
 use Rattle.grid.specs.Domain.{domain}
 use Rattle.buffer.specs.Sets.{whole}
 use Rattle.buffer.proofs.SpanLaws.{one_movable}
-use Rattle.buffer.proofs.AnswerLaws.{stored-told}
+use Rattle.buffer.proofs.AnswerLaws.{stored_told}
 use Rattle.buffer.proofs.contours.set_with_contour.Goals as goal
 
 pub contours-requires : goal.contours-requires
@@ -16,5 +16,5 @@ pub returns : goal.returns
 returns c =
     let s = c.args in
     c.contours.ensures
-    ∙ stored-told s.contour.now (whole s.contour.now ∷ []) [] s.out.now s.records.now []
+    ∙ stored_told s.contour.now (whole s.contour.now ∷ []) [] s.out.now s.records.now []
     (domain limit s.contour.now) tt _ c.domain-refusal.ensures

@@ -3,7 +3,7 @@ use mathlib.Core.Path.{◌∙◌}
 use mathlib.Core.List.{[]}
 use Rattle.buffer.specs.Spans.{spans}
 use Rattle.buffer.specs.Contours as C
-use Rattle.buffer.proofs.AnswerLaws.{stored-told}
+use Rattle.buffer.proofs.AnswerLaws.{stored_told}
 use Rattle.buffer.proofs.PackLaws.{shape_movable}
 use Rattle.buffer.proofs.contours.set_with_shape.Goals as goal
 
@@ -16,5 +16,5 @@ pub returns : goal.returns
 returns c =
     let s = c.args in
     c.contours.ensures
-    ∙ stored-told s.points.now (spans s.ranges.now) [] s.out.now s.records.now []
+    ∙ stored_told s.points.now (spans s.ranges.now) [] s.out.now s.records.now []
     (C.refusals s.points.now s.ranges.now) tt _ c.refused-refusal.ensures

@@ -6,7 +6,7 @@ use Prim.Native.Nat.{◌+◌}
 use native.Mathlib.Omega.{arith}
 use lib.ListN.{length, get_or, drop}
 use Rattle.buffer.specs.Spans.{spans, sound_from}
-use Rattle.buffer.proofs.SpanLaws.{sound_more, sound-done}
+use Rattle.buffer.proofs.SpanLaws.{sound_more, sound_done}
 use borrow.Author.Rules.{rules}
 use Rattle.buffer.proofs.ranges.sound.Goals as goal
 
@@ -26,4 +26,4 @@ pub returns : goal.returns
 returns c =
     let rows = c.args.ranges.now in
     let done : c.loop-i.i ≡ length rows = omega arith in
-    c.joins.ensures ∙ sym (c.loop-i.invariant.1 ∙ sound-done c.args.count c.loop-i.all c.loop-i.at c.loop-i.i rows done)
+    c.joins.ensures ∙ sym (c.loop-i.invariant.1 ∙ sound_done c.args.count c.loop-i.all c.loop-i.at c.loop-i.i rows done)

@@ -6,7 +6,7 @@ use native.Mathlib.Omega.{arith}
 use lib.ListN.{length, get_or, drop}
 use Rattle.buffer.specs.declared.ranges.Span.{Span}
 use Rattle.buffer.specs.Spans.{sound_from}
-use Rattle.buffer.proofs.SpanLaws.{spans-more, spans-done}
+use Rattle.buffer.proofs.SpanLaws.{spans_more, spans_done}
 use Rattle.buffer.proofs.ranges.sound_spans.Goals as goal
 
 -- past the end of a row
@@ -18,7 +18,7 @@ loop-i-preserved c =
     let l = c.args.ranges.now in
     let n = c.args.count in (
       omega (arith, c.loop-i-test.true),
-      c.loop-i.invariant.1 ∙ spans-more n c.loop-i.all c.loop-i.at c.loop-i.i l none c.loop-i-test.true
+      c.loop-i.invariant.1 ∙ spans_more n c.loop-i.all c.loop-i.at c.loop-i.i l none c.loop-i-test.true
           ∙ ap (λ (b : Bool). b && sound_from (get_or l c.loop-i.i none).end (drop (c.loop-i.i + 1) l) n) (sym c.joins-all.ensures),
     )
 
@@ -26,4 +26,4 @@ pub returns : goal.returns
 returns c =
     let l = c.args.ranges.now in
     let done : c.loop-i.i ≡ length l = omega arith in
-    c.joins.ensures ∙ sym (c.loop-i.invariant.1 ∙ spans-done c.args.count c.loop-i.all c.loop-i.at c.loop-i.i l done)
+    c.joins.ensures ∙ sym (c.loop-i.invariant.1 ∙ spans_done c.args.count c.loop-i.all c.loop-i.at c.loop-i.i l done)

@@ -6,7 +6,7 @@ use Rattle.grid.specs.Limits.{limit}
 use Rattle.grid.specs.Domain.{domain}
 use Rattle.buffer.specs.Sets.{whole, every}
 use Rattle.buffer.proofs.SpanLaws.{one_movable}
-use Rattle.buffer.proofs.AnswerLaws.{stored-told}
+use Rattle.buffer.proofs.AnswerLaws.{stored_told}
 use Rattle.buffer.proofs.shapes.set_with_contour.Goals as goal
 
 pub shapes-requires : goal.shapes-requires
@@ -17,5 +17,5 @@ returns c =
     let s = c.args in
     let one = whole s.contour.now ∷ [] in
     c.shapes.ensures
-    ∙ stored-told s.contour.now one (every one ∷ []) s.out.now s.records.now s.groups.now
+    ∙ stored_told s.contour.now one (every one ∷ []) s.out.now s.records.now s.groups.now
     (domain limit s.contour.now) tt _ c.domain-refusal.ensures

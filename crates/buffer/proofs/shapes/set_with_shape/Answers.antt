@@ -6,7 +6,7 @@ use Rattle.buffer.specs.Spans.{spans}
 use Rattle.buffer.specs.Sets.{every}
 use Rattle.buffer.specs.Contours as C
 use Rattle.buffer.proofs.SpanLaws.{one_movable}
-use Rattle.buffer.proofs.AnswerLaws.{stored-told}
+use Rattle.buffer.proofs.AnswerLaws.{stored_told}
 use Rattle.buffer.proofs.PackLaws.{shape_movable}
 use Rattle.buffer.proofs.shapes.set_with_shape.Goals as goal
 
@@ -19,5 +19,5 @@ pub returns : goal.returns
 returns c =
     let s = c.args in
     c.shapes.ensures
-    ∙ stored-told s.points.now (spans s.ranges.now) (every s.ranges.now ∷ []) s.out.now s.records.now s.groups.now
+    ∙ stored_told s.points.now (spans s.ranges.now) (every s.ranges.now ∷ []) s.out.now s.records.now s.groups.now
     (C.refusals s.points.now s.ranges.now) tt _ c.refused-refusal.ensures

@@ -6,7 +6,7 @@ use lib.IntN.{ℤ}
 use lib.Seq.{length-take-le}
 use Rattle.clean.specs.Outcome.{Lent, lent, refusal}
 use Rattle.clean.specs.Promises.{InDomainWithRoom}
-use Rattle.clean.proofs.OutcomeLaws.{accepted, outcome-refused, ready_parts, joined}
+use Rattle.clean.proofs.OutcomeLaws.{accepted, outcome_refused, ready_parts, joined}
 use Rattle.clean.proofs.cleaning.clean.Goals as goal
 
 -- what is not refused has room everywhere
@@ -14,7 +14,7 @@ fits : (row : List ℤ) (l : Lent) {refused : ℕ} → refused ≡ refusal row l
 fits row l e h = accepted row l (sym e ∙ h)
 
 pub returns-then-refused-ne0 : goal.returns-then-refused-ne0
-returns-then-refused-ne0 c = outcome-refused _ _ _ _ c.refusal-refused.ensures c.if-refused-ne0.true
+returns-then-refused-ne0 c = outcome_refused _ _ _ _ c.refusal-refused.ensures c.if-refused-ne0.true
 
 pub slice_bounds-sweep-end : goal.slice_bounds-sweep-end
 slice_bounds-sweep-end c =

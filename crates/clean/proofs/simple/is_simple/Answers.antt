@@ -4,10 +4,10 @@ use Rattle.replies.specs.Ladder.{first_of}
 use Rattle.grid.specs.Limits.{limit}
 use Rattle.grid.specs.Domain.{domain}
 use Rattle.grid.proofs.DomainLaws.{in_domain}
-use Rattle.replies.proofs.VerdictLaws.{verdict-refused, verdict-given}
+use Rattle.replies.proofs.VerdictLaws.{verdict_refused, verdict_given}
 use Rattle.ring.specs.declared.Rule.TheVariants.{Collinear}
 use Rattle.clean.specs.Verdicts.{simple}
-use Rattle.clean.proofs.LookLaws.{box-passes}
+use Rattle.clean.proofs.LookLaws.{box_passes}
 use Rattle.clean.proofs.simple.is_simple.Goals as goal
 
 -- the row is not refused
@@ -28,7 +28,7 @@ given_4 c = sym c.domain-refusal.ensures ∙ c.if-refusal-ne0.false
 
 pub returns-then-refusal-ne0 : goal.returns-then-refusal-ne0
 unfolding simple
-returns-then-refusal-ne0 c = verdict-refused _ _ _ c.domain-refusal.ensures c.if-refusal-ne0.true
+returns-then-refusal-ne0 c = verdict_refused _ _ _ c.domain-refusal.ensures c.if-refusal-ne0.true
 
 pub is_box-requires : goal.is_box-requires
 is_box-requires c = in_domain _ (given c)
@@ -37,11 +37,11 @@ pub returns-then-is_box : goal.returns-then-is_box
 unfolding simple
 returns-then-is_box c =
     let row = c.args.points.now in
-    verdict-given _ _ _ (given_2 c) (box-passes row (in_domain row (given_2 c)) Collinear (sym c.is_box.ensures ∙ c.if-is_box.true))
+    verdict_given _ _ _ (given_2 c) (box_passes row (in_domain row (given_2 c)) Collinear (sym c.is_box.ensures ∙ c.if-is_box.true))
 
 pub all_turn-requires : goal.all_turn-requires
 all_turn-requires c = given_3 c
 
 pub returns : goal.returns
 unfolding simple
-returns c = verdict-given _ _ _ (given_4 c) c.all_turn.ensures
+returns c = verdict_given _ _ _ (given_4 c) c.all_turn.ensures

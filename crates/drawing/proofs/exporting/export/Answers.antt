@@ -3,7 +3,7 @@ use mathlib.Core.Path.{sym, ◌∙◌}
 use native.Mathlib.Omega.{arith}
 use borrow.Author.Rules.{rules}
 use Rattle.grid.specs.Limits.{limit, narrow, most}
-use Rattle.drawing.proofs.ExportLaws.{Exporting, export-refused, export_few, export_cramped, export_contours, export_places, export_done}
+use Rattle.drawing.proofs.ExportLaws.{Exporting, export_refused, export_few, export_cramped, export_contours, export_places, export_done}
 use Rattle.drawing.proofs.exporting.export.Goals as goal
 
 -- the narrow grid lies within the limit
@@ -50,7 +50,7 @@ pub returns-then-refusal-ne0 : goal.returns-then-refusal-ne0
 unfolding narrow
 returns-then-refusal-ne0 c =
     let s = c.args in
-    export-refused s.points.now s.ranges.now s.kinds.now s.floats.now _ c.contours-refusal.ensures
+    export_refused s.points.now s.ranges.now s.kinds.now s.floats.now _ c.contours-refusal.ensures
     _ c.refused.ensures c.if-refusal-ne0.true
 
 pub overflow_add-commands : goal.overflow_add-commands

@@ -32,17 +32,17 @@ module _ (n : ℕ) (h : n ≤ narrow) where
   unfolding narrow
   few = omega arith
 
-  steps-fit : SFits w32 (pos n)
-  steps-fit = sfits_of few
+  steps_fit : SFits w32 (pos n)
+  steps_fit = sfits_of few
 
-  steps-are : to_z w32 n ≡ pos n
-  steps-are = to_z_pos w32 few
+  steps_are : to_z w32 n ≡ pos n
+  steps_are = to_z_pos w32 few
 
   minus_is : pos 0 -ℤ to_z w32 n ≡ neg_ℤ (pos n)
-  minus_is = ap (λ (z : ℤ). pos 0 -ℤ z) steps-are ∙ +ℤ_idl (neg_ℤ (pos n))
+  minus_is = ap (λ (z : ℤ). pos 0 -ℤ z) steps_are ∙ +ℤ_idl (neg_ℤ (pos n))
 
-  minus-fits : SFits w32 (pos 0 -ℤ to_z w32 n)
-  minus-fits = subst (SFits w32) (sym minus_is) (sfits_of (go n few))
+  minus_fits : SFits w32 (pos 0 -ℤ to_z w32 n)
+  minus_fits = subst (SFits w32) (sym minus_is) (sfits_of (go n few))
     where
       go : (m : ℕ) → m < 2147483648 → mag (neg_ℤ (pos m)) < 2147483648
       go zero l = omega arith
@@ -58,19 +58,19 @@ pub steps-requires : goal.steps-requires
 steps-requires c = (below c).small
 
 pub overflow_cast-result : goal.overflow_cast-result
-overflow_cast-result c = steps-fit _ (few_below c)
+overflow_cast-result c = steps_fit _ (few_below c)
 
 pub overflow_sub-result : goal.overflow_sub-result
-overflow_sub-result c = minus-fits _ (few_below c)
+overflow_sub-result c = minus_fits _ (few_below c)
 
 pub steps-requires-else-v : goal.steps-requires-else-v
 steps-requires-else-v c = (rest c).small
 
 pub overflow_cast-result-else-v : goal.overflow_cast-result-else-v
-overflow_cast-result-else-v c = steps-fit _ (few_rest c)
+overflow_cast-result-else-v c = steps_fit _ (few_rest c)
 
 pub returns-then-v : goal.returns-then-v
-returns-then-v c = to_z-of_z (minus-fits _ (few_below c)) ∙ minus_is _ (few_below c) ∙ ap (signed true) c.steps.ensures ∙ (below_2 c).is
+returns-then-v c = to_z-of_z (minus_fits _ (few_below c)) ∙ minus_is _ (few_below c) ∙ ap (signed true) c.steps.ensures ∙ (below_2 c).is
 
 pub returns-else-v : goal.returns-else-v
-returns-else-v c = steps-are _ (few_rest c) ∙ ap pos c.steps-else-v.ensures ∙ (rest_2 c).is
+returns-else-v c = steps_are _ (few_rest c) ∙ ap pos c.steps-else-v.ensures ∙ (rest_2 c).is

@@ -8,7 +8,7 @@ use lib.Signed.{lt_z}
 use mir.Syntax.{w32}
 use mir.Val.{SFits, to_z, of_z}
 use mir.Facts.{to_z-of_z, sfits_lit}
-use Rattle.integers.proofs.Equal.{bits-eq}
+use Rattle.integers.proofs.Equal.{bits_eq}
 use Rattle.grid.specs.Limits.{limit}
 use Rattle.grid.specs.declared.Point.{Point}
 use Rattle.grid.specs.Points.{at}
@@ -16,8 +16,8 @@ use Rattle.grid.specs.Edges.{between, turn}
 use Rattle.grid.proofs.PointLaws.{at_on}
 use Rattle.path.specs.Contains.{above, crosses}
 use Rattle.path.specs.Locate.{on_edge}
-use Rattle.path.proofs.ContainsLaws.{crosses-up, crosses-down}
-use Rattle.path.proofs.OnEdge.{on_edge_swap, turn-met, turn-missed, turn_counts}
+use Rattle.path.proofs.ContainsLaws.{crosses_up, crosses_down}
+use Rattle.path.proofs.OnEdge.{on_edge_swap, turn_met, turn_missed, turn_counts}
 use Rattle.path.proofs.LocateLaws.{place_by, untouched_met, untouched_above, untouched_falling, untouched_low, untouched_done}
 use Rattle.path.proofs.inner.location_from.Goals as goal
 
@@ -43,7 +43,7 @@ module _ (p a b : Point) {q r : Point} {up : Bool} {z : ℤ} (start : q ≡ a) (
         high = h;
         low = low h;
         turned = k;
-        counts = ap (lt_z (pos 0)) (to_z-of_z fits ∙ k) ∙ turn_counts p a b ∙ crosses-up p a b (low h) h;
+        counts = ap (lt_z (pos 0)) (to_z-of_z fits ∙ k) ∙ turn_counts p a b ∙ crosses_up p a b (low h) h;
       }
 
   falling : {first : Bool} → up ≡ above p r → up ≡ false → first ≡ above p q → first ≡ true → z ≡ turn (between r q) (between q p) → Falling p a b z
@@ -55,7 +55,7 @@ module _ (p a b : Point) {q r : Point} {up : Bool} {z : ℤ} (start : q ≡ a) (
         low = l;
         high = h;
         turned = k;
-        counts = ap (lt_z (pos 0)) (to_z-of_z fits ∙ k) ∙ turn_counts p b a ∙ crosses-down p a b h l;
+        counts = ap (lt_z (pos 0)) (to_z-of_z fits ∙ k) ∙ turn_counts p b a ∙ crosses_down p a b h l;
       }
 
 pub loop-i-init : goal.loop-i-init
@@ -77,7 +77,7 @@ returns-then-turn-eq0 c =
     let h = rising c.args.p (at c.args.points.now c.loop-i.a) (at c.args.points.now c.loop-i.i) c.point_at-start.ensures c.point_at-end.ensures (sfits_of c.turn_on-turn.type_inv)
     c.lies_above.ensures c.if-lies_above.true (c.loop-i.invariant.not_above c.loop-i-test.true) c.turn_on-turn.ensures in
     untouched_met c.args.points.now c.args.p c.requires.0 c.loop-i.invariant c.loop-i-test.true
-    (turn-met _ _ _ h.low h.high (sym h.turned ∙ bits-eq w32 {b = pos 0} (sfits_of c.turn_on-turn.type_inv) (sfits_lit tt) c.if-turn-eq0.true))
+    (turn_met _ _ _ h.low h.high (sym h.turned ∙ bits_eq w32 {b = pos 0} (sfits_of c.turn_on-turn.type_inv) (sfits_lit tt) c.if-turn-eq0.true))
 
 pub overflow_add-i : goal.overflow_add-i
 overflow_add-i c = omega (arith, c.loop-i-test.true, c.ranges.n.fits)
@@ -97,7 +97,7 @@ loop-i-preserved-then-lies_above c =
     let h = rising c.args.p (at c.args.points.now c.loop-i.a) (at c.args.points.now c.loop-i.i) c.point_at-start.ensures c.point_at-end.ensures (sfits_of c.turn_on-turn.type_inv)
     c.lies_above.ensures c.if-lies_above.true (c.loop-i.invariant.not_above c.loop-i-test.true) c.turn_on-turn.ensures in
     untouched_above c.args.points.now c.args.p c.requires.0 c.loop-i.invariant c.loop-i-test.true
-    (turn-missed _ _ _ h.low h.high (λ e. c.if-turn-eq0.false (ap (of_z w32) (h.turned ∙ e)))) h.counts h.high c.next_across-i.ensures
+    (turn_missed _ _ _ h.low h.high (λ e. c.if-turn-eq0.false (ap (of_z w32) (h.turned ∙ e)))) h.counts h.high c.next_across-i.ensures
 
 pub turn_on-turn-requires-then-lies_above-2 : goal.turn_on-turn-requires-then-lies_above-2
 turn_on-turn-requires-then-lies_above-2 c =
@@ -109,7 +109,7 @@ returns-then-turn-eq0-2 c =
     let h = falling c.args.p (at c.args.points.now c.loop-i.a) (at c.args.points.now c.loop-i.i) c.point_at-start.ensures c.point_at-end.ensures (sfits_of c.turn_on-turn-then-lies_above-2.type_inv)
     c.lies_above.ensures c.if-lies_above.false c.lies_above-else-lies_above.ensures c.if-lies_above-2.true c.turn_on-turn-then-lies_above-2.ensures in
     untouched_met c.args.points.now c.args.p c.requires.0 c.loop-i.invariant c.loop-i-test.true
-    (on_edge_swap _ _ _ ∙ turn-met _ _ _ h.low h.high (sym h.turned ∙ bits-eq w32 {b = pos 0} (sfits_of c.turn_on-turn-then-lies_above-2.type_inv) (sfits_lit tt) c.if-turn-eq0-2.true))
+    (on_edge_swap _ _ _ ∙ turn_met _ _ _ h.low h.high (sym h.turned ∙ bits_eq w32 {b = pos 0} (sfits_of c.turn_on-turn-then-lies_above-2.type_inv) (sfits_lit tt) c.if-turn-eq0-2.true))
 
 pub overflow_add-i-then-lies_above-2 : goal.overflow_add-i-then-lies_above-2
 overflow_add-i-then-lies_above-2 c = omega (arith, c.loop-i-test.true, c.ranges.n.fits)
@@ -129,7 +129,7 @@ loop-i-preserved-then-lies_above-2 c =
     let h = falling c.args.p (at c.args.points.now c.loop-i.a) (at c.args.points.now c.loop-i.i) c.point_at-start.ensures c.point_at-end.ensures (sfits_of c.turn_on-turn-then-lies_above-2.type_inv)
     c.lies_above.ensures c.if-lies_above.false c.lies_above-else-lies_above.ensures c.if-lies_above-2.true c.turn_on-turn-then-lies_above-2.ensures in
     untouched_falling c.args.points.now c.args.p c.requires.0 c.loop-i.invariant c.loop-i-test.true
-    (on_edge_swap _ _ _ ∙ turn-missed _ _ _ h.low h.high (λ e. c.if-turn-eq0-2.false (ap (of_z w32) (h.turned ∙ e)))) h.counts h.low c.next_reached-i.ensures
+    (on_edge_swap _ _ _ ∙ turn_missed _ _ _ h.low h.high (λ e. c.if-turn-eq0-2.false (ap (of_z w32) (h.turned ∙ e)))) h.counts h.low c.next_reached-i.ensures
 
 pub touches-requires : goal.touches-requires
 touches-requires c =

@@ -7,7 +7,7 @@ use Rattle.grid.specs.Limits.{limit}
 use Rattle.grid.specs.Points.{at}
 use Rattle.grid.proofs.PointLaws.{at_on}
 use Rattle.path.specs.Contains.{above, meets_right}
-use Rattle.path.proofs.ContainsLaws.{crosses-up, crosses-down, changing-next, changing-done}
+use Rattle.path.proofs.ContainsLaws.{crosses_up, crosses_down, changing_next, changing_done}
 use Rattle.path.proofs.inner.parity_from.Goals as goal
 
 -- the side of the edge's end
@@ -61,9 +61,9 @@ unfolding xor
 loop-i-preserved-then-lies_above c =
     let row = c.args.points.now in
     let p = c.args.p in
-    changing-next row p c.requires.0 c.loop-i.invariant c.loop-i-test.true
+    changing_next row p c.requires.0 c.loop-i.invariant c.loop-i-test.true
     (c.meets_right-odd.ensures ∙ ap₂ (meets_right p) c.point_at-start.ensures c.point_at-end.ensures
-    ∙ crosses-up p (at row c.loop-i.a) (at row c.loop-i.i) (not-true _ (sym (other c) ∙ c.if-lies_above.true)) (sym (told c) ∙ c.if-lies_above.true))
+    ∙ crosses_up p (at row c.loop-i.a) (at row c.loop-i.i) (not-true _ (sym (other c) ∙ c.if-lies_above.true)) (sym (told c) ∙ c.if-lies_above.true))
     (sym (told c) ∙ c.if-lies_above.true) c.next_across-i.ensures
 
 pub meets_right-odd-requires-else-lies_above : goal.meets_right-odd-requires-else-lies_above
@@ -88,10 +88,10 @@ unfolding xor
 loop-i-preserved c =
     let row = c.args.points.now in
     let p = c.args.p in
-    changing-next row p c.requires.0 c.loop-i.invariant c.loop-i-test.true
+    changing_next row p c.requires.0 c.loop-i.invariant c.loop-i-test.true
     (c.meets_right-odd-else-lies_above.ensures ∙ ap₂ (meets_right p) c.point_at-end.ensures c.point_at-start.ensures
-    ∙ crosses-down p (at row c.loop-i.a) (at row c.loop-i.i) (not-false _ (sym (other_2 c) ∙ c.if-lies_above.false)) (sym (told_2 c) ∙ c.if-lies_above.false))
+    ∙ crosses_down p (at row c.loop-i.a) (at row c.loop-i.i) (not-false _ (sym (other_2 c) ∙ c.if-lies_above.false)) (sym (told_2 c) ∙ c.if-lies_above.false))
     (sym (told_2 c) ∙ c.if-lies_above.false) c.next_across-i-else-lies_above.ensures
 
 pub returns : goal.returns
-returns c = changing-done c.args.points.now c.args.p c.requires.0 c.loop-i.invariant c.loop-i-test.false
+returns c = changing_done c.args.points.now c.args.p c.requires.0 c.loop-i.invariant c.loop-i-test.false

@@ -7,8 +7,8 @@ use mir.Val.{to_z, of_z}
 use Rattle.grid.specs.Limits.{limit, on_grid}
 use Rattle.grid.specs.Edges.{between, aligned}
 use Rattle.grid.proofs.LimitLaws.{on_grid_back}
-use Rattle.grid.proofs.PointLaws.{x-on, y-on}
-use Rattle.grid.proofs.EdgeLaws.{edges-short}
+use Rattle.grid.proofs.PointLaws.{x_on, y_on}
+use Rattle.grid.proofs.EdgeLaws.{edges_short}
 use Rattle.path.specs.Locate.{amid}
 use Rattle.path.proofs.OnEdge.{what_is_tested}
 use Rattle.path.proofs.inner.touches.Goals as goal
@@ -33,8 +33,8 @@ told : (c : goal.After-aligned) →
     ≡ (amid c.args.a.y c.args.b.y c.args.p.y && amid c.args.a.x c.args.b.x c.args.p.x)
 told c =
     ap₂ ◌&&◌
-    (c.amid.ensures ∙ passed _ _ _ (y-on limit _ c.requires.1) (y-on limit _ c.requires.2) (y-on limit _ c.requires.0))
-    (c.amid-2.ensures ∙ passed _ _ _ (x-on limit _ c.requires.1) (x-on limit _ c.requires.2) (x-on limit _ c.requires.0))
+    (c.amid.ensures ∙ passed _ _ _ (y_on limit _ c.requires.1) (y_on limit _ c.requires.2) (y_on limit _ c.requires.0))
+    (c.amid-2.ensures ∙ passed _ _ _ (x_on limit _ c.requires.1) (x_on limit _ c.requires.2) (x_on limit _ c.requires.0))
 
 -- whether p lies between the ends
 told_2 : (c : goal.Else-amid) →
@@ -42,12 +42,12 @@ told_2 : (c : goal.Else-amid) →
     ≡ (amid c.args.a.y c.args.b.y c.args.p.y && amid c.args.a.x c.args.b.x c.args.p.x)
 told_2 c =
     ap₂ ◌&&◌
-    (c.amid.ensures ∙ passed _ _ _ (y-on limit _ c.requires.1) (y-on limit _ c.requires.2) (y-on limit _ c.requires.0))
-    (c.amid-2.ensures ∙ passed _ _ _ (x-on limit _ c.requires.1) (x-on limit _ c.requires.2) (x-on limit _ c.requires.0))
+    (c.amid.ensures ∙ passed _ _ _ (y_on limit _ c.requires.1) (y_on limit _ c.requires.2) (y_on limit _ c.requires.0))
+    (c.amid-2.ensures ∙ passed _ _ _ (x_on limit _ c.requires.1) (x_on limit _ c.requires.2) (x_on limit _ c.requires.0))
 
 pub aligned-requires : goal.aligned-requires
 aligned-requires c =
-    rw (c.between.ensures, c.between-then-amid.ensures) (edges-short limit c.args.a c.args.b c.args.a c.args.p c.requires.1 c.requires.2 c.requires.1 c.requires.0)
+    rw (c.between.ensures, c.between-then-amid.ensures) (edges_short limit c.args.a c.args.b c.args.a c.args.p c.requires.1 c.requires.2 c.requires.1 c.requires.0)
 
 pub returns-then-amid : goal.returns-then-amid
 returns-then-amid c =

@@ -3,7 +3,7 @@ use mathlib.Core.Path.{◌≡◌, sym, ◌∙◌}
 use Prim.Native.Nat.{◌*◌, ◌<◌, ◌≤◌, ◌^◌}
 use native.Mathlib.Omega.{arith}
 use lib.ListN.{length}
-use Rattle.ring.specs.Walk.{unmarked, mark_at, to-go}
+use Rattle.ring.specs.Walk.{unmarked, mark_at, to_go}
 use Rattle.ring.specs.Rule.{by, goes}
 use Rattle.ring.proofs.Loop.{Known, known, turn_start, turn_ends, turn_stay, stay_less, turn_removable, turn_go, go_less, turn_fall}
 use Rattle.ring.proofs.inner.round.Goals as goal
@@ -146,21 +146,21 @@ due_4 c = sym (head_10 c).0.read ∙ c.loop-mark-test.true
 
 -- what the rule said
 said : (c : goal.After-unmarked) →
-    c.goes.result ≡ to-go (goes (by c.args.collinear) c.args.points.now) c.loop-mark.mark c.loop-mark.at
+    c.goes.result ≡ to_go (goes (by c.args.collinear) c.args.points.now) c.loop-mark.mark c.loop-mark.at
 said c =
     let h = (head_8 c).0.at in
     rw (c.wide-before.ensures ∙ h.prev_is, c.wide-after.ensures ∙ h.next_is) at c.goes.ensures
 
 -- what the rule said
 said_2 : (c : goal.After-slice_known-then-goes-3-1) →
-    c.goes.result ≡ to-go (goes (by c.args.collinear) c.args.points.now) c.loop-mark.mark c.loop-mark.at
+    c.goes.result ≡ to_go (goes (by c.args.collinear) c.args.points.now) c.loop-mark.mark c.loop-mark.at
 said_2 c =
     let h = (head_9 c).0.at in
     rw (c.wide-before.ensures ∙ h.prev_is, c.wide-after.ensures ∙ h.next_is) at c.goes.ensures
 
 -- what the rule said
 said_3 : (c : goal.Else-goes) →
-    c.goes.result ≡ to-go (goes (by c.args.collinear) c.args.points.now) c.loop-mark.mark c.loop-mark.at
+    c.goes.result ≡ to_go (goes (by c.args.collinear) c.args.points.now) c.loop-mark.mark c.loop-mark.at
 said_3 c =
     let h = (head_10 c).0.at in
     rw (c.wide-before.ensures ∙ h.prev_is, c.wide-after.ensures ∙ h.next_is) at c.goes.ensures

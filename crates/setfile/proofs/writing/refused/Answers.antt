@@ -2,18 +2,18 @@
 use Rattle.std.proofs.Common.{rules}
 use Rattle.grid.specs.Limits.{limit, narrow}
 use Rattle.setfile.proofs.MeasureLaws.{some_unfilled}
-use Rattle.setfile.proofs.RefusedLaws.{refused-odd, refused-long, refused-set, refused-carry, refused_none}
+use Rattle.setfile.proofs.RefusedLaws.{refused_odd, refused_long, refused-set, refused_carry, refused_none}
 use Rattle.setfile.proofs.writing.refused.Goals as goal
 
 pub returns-then-points-eq1 : goal.returns-then-points-eq1
 returns-then-points-eq1 c =
     let s = c.args in
-    refused-odd s.points.now s.contours.now s.shapes.now c.if-points-eq1.true
+    refused_odd s.points.now s.contours.now s.shapes.now c.if-points-eq1.true
 
 pub returns-then-file_length-gt-MOST_BYTES : goal.returns-then-file_length-gt-MOST_BYTES
 returns-then-file_length-gt-MOST_BYTES c =
     let s = c.args in
-    refused-long s.points.now s.contours.now s.shapes.now c.if-points-eq1.false _ c.file_length.ensures c.if-file_length-gt-MOST_BYTES.true
+    refused_long s.points.now s.contours.now s.shapes.now c.if-points-eq1.false _ c.file_length.ensures c.if-file_length-gt-MOST_BYTES.true
 
 -- the narrow grid lies within the limit
 pub shapes-set-requires : goal.shapes-set-requires
@@ -31,7 +31,7 @@ pub returns-then-contours-filled : goal.returns-then-contours-filled
 unfolding narrow
 returns-then-contours-filled c =
     let s = c.args in
-    refused-carry s.points.now s.contours.now s.shapes.now
+    refused_carry s.points.now s.contours.now s.shapes.now
     c.if-points-eq1.false _ c.file_length.ensures c.if-file_length-gt-MOST_BYTES.false _ c.shapes-set.ensures c.if-set-ne0.false
     _ (some_unfilled s.shapes.now _ c.longer-filled.ensures) c.if-contours-filled.true
 

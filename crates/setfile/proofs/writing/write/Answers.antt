@@ -1,7 +1,7 @@
 -- `setfile::writing::write` meets its contract: refused, no room, or the file in front of the row.
 use Rattle.std.proofs.Common.{◌≡◌, sym, ◌∙◌}
 use mathlib.Core.Bool.{false≢true}
-use Rattle.setfile.proofs.OutcomeLaws.{ripe, write-refused, write-full, write_done}
+use Rattle.setfile.proofs.OutcomeLaws.{ripe, write_refused, write_full, write_done}
 use Rattle.replies.specs.Ladder.{first_of}
 use Rattle.setfile.specs.Writing.{refusals}
 use Rattle.setfile.proofs.writing.write.Goals as goal
@@ -27,12 +27,12 @@ free_3 c = sym c.refused-refusal.ensures ∙ c.if-refusal-ne0.false
 pub returns-then-refusal-ne0 : goal.returns-then-refusal-ne0
 returns-then-refusal-ne0 c =
     let s = c.args in
-    write-refused s.points.now s.contours.now s.shapes.now s.bytes.now _ c.refused-refusal.ensures c.if-refusal-ne0.true
+    write_refused s.points.now s.contours.now s.shapes.now s.bytes.now _ c.refused-refusal.ensures c.if-refusal-ne0.true
 
 pub returns-then-bytes-length : goal.returns-then-bytes-length
 returns-then-bytes-length c =
     let s = c.args in
-    write-full s.points.now s.contours.now s.shapes.now s.bytes.now (free c) _ c.file_length-length.ensures c.if-bytes-length.true
+    write_full s.points.now s.contours.now s.shapes.now s.bytes.now (free c) _ c.file_length-length.ensures c.if-bytes-length.true
 
 pub put_file-written-requires : goal.put_file-written-requires
 put_file-written-requires c =

@@ -2,7 +2,7 @@
 use Rattle.std.proofs.Common.{rules}
 use Rattle.grid.specs.Limits.{limit}
 use Rattle.setfile.proofs.MeasureLaws.{some_long, some_unfilled}
-use Rattle.setfile.proofs.Outcome2Laws.{refused-set, refused-carry, refused_none}
+use Rattle.setfile.proofs.Outcome2Laws.{refused-set, refused_carry, refused_none}
 use Rattle.setfile.proofs.writing_2.refused.Goals as goal
 
 pub shapes-set-requires : goal.shapes-set-requires
@@ -19,7 +19,7 @@ pub returns-then-contours-long : goal.returns-then-contours-long
 unfolding limit
 returns-then-contours-long c =
     let s = c.args in
-    refused-carry s.points.now s.contours.now s.shapes.now _ c.shapes-set.ensures c.if-set-ne0.false
+    refused_carry s.points.now s.contours.now s.shapes.now _ c.shapes-set.ensures c.if-set-ne0.false
     _ _ (some_long s.contours.now 32767 _ c.longer-long.ensures) (some_unfilled s.shapes.now _ c.longer-filled.ensures) c.if-contours-long.true
 
 pub returns : goal.returns

@@ -4,7 +4,7 @@ use Rattle.replies.specs.Ladder.{first_of}
 use Rattle.grid.specs.Limits.{limit}
 use Rattle.setfile.specs.Writing2.{set_refusals}
 use Rattle.setfile.proofs.CarryLaws.{all_named}
-use Rattle.setfile.proofs.Outcome2Laws.{regular-set, ripe, write-refused, write-long, write-full, write_done}
+use Rattle.setfile.proofs.Outcome2Laws.{regular-set, ripe, write_refused, write_long, write_full, write_done}
 use Rattle.setfile.proofs.writing_2.write_2.Goals as goal
 
 -- nothing is refused before the file's length
@@ -40,7 +40,7 @@ free_5 c = sym c.refused-refusal.ensures ∙ c.if-refusal-ne0.false
 pub returns-then-refusal-ne0 : goal.returns-then-refusal-ne0
 returns-then-refusal-ne0 c =
     let s = c.args in
-    write-refused s.points.now s.contours.now s.shapes.now s.bytes.now _ c.refused-refusal.ensures c.if-refusal-ne0.true
+    write_refused s.points.now s.contours.now s.shapes.now s.bytes.now _ c.refused-refusal.ensures c.if-refusal-ne0.true
 
 pub file_length-length-requires : goal.file_length-length-requires
 file_length-length-requires c =
@@ -51,12 +51,12 @@ file_length-length-requires c =
 pub returns-then-length-gt-MOST_BYTES : goal.returns-then-length-gt-MOST_BYTES
 returns-then-length-gt-MOST_BYTES c =
     let s = c.args in
-    write-long s.points.now s.contours.now s.shapes.now s.bytes.now (free_2 c) _ c.file_length-length.ensures.0 c.if-length-gt-MOST_BYTES.true
+    write_long s.points.now s.contours.now s.shapes.now s.bytes.now (free_2 c) _ c.file_length-length.ensures.0 c.if-length-gt-MOST_BYTES.true
 
 pub returns-then-bytes-length : goal.returns-then-bytes-length
 returns-then-bytes-length c =
     let s = c.args in
-    write-full s.points.now s.contours.now s.shapes.now s.bytes.now (free_3 c) _ c.file_length-length.ensures.0 c.if-length-gt-MOST_BYTES.false c.if-bytes-length.true
+    write_full s.points.now s.contours.now s.shapes.now s.bytes.now (free_3 c) _ c.file_length-length.ensures.0 c.if-length-gt-MOST_BYTES.false c.if-bytes-length.true
 
 pub put_file-written-requires : goal.put_file-written-requires
 put_file-written-requires c =

@@ -4,17 +4,17 @@ use Rattle.replies.specs.Ladder.{first_of}
 use Rattle.grid.specs.Domain.{count}
 use Rattle.sets.specs.Outcome.{Lent, lent}
 use Rattle.sets.specs.inside.Contour.{Scratch}
-use Rattle.sets.proofs.CleanLaws.{both_sound, shapes-rungs, shapes_first, scratch-fits, shapes-each, shapes-refused, shapes-are-kept}
+use Rattle.sets.proofs.CleanLaws.{both_sound, shapes_rungs, shapes_first, scratch_fits, shapes_each, shapes_refused, shapes_are_kept}
 use Rattle.sets.proofs.cleaning.clean_shapes.Goals as goal
 
 -- what is not refused has scratch
-fits : (p : List ℤ) (cs ss : List (List ℕ)) (l : Lent) {refused : ℕ} → refused ≡ first_of (shapes-rungs p cs ss l) → refused ≡ 0 → Scratch (count p) l.next l.prev l.mark
-fits p cs ss l e h = scratch-fits p cs ss (both_sound p cs ss l) l (sym e ∙ h)
+fits : (p : List ℤ) (cs ss : List (List ℕ)) (l : Lent) {refused : ℕ} → refused ≡ first_of (shapes_rungs p cs ss l) → refused ≡ 0 → Scratch (count p) l.next l.prev l.mark
+fits p cs ss l e h = scratch_fits p cs ss (both_sound p cs ss l) l (sym e ∙ h)
 
 pub returns-then-refused-ne0 : goal.returns-then-refused-ne0
 returns-then-refused-ne0 c =
     let s = c.args in
-    shapes-refused s.points.now s.contours.now s.shapes.now (lent s.next.now s.prev.now s.mark.now s.out.now s.records.now s.groups.now) s.rule _ (shapes_first s.points.now s.contours.now s.shapes.now (lent s.next.now s.prev.now s.mark.now s.out.now s.records.now s.groups.now) _ _ _ c.refused-asked.ensures refl c.or_lacking-refused.ensures) c.if-refused-ne0.true _ c.nothing.ensures
+    shapes_refused s.points.now s.contours.now s.shapes.now (lent s.next.now s.prev.now s.mark.now s.out.now s.records.now s.groups.now) s.rule _ (shapes_first s.points.now s.contours.now s.shapes.now (lent s.next.now s.prev.now s.mark.now s.out.now s.records.now s.groups.now) _ _ _ c.refused-asked.ensures refl c.or_lacking-refused.ensures) c.if-refused-ne0.true _ c.nothing.ensures
 
 pub slice_bounds-sweep_shapes-end : goal.slice_bounds-sweep_shapes-end
 slice_bounds-sweep_shapes-end c =
@@ -49,9 +49,9 @@ slice_bounds-sweep_shapes-end-6 c =
 pub sweep_shapes-at-requires : goal.sweep_shapes-at-requires
 sweep_shapes-at-requires c =
     let s = c.args in
-    shapes-each s.points.now s.contours.now s.shapes.now (lent s.next.now s.prev.now s.mark.now s.out.now s.records.now s.groups.now) (sym (shapes_first s.points.now s.contours.now s.shapes.now (lent s.next.now s.prev.now s.mark.now s.out.now s.records.now s.groups.now) _ _ _ c.refused-asked.ensures refl c.or_lacking-refused.ensures) ∙ c.if-refused-ne0.false) (omega arith) (omega arith)
+    shapes_each s.points.now s.contours.now s.shapes.now (lent s.next.now s.prev.now s.mark.now s.out.now s.records.now s.groups.now) (sym (shapes_first s.points.now s.contours.now s.shapes.now (lent s.next.now s.prev.now s.mark.now s.out.now s.records.now s.groups.now) _ _ _ c.refused-asked.ensures refl c.or_lacking-refused.ensures) ∙ c.if-refused-ne0.false) (omega arith) (omega arith)
 
 pub returns : goal.returns
 returns c =
     let s = c.args in
-    shapes-are-kept s.points.now s.contours.now s.shapes.now (lent s.next.now s.prev.now s.mark.now s.out.now s.records.now s.groups.now) (sym (shapes_first s.points.now s.contours.now s.shapes.now (lent s.next.now s.prev.now s.mark.now s.out.now s.records.now s.groups.now) _ _ _ c.refused-asked.ensures refl c.or_lacking-refused.ensures) ∙ c.if-refused-ne0.false) (omega arith) (omega arith) s.rule c.sweep_shapes-at.result _ _ _ _ _ _ c.sweep_shapes-at.ensures.groups_after c.sweep_shapes-at.ensures.zeroed _ c.shapes_answer.ensures
+    shapes_are_kept s.points.now s.contours.now s.shapes.now (lent s.next.now s.prev.now s.mark.now s.out.now s.records.now s.groups.now) (sym (shapes_first s.points.now s.contours.now s.shapes.now (lent s.next.now s.prev.now s.mark.now s.out.now s.records.now s.groups.now) _ _ _ c.refused-asked.ensures refl c.or_lacking-refused.ensures) ∙ c.if-refused-ne0.false) (omega arith) (omega arith) s.rule c.sweep_shapes-at.result _ _ _ _ _ _ c.sweep_shapes-at.ensures.groups_after c.sweep_shapes-at.ensures.zeroed _ c.shapes_answer.ensures

@@ -3,7 +3,7 @@ use mathlib.Core.Path.{◌≡◌}
 use Prim.Native.Nat.{ℕ, ◌+◌, ◌-◌, ◌%◌, ◌<◌, ◌≤◌, max}
 use native.Mathlib.Omega.{arith}
 use native.Mathlib.Nat.{mod-lt}
-use Rattle.turned.proofs.RunLaws.{run-agrees, run-differs}
+use Rattle.turned.proofs.RunLaws.{run_agrees, run_differs}
 use Rattle.turned.proofs.inner.agree.Goals as goal
 
 -- How far a run goes: from both positions and from what agrees no further than to the end.
@@ -26,8 +26,8 @@ returns-then-r-run c =
     let ran = rw (c.round-x.ensures, c.round-y.ensures) at c.level-r.ensures in
     record {
       within = omega (arith, f.all, c.if-r-run.true);
-      agree = run-agrees s.first.now s.second.now s.n s.i s.j c.loop-k.k _ _ f.first f.second ran c.loop-k.invariant.1;
-      differ = λ h. run-differs s.first.now s.second.now s.n s.i s.j c.loop-k.k _ _ f.first f.second ran c.if-r-run.true;
+      agree = run_agrees s.first.now s.second.now s.n s.i s.j c.loop-k.k _ _ f.first f.second ran c.loop-k.invariant.1;
+      differ = λ h. run_differs s.first.now s.second.now s.n s.i s.j c.loop-k.k _ _ f.first f.second ran c.if-r-run.true;
     }
 
 pub loop-k-preserved : goal.loop-k-preserved
@@ -35,4 +35,4 @@ loop-k-preserved c =
     let s = c.args in
     let f = far s.i s.j c.loop-k-test.true c.round-x.ensures c.round-y.ensures c.larger.ensures c.larger-in-loop-k.ensures in
     let ran = rw (c.round-x.ensures, c.round-y.ensures) at c.level-r.ensures in
-    (f.all, λ x h. run-agrees s.first.now s.second.now s.n s.i s.j c.loop-k.k _ _ f.first f.second ran c.loop-k.invariant.1 x (omega (arith, c.level-r.ensures.within, c.if-r-run.false)))
+    (f.all, λ x h. run_agrees s.first.now s.second.now s.n s.i s.j c.loop-k.k _ _ f.first f.second ran c.loop-k.invariant.1 x (omega (arith, c.level-r.ensures.within, c.if-r-run.false)))

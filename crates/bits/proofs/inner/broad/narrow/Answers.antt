@@ -3,7 +3,7 @@ use Prim.Native.Nat.{◌-◌}
 use native.Mathlib.Omega.{arith}
 use Rattle.bits.specs.inside.Pens.{broad}
 use Rattle.bits.proofs.PenLaws.{wrote_none}
-use Rattle.bits.proofs.BroadLaws.{poured, poured-front, narrow_is}
+use Rattle.bits.proofs.BroadLaws.{poured, poured_front, narrow_is}
 use Rattle.bits.proofs.inner.broad.narrow.Goals as goal
 
 pub loop-width-init : goal.loop-width-init
@@ -19,7 +19,7 @@ loop-width-preserved c =
     let l = c.loop-width in
     let b = broad l.at l.kept l.width in (
       poured b (l.width - 32) l.invariant.1 l.invariant.0 (omega arith) (omega (arith, l.invariant.0.behind, l.invariant.2)) c.spell.ensures,
-      poured-front b (l.width - 32) l.invariant.1 l.invariant.0 (omega arith),
+      poured_front b (l.width - 32) l.invariant.1 l.invariant.0 (omega arith),
       l.invariant.2,
     )
 

@@ -2,7 +2,7 @@
 use mathlib.Core.Path.{◌≡◌}
 use Prim.Native.Nat.{ℕ, suc, ◌-◌, ◌*◌, ◌^◌, ◌%◌}
 use native.Mathlib.Omega.{arith}
-use Rattle.bits.proofs.CodeLaws.{half_is, whole_is, small, low-is, high_fits, high_is}
+use Rattle.bits.proofs.CodeLaws.{half_is, whole_is, small, low_is, high_fits, high_is}
 use Rattle.bits.proofs.inner.signs.signed.Goals as goal
 
 pub overflow_cast-result : goal.overflow_cast-result
@@ -47,7 +47,7 @@ pub returns-then-n-half : goal.returns-then-n-half
 returns-then-n-half c =
     let s = c.args in
     let p = c.requires in
-    low-is s.width s.n p.0 p.1 p.2 (omega (arith, half_is s.width s.n p.0 p.1 p.2, c.if-n-half.true))
+    low_is s.width s.n p.0 p.1 p.2 (omega (arith, half_is s.width s.n p.0 p.1 p.2, c.if-n-half.true))
 
 pub returns-else-n-half : goal.returns-else-n-half
 returns-else-n-half c =

@@ -1,14 +1,14 @@
 -- `buffer::inner::packing::shapes` meets its contract.
 use native.Mathlib.Omega.{arith}
 use lib.ListN.{length}
-use Rattle.buffer.proofs.PackLaws.{group-refused, group-fits, group-done}
+use Rattle.buffer.proofs.PackLaws.{group_refused, group_fits, group_done}
 use Rattle.buffer.proofs.AnswerLaws.{Fits}
 use Rattle.buffer.proofs.inner.packing.shapes.Goals as goal
 
 pub returns-then-first-ne0 : goal.returns-then-first-ne0
 returns-then-first-ne0 c =
     let s = c.args in
-    group-refused s.refusal _ s.points.now s.contours.now s.shapes.now s.out.now s.records.now s.groups.now
+    group_refused s.refusal _ s.points.now s.contours.now s.shapes.now s.out.now s.records.now s.groups.now
     c.or_room-first.ensures _ c.refused.ensures c.if-first-ne0.true
 
 -- nothing is refused, and there is room
@@ -18,7 +18,7 @@ fits : (c : goal.After-copy-arg-1) →
     s.out.now s.records.now s.groups.now
 fits c =
     let s = c.args in
-    group-fits s.refusal _ s.points.now s.contours.now s.shapes.now s.out.now s.records.now s.groups.now
+    group_fits s.refusal _ s.points.now s.contours.now s.shapes.now s.out.now s.records.now s.groups.now
     c.or_room-first.ensures c.if-first-ne0.false
 
 -- nothing is refused, and there is room
@@ -28,7 +28,7 @@ fits_2 : (c : goal.After-records-arg-1) →
     s.out.now s.records.now s.groups.now
 fits_2 c =
     let s = c.args in
-    group-fits s.refusal _ s.points.now s.contours.now s.shapes.now s.out.now s.records.now s.groups.now
+    group_fits s.refusal _ s.points.now s.contours.now s.shapes.now s.out.now s.records.now s.groups.now
     c.or_room-first.ensures c.if-first-ne0.false
 
 -- nothing is refused, and there is room
@@ -38,7 +38,7 @@ fits_3 : (c : goal.After-records-arg-2-1) →
     s.out.now s.records.now s.groups.now
 fits_3 c =
     let s = c.args in
-    group-fits s.refusal _ s.points.now s.contours.now s.shapes.now s.out.now s.records.now s.groups.now
+    group_fits s.refusal _ s.points.now s.contours.now s.shapes.now s.out.now s.records.now s.groups.now
     c.or_room-first.ensures c.if-first-ne0.false
 
 pub copy-requires : goal.copy-requires
@@ -57,6 +57,6 @@ records-requires-2 c =
 pub returns : goal.returns
 returns c =
     let s = c.args in
-    group-done s.refusal _ s.points.now s.contours.now s.shapes.now s.out.now s.records.now s.groups.now
+    group_done s.refusal _ s.points.now s.contours.now s.shapes.now s.out.now s.records.now s.groups.now
     c.or_room-first.ensures _ _ _ c.if-first-ne0.false
     c.copy.ensures c.records.ensures c.records-2.ensures

@@ -8,7 +8,7 @@ use lib.Seq.{take_at, length-take-le}
 use Rattle.difference.specs.Lines.{lines_of, written}
 use Rattle.difference.proofs.ListLaws.{written-length}
 use Rattle.report.specs.inside.Lines.{Put}
-use Rattle.report.proofs.PutLaws.{room-behind, both_put}
+use Rattle.report.proofs.PutLaws.{room_behind, both_put}
 use Rattle.changes.specs.Words.{lines, counts}
 use Rattle.changes.proofs.inner.comparing.put_said.Goals as goal
 
@@ -110,7 +110,7 @@ slice_bounds-put-end-2 c = sym (length-take-le _ _ (within_2 c))
 
 pub put-requires : goal.put-requires
 put-requires c =
-    rw (listed_2 c) (room-behind (lines_put c) (counts (due_2 c)) (omega (arith, c.requires.other_ranges_in_bounds)))
+    rw (listed_2 c) (room_behind (lines_put c) (counts (due_2 c)) (omega (arith, c.requires.other_ranges_in_bounds)))
 
 pub returns : goal.returns
 returns c =

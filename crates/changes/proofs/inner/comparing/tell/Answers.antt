@@ -11,7 +11,7 @@ use Rattle.difference.specs.Lines.{lines_of, written}
 use Rattle.report.specs.Text.{decimal, line_end, refused}
 use Rattle.changes.specs.Words.{said, the_first, the_second, changes}
 use Rattle.changes.proofs.ReadLaws.{HasRead, reply_is, accepted_file, shapes_long, few_points, points_in, ranges_in}
-use Rattle.changes.proofs.ChangeLaws.{first-told, second_told, changes-length, put_told, comparable, changes-are}
+use Rattle.changes.proofs.ChangeLaws.{first_told, second_told, changes-length, put_told, comparable, changes_are}
 use Rattle.changes.proofs.inner.comparing.tell.Goals as goal
 
 -- the rows as they are lent to the reader
@@ -157,13 +157,13 @@ first_read_12 c = record { has = record { numbers = points_room; contours = rang
 first_refused : (c : goal.After-struct_known-then-one-ne0-1) →
     changes (f-of c) (g-of c) ≡ (the_first ++ refused) ++ decimal c.read-one.result.reply ++ line_end
 first_refused c =
-    first-told (f-of c) (g-of c) (reply_is (first_read_6 c)) c.if-one-ne0.true
+    first_told (f-of c) (g-of c) (reply_is (first_read_6 c)) c.if-one-ne0.true
 
 -- and refused
 first_refused_2 : (c : goal.After-slice_known-then-one-ne0-1) →
     changes (f-of_2 c) (g-of_2 c) ≡ (the_first ++ refused) ++ decimal c.read-one.result.reply ++ line_end
 first_refused_2 c =
-    first-told (f-of_2 c) (g-of_2 c) (reply_is (first_read_7 c)) c.if-one-ne0.true
+    first_told (f-of_2 c) (g-of_2 c) (reply_is (first_read_7 c)) c.if-one-ne0.true
 
 second_read : (c : goal.After-struct_known-4-1) →
     HasRead (g-of_7 (c)) no_points no_ranges c.read-one.new.groups
@@ -255,7 +255,7 @@ neither_refused : (c : goal.After-put_said-arg-1) →
     (written
     (lines_of (take (2 * c.read-one.result.points) c.read-one.new.out) (take c.read-one.result.contours c.read-one.new.records)
     (take (2 * c.read-other.result.points) c.read-other.new.out) (take c.read-other.result.contours c.read-other.new.records)))
-neither_refused c = changes-are (first_read_5 c) (second_read_5 c) c.if-one-ne0.false c.if-other-ne0.false
+neither_refused c = changes_are (first_read_5 c) (second_read_5 c) c.if-one-ne0.false c.if-other-ne0.false
 
 neither_refused_2 : (c : goal.After-slice_known-2-1) →
     changes (f-of_6 c) (g-of_6 c)
@@ -263,7 +263,7 @@ neither_refused_2 : (c : goal.After-slice_known-2-1) →
     (written
     (lines_of (take (2 * c.read-one.result.points) c.read-one.new.out) (take c.read-one.result.contours c.read-one.new.records)
     (take (2 * c.read-other.result.points) c.read-other.new.out) (take c.read-other.result.contours c.read-other.new.records)))
-neither_refused_2 c = changes-are (first_read_12 c) (second_read_8 c) c.if-one-ne0.false c.if-other-ne0.false
+neither_refused_2 c = changes_are (first_read_12 c) (second_read_8 c) c.if-one-ne0.false c.if-other-ne0.false
 
 pub put_line-requires : goal.put_line-requires
 put_line-requires c =

@@ -8,7 +8,7 @@ use lib.ListN.{get_or, drop}
 use Rattle.bits.specs.Bits.{digit}
 use Rattle.bits.proofs.BitLaws.{byte_digit, digit_below}
 use Rattle.changes.specs.Words.{of_kind}
-use Rattle.changes.proofs.CountLaws.{of-kind-more, of-kind-done}
+use Rattle.changes.proofs.CountLaws.{of_kind_more, of_kind_done}
 use Rattle.changes.proofs.inner.counts.counted.Goals as goal
 
 pub loop-i-init : goal.loop-i-init
@@ -24,7 +24,7 @@ more : (c : goal.After-told-1) →
     ≡ digit (eqb (get_or (get_or s.listing.now c.loop-i.i []) 0 0) s.kind) + of_kind s.kind (drop (c.loop-i.i + 1) s.listing.now)
 more c =
     let s = c.args in
-    of-kind-more s.listing.now s.kind c.loop-i.i c.loop-i-test.true
+    of_kind_more s.listing.now s.kind c.loop-i.i c.loop-i-test.true
 
 pub overflow_add-some : goal.overflow_add-some
 overflow_add-some c =
@@ -47,4 +47,4 @@ loop-i-preserved c =
 pub returns : goal.returns
 returns c =
     let s = c.args in
-    omega (arith, of-kind-done s.listing.now s.kind c.loop-i.i (omega arith))
+    omega (arith, of_kind_done s.listing.now s.kind c.loop-i.i (omega arith))

@@ -5,7 +5,7 @@ use Prim.Native.Nat.{ℕ, ◌+◌, ◌≤◌}
 use native.Mathlib.Omega.{arith}
 use lib.ListN.{length, length-append}
 use Rattle.report.specs.Text.{decimal}
-use Rattle.report.proofs.PutLaws.{room-behind, both_put}
+use Rattle.report.proofs.PutLaws.{room_behind, both_put}
 use Rattle.changes.specs.Words.{how_many}
 use Rattle.changes.proofs.inner.counts.put_count.Goals as goal
 
@@ -52,7 +52,7 @@ put-behind-requires c =
 
 pub put_number-requires : goal.put_number-requires
 put_number-requires c =
-    room-behind c.put-behind.ensures (decimal c.counted-n.result) (in_room_2 c)
+    room_behind c.put-behind.ensures (decimal c.counted-n.result) (in_room_2 c)
 
 pub returns : goal.returns
 returns c =

@@ -4,7 +4,7 @@ use Prim.Native.Nat.{ℕ}
 use Rattle.report.specs.Text.{decimal, line_end}
 use Rattle.report.proofs.PutLaws.{Going, going_none, going_room, going_more, going_all}
 use Rattle.changes.specs.Words.{change, line}
-use Rattle.changes.proofs.LineLaws.{words, line_words, none-put}
+use Rattle.changes.proofs.LineLaws.{words, line_words, none_put}
 use Rattle.changes.proofs.inner.lines.put_line.Goals as goal
 
 -- the words that are due, behind e in a text t, end the line that is put from s
@@ -94,7 +94,7 @@ end_due_2 : (c : goal.After-slice_known-5-1) →
 end_due_2 c = going_more (change_due_3 c) c.put_change-fourth.ensures
 
 pub returns-then-kind-eq-SAME : goal.returns-then-kind-eq-SAME
-returns-then-kind-eq-SAME c = let s = c.args in none-put s.k s.kind s.place c.if-kind-eq-SAME.true s.at s.text.now
+returns-then-kind-eq-SAME c = let s = c.args in none_put s.k s.kind s.place c.if-kind-eq-SAME.true s.at s.text.now
 
 pub put-second-requires : goal.put-second-requires
 put-second-requires c = going_room (going c)

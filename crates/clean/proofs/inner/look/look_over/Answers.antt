@@ -1,11 +1,11 @@
 -- `clean::inner::look::look_over` meets its contract, rule by rule.
 use native.Mathlib.Omega.{arith}
-use Rattle.clean.proofs.LookLaws.{looked-all, looked-collinear, looked-spike}
+use Rattle.clean.proofs.LookLaws.{looked_all, looked_collinear, looked_spike}
 use Rattle.clean.proofs.inner.look.look_over.Goals as goal
 
 pub returns-then-standing-n : goal.returns-then-standing-n
 returns-then-standing-n c =
-    looked-all c.args.points.now c.requires.0 c.args.rule c.requires.1 _ c.standing-standing.ensures c.if-standing-n.true
+    looked_all c.args.points.now c.requires.0 c.args.rule c.requires.1 _ c.standing-standing.ensures c.if-standing-n.true
 
 pub none_reverses_after-requires : goal.none_reverses_after-requires
 none_reverses_after-requires c =
@@ -14,8 +14,8 @@ none_reverses_after-requires c =
 
 pub returns-in-Collinear : goal.returns-in-Collinear
 returns-in-Collinear c =
-    looked-collinear c.args.points.now c.requires.0 c.args.rule c.requires.1 _ c.standing-standing.ensures c.if-standing-n.false c.in-Collinear.is
+    looked_collinear c.args.points.now c.requires.0 c.args.rule c.requires.1 _ c.standing-standing.ensures c.if-standing-n.false c.in-Collinear.is
 
 pub returns-in-Spike : goal.returns-in-Spike
 returns-in-Spike c =
-    looked-spike c.args.points.now c.requires.0 c.args.rule c.requires.1 _ c.standing-standing.ensures _ c.none_reverses_after.ensures c.in-Spike.is
+    looked_spike c.args.points.now c.requires.0 c.args.rule c.requires.1 _ c.standing-standing.ensures _ c.none_reverses_after.ensures c.in-Spike.is

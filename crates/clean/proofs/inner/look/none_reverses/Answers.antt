@@ -2,7 +2,7 @@
 use Prim.Native.Nat.{◌<◌}
 use native.Mathlib.Omega.{arith}
 use Rattle.grid.proofs.AlongLaws.{none_distinct}
-use Rattle.clean.proofs.LookLaws.{too_few, onward-start}
+use Rattle.clean.proofs.LookLaws.{too_few, onward_start}
 use Rattle.clean.proofs.inner.look.none_reverses.Goals as goal
 
 -- some point differs from the last
@@ -17,4 +17,4 @@ returns-then-first-n c =
 
 pub onward-requires : goal.onward-requires
 onward-requires c =
-    (c.requires.0, onward-start c.args.points.now c.requires.0 _ c.first_other-first.ensures (inside c) _ c.edge_at-closing.ensures)
+    (c.requires.0, onward_start c.args.points.now c.requires.0 _ c.first_other-first.ensures (inside c) _ c.edge_at-closing.ensures)

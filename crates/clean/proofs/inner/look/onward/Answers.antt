@@ -3,7 +3,7 @@ use borrow.Author.Tests.{lt-leb}
 use mathlib.Core.Path.{sym, ◌∙◌}
 use native.Mathlib.Omega.{arith}
 use Rattle.grid.proofs.AlongLaws.{next_short, closing_next}
-use Rattle.clean.proofs.LookLaws.{along, onward-skip, onward-turn, onward-on, spike-met, few-kept, onward-all}
+use Rattle.clean.proofs.LookLaws.{along, onward_skip, onward_turn, onward_on, spike_met, few_kept, onward_all}
 use Rattle.clean.proofs.inner.look.onward.Goals as goal
 
 pub loop-i-init : goal.loop-i-init
@@ -33,7 +33,7 @@ loop-i-smaller-then-not-aligned c = omega (arith, c.loop-i-test.true)
 
 pub loop-i-preserved-then-not-aligned : goal.loop-i-preserved-then-not-aligned
 loop-i-preserved-then-not-aligned c =
-    onward-turn c.args.points.now c.requires.0 c.loop-i.invariant c.loop-i-test.true c.edge_at-from.ensures (sym c.aligned.ensures ∙ c.if-not-aligned.true)
+    onward_turn c.args.points.now c.requires.0 c.loop-i.invariant c.loop-i-test.true c.edge_at-from.ensures (sym c.aligned.ensures ∙ c.if-not-aligned.true)
 
 pub overflow_add-i-then-still : goal.overflow_add-i-then-still
 overflow_add-i-then-still c = omega (arith, c.ranges.n, c.loop-i-test.true)
@@ -43,7 +43,7 @@ loop-i-smaller-then-still c = omega (arith, c.loop-i-test.true)
 
 pub loop-i-preserved-then-still : goal.loop-i-preserved-then-still
 loop-i-preserved-then-still c =
-    onward-skip c.args.points.now c.requires.0 c.loop-i.invariant c.loop-i-test.true c.edge_at-from.ensures (sym c.still.ensures ∙ c.if-still.true)
+    onward_skip c.args.points.now c.requires.0 c.loop-i.invariant c.loop-i-test.true c.edge_at-from.ensures (sym c.still.ensures ∙ c.if-still.true)
 
 pub backward-requires : goal.backward-requires
 backward-requires c =
@@ -51,7 +51,7 @@ backward-requires c =
 
 pub returns-then-backward : goal.returns-then-backward
 returns-then-backward c =
-    spike-met c.args.points.now c.requires.0 c.loop-i.invariant c.loop-i-test.true c.edge_at-from.ensures
+    spike_met c.args.points.now c.requires.0 c.loop-i.invariant c.loop-i-test.true c.edge_at-from.ensures
     (sym c.aligned.ensures ∙ c.if-not-aligned.false) (sym c.still.ensures ∙ c.if-still.false) (sym c.backward.ensures ∙ c.if-backward.true)
 
 pub overflow_add-kept-else-backward : goal.overflow_add-kept-else-backward
@@ -66,7 +66,7 @@ loop-i-smaller c = omega (arith, c.loop-i-test.true)
 
 pub loop-i-preserved : goal.loop-i-preserved
 loop-i-preserved c =
-    onward-on c.args.points.now c.requires.0 c.loop-i.invariant c.loop-i-test.true c.edge_at-from.ensures (sym c.still.ensures ∙ c.if-still.false) (sym c.backward.ensures ∙ c.if-backward.false)
+    onward_on c.args.points.now c.requires.0 c.loop-i.invariant c.loop-i-test.true c.edge_at-from.ensures (sym c.still.ensures ∙ c.if-still.false) (sym c.backward.ensures ∙ c.if-backward.false)
 
 pub overflow_sub-n : goal.overflow_sub-n
 overflow_sub-n c = omega (arith, c.loop-i.invariant.begins)
@@ -85,8 +85,8 @@ reverses-requires c =
 
 pub returns-then-kept-ge3 : goal.returns-then-kept-ge3
 returns-then-kept-ge3 c =
-    onward-all c.args.points.now c.requires.0 c.loop-i.invariant c.loop-i-test.false c.edge_at-closing.ensures c.if-kept-ge3.true c.reverses.result c.reverses.ensures
+    onward_all c.args.points.now c.requires.0 c.loop-i.invariant c.loop-i-test.false c.edge_at-closing.ensures c.if-kept-ge3.true c.reverses.result c.reverses.ensures
 
 pub returns-else-kept-ge3 : goal.returns-else-kept-ge3
 returns-else-kept-ge3 c =
-    lt-leb 3 _ c.if-kept-ge3.false ∙ few-kept c.args.points.now c.requires.0 c.loop-i.invariant c.loop-i-test.false c.if-kept-ge3.false
+    lt-leb 3 _ c.if-kept-ge3.false ∙ few_kept c.args.points.now c.requires.0 c.loop-i.invariant c.loop-i-test.false c.if-kept-ge3.false

@@ -1,6 +1,6 @@
 -- `clean::inner::settling::settle_from` meets its contract, however the walk ends.
 use Rattle.clean.proofs.RowLaws.{pending_unmarked}
-use Rattle.clean.proofs.OutcomeLaws.{settled-kept, settled-fallen}
+use Rattle.clean.proofs.OutcomeLaws.{settled_kept, settled_fallen}
 use Rattle.clean.proofs.inner.settling.settle_from.Goals as goal
 
 pub walk-walked-requires : goal.walk-walked-requires
@@ -20,8 +20,8 @@ turns-requires c =
 pub returns-then-walked : goal.returns-then-walked
 returns-then-walked c =
     let w = c.write-survived.ensures in
-    settled-kept c.args.rule c.args.points.now _ c.requires.ready.0.contour c.walk-walked.result _ _ c.walk-walked.ensures c.if-walked.true _ _ _ w.points_are c.turns.ensures w.output
+    settled_kept c.args.rule c.args.points.now _ c.requires.ready.0.contour c.walk-walked.result _ _ c.walk-walked.ensures c.if-walked.true _ _ _ w.points_are c.turns.ensures w.output
 
 pub returns-else-walked : goal.returns-else-walked
 returns-else-walked c =
-    settled-fallen c.args.rule c.args.points.now _ c.requires.ready.0.contour c.walk-walked.result _ _ c.walk-walked.ensures c.if-walked.false
+    settled_fallen c.args.rule c.args.points.now _ c.requires.ready.0.contour c.walk-walked.result _ _ c.walk-walked.ensures c.if-walked.false

@@ -1,7 +1,7 @@
 -- `clean::inner::settling::write` meets its contract: the survivors passed are in front of the output, and those of them that are marked are counted.
 use native.Mathlib.Omega.{arith}
 use Rattle.ring.proofs.Counting.{found_none, found_other, found_all, found_mark}
-use Rattle.clean.proofs.RowLaws.{writing_none, writing_more, writing-past, writing_all}
+use Rattle.clean.proofs.RowLaws.{writing_none, writing_more, writing_past, writing_all}
 use Rattle.clean.proofs.inner.settling.write.Goals as goal
 
 pub loop-i-init : goal.loop-i-init
@@ -26,7 +26,7 @@ loop-i-preserved-then-own-lt2 c =
 pub loop-i-preserved : goal.loop-i-preserved
 loop-i-preserved c =
     let h = c.loop-i-test.true in
-    (writing-past c.loop-i.invariant.0 h c.if-own-lt2.false, found_other _ _ c.loop-i.invariant.1 h (λ e. omega (arith, c.if-own-lt2.false)))
+    (writing_past c.loop-i.invariant.0 h c.if-own-lt2.false, found_other _ _ c.loop-i.invariant.1 h (λ e. omega (arith, c.if-own-lt2.false)))
 
 pub shape_of-out : goal.shape_of-out
 shape_of-out c = c.loop-i.invariant.0.long

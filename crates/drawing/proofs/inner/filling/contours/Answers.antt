@@ -4,7 +4,7 @@ use native.Mathlib.Omega.{arith}
 use lib.Dec.{eqb}
 use lib.ListN.{length, get_or}
 use Rattle.drawing.proofs.CommandLaws.{at_most_one}
-use Rattle.drawing.proofs.FillLaws.{sizes-counted, sizes-done}
+use Rattle.drawing.proofs.FillLaws.{sizes_counted, sizes_done}
 use Rattle.drawing.proofs.inner.filling.contours.Goals as goal
 
 pub loop-i-init : goal.loop-i-init
@@ -28,7 +28,7 @@ loop-i-smaller c = omega arith
 pub loop-i-preserved : goal.loop-i-preserved
 loop-i-preserved c =
     let kinds = c.args.kinds.now in
-    omega (arith, at_most_one (eqb (get_or kinds c.loop-i.i 0) 0), sizes-counted kinds c.loop-i.i c.loop-i-test.true)
+    omega (arith, at_most_one (eqb (get_or kinds c.loop-i.i 0) 0), sizes_counted kinds c.loop-i.i c.loop-i-test.true)
 
 pub returns : goal.returns
-returns c = omega (arith, ap length (sizes-done c.args.kinds.now c.loop-i.i (omega arith)))
+returns c = omega (arith, ap length (sizes_done c.args.kinds.now c.loop-i.i (omega arith)))

@@ -4,7 +4,7 @@ use Prim.Native.Nat.{ℕ, ◌+◌}
 use native.Mathlib.Omega.{arith}
 use lib.ListN.{drop}
 use Rattle.drawing.specs.inside.Rows.{run}
-use Rattle.drawing.proofs.FillLaws.{run_more, run-stops, run_done}
+use Rattle.drawing.proofs.FillLaws.{run_more, run_stops, run_done}
 use Rattle.drawing.proofs.inner.filling.lines.Goals as goal
 
 pub loop-n-init : goal.loop-n-init
@@ -24,7 +24,7 @@ bounds-kinds-at c = omega arith
 pub returns-then-kinds-at-ne-LINE : goal.returns-then-kinds-at-ne-LINE
 returns-then-kinds-at-ne-LINE c =
     let s = c.args in
-    let stops = run-stops s.kinds.now (s.at + c.loop-n.n) (omega (arith, c.loop-n-test.true)) c.if-kinds-at-ne-LINE.true in
+    let stops = run_stops s.kinds.now (s.at + c.loop-n.n) (omega (arith, c.loop-n-test.true)) c.if-kinds-at-ne-LINE.true in
     omega (arith, c.loop-n.invariant.1, stops)
 
 pub overflow_add-n : goal.overflow_add-n

@@ -16,8 +16,8 @@ use Rattle.rows.proofs.RowLaws.{copied_none, copied_all, placed_front}
 use Rattle.buffer.proofs.ListLaws.{map_at}
 use Rattle.millimetres.specs.Scale.{units, on_grid}
 use Rattle.drawing.specs.Commands.{place_of}
-use Rattle.drawing.specs.inside.Rows.{on as on-place, point}
-use Rattle.drawing.proofs.FillLaws.{copied-two}
+use Rattle.drawing.specs.inside.Rows.{on as on_place, point}
+use Rattle.drawing.proofs.FillLaws.{copied_two}
 use Rattle.drawing.proofs.inner.filling.points.Goals as goal
 
 -- both floats of the place that is met, and both numbers of the point that is written
@@ -74,7 +74,7 @@ place_from-requires c = pair c
 pub point_of-p-requires : goal.point_of-p-requires
 point_of-p-requires c =
     let on = c.requires.0.on_grid in
-    ap on-place c.place_from.ensures
+    ap on_place c.place_from.ensures
     ∙ ap₂ (λ (x y : Float). on_grid x && on_grid y) (first c) (second c)
     ∙ ap₂ (λ (a b : Bool). a && b) (on (at c) (omega (arith, pair_2 c))) (on (at c + 1) (pair_2 c))
 
@@ -112,7 +112,7 @@ loop-at-preserved c =
     let y-back : to_z w32 (of_z w32 p.y) ≡ p.y = search rules in
     let is : p ≡ point (place_of (drop (at_2 c) (floats c))) = c.point_of-p.ensures ∙ ap point c.place_from.ensures in (
       omega (arith, c.loop-at.invariant.0),
-      copied-two c.loop-at.invariant.1 (omega (arith, c.requires.1)) (omega (arith, pair_3 c)) (pos 0) _ _ (at_2 c) _ z refl
+      copied_two c.loop-at.invariant.1 (omega (arith, c.requires.1)) (omega (arith, pair_3 c)) (pos 0) _ _ (at_2 c) _ z refl
           (x-back ∙ ap (λ (q : Point). q.x) is ∙ ap units (first_2 c) ∙ sym (map_at units (floats c) (at_2 c) (pos 0) nan (omega (arith, pair_3 c))))
           (y-back ∙ ap (λ (q : Point). q.y) is ∙ ap units (second_2 c) ∙ sym (map_at units (floats c) (at_2 c + 1) (pos 0) nan (pair_3 c))),
     )

@@ -8,7 +8,7 @@ use Rattle.buffer.specs.Spans.{row, rows, laid}
 use Rattle.rows.proofs.RowLaws.{copied_all, placed_front}
 use Rattle.buffer.proofs.SetLaws.{laid-length}
 use Rattle.drawing.specs.inside.Rows.{run, sizes}
-use Rattle.drawing.proofs.FillLaws.{ranging_all, ranging-past, ranging-few, ranging-within, ranging-more, sizes-done}
+use Rattle.drawing.proofs.FillLaws.{ranging_all, ranging_past, ranging_few, ranging_within, ranging_more, sizes_done}
 use Rattle.drawing.proofs.inner.filling.ranges.Goals as goal
 
 -- the ranges have room
@@ -26,14 +26,14 @@ abbrev kinds_2 : (c : goal.After-lines) → List ℕ
 kinds_2 c = c.args.kinds.now
 
 few : (c : goal.Then-kinds-i-eq-MOVE) → c.loop-i.start + suc (run (drop (c.loop-i.i + 1) (kinds c))) ≤ length (kinds c)
-few c = omega (arith, ranging-few c.loop-i.invariant c.loop-i-test.true c.if-kinds-i-eq-MOVE.true)
+few c = omega (arith, ranging_few c.loop-i.invariant c.loop-i-test.true c.if-kinds-i-eq-MOVE.true)
 
 few_2 : (c : goal.After-lines) → c.loop-i.start + suc (run (drop (c.loop-i.i + 1) (kinds_2 c))) ≤ length (kinds_2 c)
-few_2 c = omega (arith, ranging-few c.loop-i.invariant c.loop-i-test.true c.if-kinds-i-eq-MOVE.true)
+few_2 c = omega (arith, ranging_few c.loop-i.invariant c.loop-i-test.true c.if-kinds-i-eq-MOVE.true)
 
 roomy : (c : goal.After-lines) → c.loop-i.k < length c.loop-i.records
 roomy c =
-    let within = ranging-within c.loop-i.invariant c.loop-i-test.true c.if-kinds-i-eq-MOVE.true in
+    let within = ranging_within c.loop-i.invariant c.loop-i-test.true c.if-kinds-i-eq-MOVE.true in
     omega (arith, within, c.loop-i.invariant.copied.long, room c)
 
 pub loop-i-init : goal.loop-i-init
@@ -71,7 +71,7 @@ loop-i-smaller-then-kinds-i-eq-MOVE c = omega (arith, c.loop-i-test.true)
 
 pub loop-i-preserved-then-kinds-i-eq-MOVE : goal.loop-i-preserved-then-kinds-i-eq-MOVE
 loop-i-preserved-then-kinds-i-eq-MOVE c =
-    ranging-more c.loop-i.invariant c.loop-i-test.true c.if-kinds-i-eq-MOVE.true (room c)
+    ranging_more c.loop-i.invariant c.loop-i-test.true c.if-kinds-i-eq-MOVE.true (room c)
     _ (omega (arith, c.lines.ensures))
 
 pub overflow_add-i-else-kinds-i-eq-MOVE : goal.overflow_add-i-else-kinds-i-eq-MOVE
@@ -81,7 +81,7 @@ pub loop-i-smaller : goal.loop-i-smaller
 loop-i-smaller c = omega (arith, c.loop-i-test.true)
 
 pub loop-i-preserved : goal.loop-i-preserved
-loop-i-preserved c = ranging-past c.loop-i.invariant c.loop-i-test.true c.if-kinds-i-eq-MOVE.false
+loop-i-preserved c = ranging_past c.loop-i.invariant c.loop-i-test.true c.if-kinds-i-eq-MOVE.false
 
 pub shape_of-records : goal.shape_of-records
 shape_of-records c = c.loop-i.invariant.copied.long
@@ -95,6 +95,6 @@ returns c =
     let kinds = s.kinds.now in
     let wanted = rows (laid 0 (sizes kinds)) in
     let end : pass.i ≡ length kinds = omega arith in
-    let none = x.rest ∙ ap (λ (l : List ℕ). rows (laid pass.start l)) (sizes-done kinds pass.i end) in
+    let none = x.rest ∙ ap (λ (l : List ℕ). rows (laid pass.start l)) (sizes_done kinds pass.i end) in
     let done : pass.k ≡ length wanted = omega (arith, x.copied.within, length-drop pass.k wanted, ap length none) in
     copied_all _ _ _ x.copied done ∙ placed_front s.records.now wanted

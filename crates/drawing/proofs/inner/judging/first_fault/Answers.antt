@@ -9,8 +9,8 @@ use lib.Ieee.{Float}
 use Rattle.replies.specs.Ladder.{first_of}
 use Rattle.drawing.specs.Commands.{Item, item, brought, asked, items}
 use Rattle.drawing.specs.Faults.{faults, first_fault}
-use Rattle.drawing.proofs.CommandLaws.{no_kind, opens_is, asked-more, items_more, items-done}
-use Rattle.drawing.proofs.FaultLaws.{fault-decides, fault-passes, no_command_decides}
+use Rattle.drawing.proofs.CommandLaws.{no_kind, opens_is, asked_more, items_more, items_done}
+use Rattle.drawing.proofs.FaultLaws.{fault_decides, fault_passes, no_command_decides}
 use Rattle.drawing.proofs.inner.judging.first_fault.Goals as goal
 
 -- the rows, and where they are met
@@ -86,11 +86,11 @@ met_3 c =
     let pass = c.loop-i in
     pass.invariant.2 ∙ ap (first_fault pass.opened) (items_more (kinds c) pass.i c.loop-i-test.true (floats c) pass.at)
 
-asked-rest : (c : goal.Else-kind-gt-CLOSE) → c.loop-i.at + (brought (kind_3 c) + asked (drop (c.loop-i.i + 1) (kinds_3 c))) ≡ length (floats_3 c)
-asked-rest c = omega (arith, asked-more (kinds_3 c) c.loop-i.i c.loop-i-test.true)
+asked_rest : (c : goal.Else-kind-gt-CLOSE) → c.loop-i.at + (brought (kind_3 c) + asked (drop (c.loop-i.i + 1) (kinds_3 c))) ≡ length (floats_3 c)
+asked_rest c = omega (arith, asked_more (kinds_3 c) c.loop-i.i c.loop-i-test.true)
 
-asked-rest_2 : (c : goal.After-brought-at) → c.loop-i.at + (brought (kind_2 c) + asked (drop (c.loop-i.i + 1) (kinds c))) ≡ length (floats c)
-asked-rest_2 c = omega (arith, asked-more (kinds c) c.loop-i.i c.loop-i-test.true)
+asked_rest_2 : (c : goal.After-brought-at) → c.loop-i.at + (brought (kind_2 c) + asked (drop (c.loop-i.i + 1) (kinds c))) ≡ length (floats c)
+asked_rest_2 c = omega (arith, asked_more (kinds c) c.loop-i.i c.loop-i-test.true)
 
 -- what is wrong with the command that was read
 number : (c : goal.Then-wrong-ne0) →
@@ -118,20 +118,20 @@ returns-then-kind-gt-CLOSE c =
     ∙ no_command_decides _ (behind c))
 
 pub read-requires : goal.read-requires
-read-requires c = (c.if-kind-gt-CLOSE.false, omega (arith, asked-rest c))
+read-requires c = (c.if-kind-gt-CLOSE.false, omega (arith, asked_rest c))
 
 pub fault-wrong-requires : goal.fault-wrong-requires
 fault-wrong-requires c = tt
 
 pub returns-then-wrong-ne0 : goal.returns-then-wrong-ne0
 returns-then-wrong-ne0 c =
-    sym (met_2 c ∙ fault-decides _ _ (behind_2 c) _ (number c) c.if-wrong-ne0.true)
+    sym (met_2 c ∙ fault_decides _ _ (behind_2 c) _ (number c) c.if-wrong-ne0.true)
 
 pub brought-at-requires : goal.brought-at-requires
 brought-at-requires c = tt
 
 pub overflow_add-at : goal.overflow_add-at
-overflow_add-at c = omega (arith, c.brought-at.ensures, asked-rest_2 c)
+overflow_add-at c = omega (arith, c.brought-at.ensures, asked_rest_2 c)
 
 pub overflow_add-i : goal.overflow_add-i
 overflow_add-i c = omega (arith, c.loop-i-test.true)
@@ -143,8 +143,8 @@ pub loop-i-preserved : goal.loop-i-preserved
 loop-i-preserved c =
     let far : c.loop-i.at + brought (kind_2 c) ≡ c.loop-i.at + c.brought-at.result = omega (arith, c.brought-at.ensures) in (
       omega (arith, c.loop-i-test.true),
-      omega (arith, c.brought-at.ensures, asked-rest_2 c),
-      met_3 c ∙ fault-passes _ _ (behind_3 c) _ (number_2 c) c.if-wrong-ne0.false
+      omega (arith, c.brought-at.ensures, asked_rest_2 c),
+      met_3 c ∙ fault_passes _ _ (behind_3 c) _ (number_2 c) c.if-wrong-ne0.false
           ∙ ap₂ (λ (b : Bool) (n : ℕ). first_fault b (items (drop (c.loop-i.i + 1) (kinds c)) (drop n (floats c))))
           (sym (opens_is (kind_2 c) (rest_2 c))) far,
     )
@@ -155,4 +155,4 @@ returns c =
     let l = c.loop-i in
     let s = c.args in
     let done : l.i ≡ length s.kinds.now = omega arith in
-    sym (l.invariant.2 ∙ ap (first_fault l.opened) (items-done s.kinds.now l.i done (drop l.at s.floats.now)))
+    sym (l.invariant.2 ∙ ap (first_fault l.opened) (items_done s.kinds.now l.i done (drop l.at s.floats.now)))

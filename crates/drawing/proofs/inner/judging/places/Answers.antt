@@ -2,7 +2,7 @@
 use native.Mathlib.Omega.{arith}
 use lib.Dec.{ltb}
 use lib.ListN.{get_or}
-use Rattle.drawing.proofs.CommandLaws.{brought_counted, at_most_one, asked-more, asked-done}
+use Rattle.drawing.proofs.CommandLaws.{brought_counted, at_most_one, asked_more, asked_done}
 use Rattle.drawing.proofs.inner.judging.places.Goals as goal
 
 pub loop-i-init : goal.loop-i-init
@@ -27,7 +27,7 @@ pub loop-i-preserved : goal.loop-i-preserved
 loop-i-preserved c =
     let kinds = c.args.kinds.now in
     let k = get_or kinds c.loop-i.i 0 in
-    omega (arith, at_most_one (ltb k 2), brought_counted k, asked-more kinds c.loop-i.i c.loop-i-test.true)
+    omega (arith, at_most_one (ltb k 2), brought_counted k, asked_more kinds c.loop-i.i c.loop-i-test.true)
 
 pub returns : goal.returns
-returns c = omega (arith, asked-done c.args.kinds.now c.loop-i.i (omega arith))
+returns c = omega (arith, asked_done c.args.kinds.now c.loop-i.i (omega arith))

@@ -4,9 +4,9 @@ use Prim.Native.Nat.{ℕ, ◌+◌, ◌≤◌}
 use native.Mathlib.Omega.{arith}
 use lib.ListN.{length, length-set}
 use Rattle.rows.specs.Rows.{placed}
-use Rattle.rows.proofs.PlacedLaws.{placed-none}
+use Rattle.rows.proofs.PlacedLaws.{placed_none}
 use Rattle.drawing.specs.inside.Rows.{contour_kinds}
-use Rattle.drawing.proofs.PutLaws.{one_some, contour-length, contour-room, contour-put}
+use Rattle.drawing.proofs.PutLaws.{one_some, contour-length, contour_room, contour_put}
 use Rattle.drawing.proofs.inner.putting.contour.Goals as goal
 
 -- a contour that has points has room
@@ -14,21 +14,21 @@ roomy : (c : goal.Else-n-eq0) →
     let s = c.args in
     s.at + s.n + 1 ≤ length s.kinds.now
 roomy c =
-    contour-room c.args.kinds.now c.args.at c.args.n c.if-n-eq0.false c.requires
+    contour_room c.args.kinds.now c.args.at c.args.n c.if-n-eq0.false c.requires
 
 -- a contour that has points has room
 roomy_2 : (c : goal.After-lines-arg-1) →
     let s = c.args in
     s.at + s.n + 1 ≤ length s.kinds.now
 roomy_2 c =
-    contour-room c.args.kinds.now c.args.at c.args.n c.if-n-eq0.false c.requires
+    contour_room c.args.kinds.now c.args.at c.args.n c.if-n-eq0.false c.requires
 
 -- a contour that has points has room
 roomy_3 : (c : goal.After-slice_known-2-1) →
     let s = c.args in
     s.at + s.n + 1 ≤ length s.kinds.now
 roomy_3 c =
-    contour-room c.args.kinds.now c.args.at c.args.n c.if-n-eq0.false c.requires
+    contour_room c.args.kinds.now c.args.at c.args.n c.if-n-eq0.false c.requires
 
 pub returns-then-n-eq0 : goal.returns-then-n-eq0
 unfolding contour_kinds
@@ -36,7 +36,7 @@ returns-then-n-eq0 c =
     let s = c.args in
     let none : length (contour_kinds s.n) ≡ 0 = ap (λ (k : ℕ). length (contour_kinds k)) c.if-n-eq0.true in
     let same = ap (λ (k : ℕ). placed s.at (contour_kinds k) s.kinds.now) (sym c.if-n-eq0.true) in
-    (omega arith, sym (placed-none s.kinds.now s.at) ∙ same)
+    (omega arith, sym (placed_none s.kinds.now s.at) ∙ same)
 
 pub bounds-kinds-at : goal.bounds-kinds-at
 bounds-kinds-at c = omega (arith, roomy c)
@@ -69,5 +69,5 @@ shape_of-kinds c =
 pub returns : goal.returns
 returns c = (
   omega (arith, contour-length c.args.n, one_some c.args.n c.if-n-eq0.false),
-  contour-put c.args.kinds.now c.args.at c.args.n c.if-n-eq0.false c.requires _ c.lines.ensures,
+  contour_put c.args.kinds.now c.args.at c.args.n c.if-n-eq0.false c.requires _ c.lines.ensures,
 )

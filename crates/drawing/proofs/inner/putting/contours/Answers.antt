@@ -11,7 +11,7 @@ use Rattle.buffer.specs.Spans.{span, spans, size}
 use Rattle.buffer.specs.Sets.{joined}
 use Rattle.buffer.proofs.RowLaws.{spans-length}
 use Rattle.drawing.specs.inside.Rows.{contour_kinds, set_kinds}
-use Rattle.drawing.proofs.PutLaws.{kinds-more, kinds-within, kinds-put}
+use Rattle.drawing.proofs.PutLaws.{kinds_more, kinds_within, kinds_put}
 use Rattle.drawing.proofs.inner.putting.contours.Goals as goal
 
 -- the contour that is met has room
@@ -21,7 +21,7 @@ roomy : (c : goal.After-contour-arg-in-loop-i-2-1) →
 roomy c =
     omega (
       arith,
-      kinds-within c.args.ranges.now c.loop-i.i c.loop-i-test.true,
+      kinds_within c.args.ranges.now c.loop-i.i c.loop-i-test.true,
       c.loop-i.invariant.1,
       c.loop-i.invariant.2,
       c.requires.1,
@@ -51,13 +51,13 @@ loop-i-preserved c =
     let ranges = s.ranges.now in
     let i = c.loop-i.i in
     let done = c.contour-at.ensures in
-    let more = kinds-more ranges i c.loop-i-test.true in
+    let more = kinds_more ranges i c.loop-i-test.true in
     let long = length-append (set_kinds (take i (spans ranges))) (contour_kinds (size (span (get_or ranges i [])))) in (
       omega (arith, c.loop-i-test.true),
       c.contour-at.auto.kinds ∙ c.loop-i.invariant.1,
       omega (arith, done.0, c.loop-i.invariant.2, ap length more, long),
       done.1
-          ∙ kinds-put ranges i c.loop-i-test.true s.kinds.now c.loop-i.kinds c.loop-i.at
+          ∙ kinds_put ranges i c.loop-i-test.true s.kinds.now c.loop-i.kinds c.loop-i.at
           c.loop-i.invariant.3 c.loop-i.invariant.2,
     )
 

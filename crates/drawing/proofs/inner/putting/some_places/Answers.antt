@@ -8,8 +8,8 @@ use Rattle.grid.specs.Points.{at as point_at}
 use Rattle.rows.proofs.RowLaws.{copied_none, copied_all}
 use Rattle.drawing.specs.declared.command.Place.{Place}
 use Rattle.drawing.specs.Exporting.{place}
-use Rattle.drawing.proofs.FillLaws.{copied-two}
-use Rattle.drawing.proofs.PutLaws.{some-floats, some-length, some_at}
+use Rattle.drawing.proofs.FillLaws.{copied_two}
+use Rattle.drawing.proofs.PutLaws.{some_floats, some-length, some_at}
 use Rattle.drawing.proofs.inner.putting.some_places.Goals as goal
 
 pub loop-i-init : goal.loop-i-init
@@ -82,7 +82,7 @@ loop-i-preserved c =
     let first = some_at points s.from s.n h (2 * i) (2 * number c) nan (omega (arith, c.loop-i-test.true)) (omega arith) in
     let second = some_at points s.from s.n h (2 * i + 1) (2 * number c + 1) nan (omega (arith, c.loop-i-test.true)) (omega arith) in (
       omega (arith, c.loop-i-test.true),
-      copied-two c.loop-i.invariant.1 (omega (arith, c.requires.1)) (omega (arith, c.loop-i-test.true))
+      copied_two c.loop-i.invariant.1 (omega (arith, c.requires.1)) (omega (arith, c.loop-i-test.true))
           nan _ _ (2 * number c) _ (omega arith) (omega arith)
           (ap (λ (p : Place). p.x) is ∙ sym first) (ap (λ (p : Place). p.y) is ∙ sym second),
     )
@@ -93,6 +93,6 @@ shape_of-floats c = c.loop-i.invariant.1.long
 pub returns : goal.returns
 returns c =
     let s = c.args in
-    let done : 2 * c.loop-i.i ≡ length (some-floats s.points.now s.from s.n c.requires.0) =
+    let done : 2 * c.loop-i.i ≡ length (some_floats s.points.now s.from s.n c.requires.0) =
     omega (arith, some-length s.points.now s.from s.n c.requires.0, c.loop-i.invariant.0) in
     copied_all _ _ _ c.loop-i.invariant.1 done

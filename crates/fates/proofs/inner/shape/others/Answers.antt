@@ -3,7 +3,7 @@ use mathlib.Core.Path.{refl, ◌∙◌, ap}
 use native.Mathlib.Omega.{arith}
 use Rattle.buffer.proofs.PartLaws.{same_numbers}
 use Rattle.fates.specs.Fates.{later}
-use Rattle.fates.proofs.FilledLaws.{filled_one, filled_more, filled-all, named_walkable}
+use Rattle.fates.proofs.FilledLaws.{filled_one, filled_more, filled_all, named_walkable}
 use Rattle.fates.proofs.inner.shape.others.Goals as goal
 
 pub loop-i-init : goal.loop-i-init
@@ -39,4 +39,4 @@ loop-i-preserved c =
     )
 
 pub returns : goal.returns
-returns c = filled-all c.loop-i.invariant.0 c.requires.0.long c.loop-i-test.false
+returns c = filled_all c.loop-i.invariant.0 c.requires.0.long c.loop-i-test.false

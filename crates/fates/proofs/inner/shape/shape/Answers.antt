@@ -6,7 +6,7 @@ use lib.IntN.{ℤ}
 use lib.ListN.{length-set}
 use Rattle.buffer.proofs.PartLaws.{same_numbers}
 use Rattle.sets.specs.Fates.{fate}
-use Rattle.fates.specs.Fates.{told as told-as}
+use Rattle.fates.specs.Fates.{told as told_as}
 use Rattle.fates.proofs.FilledLaws.{named_walkable, none_told, shape_told}
 use Rattle.fates.proofs.inner.shape.shape.Goals as goal
 
@@ -34,4 +34,4 @@ others-requires c =
 
 pub returns : goal.returns
 returns c =
-    shape_told _ c.args.points.now c.args.ranges.now c.args.fates.now c.requires.long c.if-ranges-eq0.false _ (c.alone-outline.ensures ∙ ap (λ (row : List ℤ). told-as (fate c.args.rule row)) (same_numbers c.named-own.ensures)) _ c.others.ensures
+    shape_told _ c.args.points.now c.args.ranges.now c.args.fates.now c.requires.long c.if-ranges-eq0.false _ (c.alone-outline.ensures ∙ ap (λ (row : List ℤ). told_as (fate c.args.rule row)) (same_numbers c.named-own.ensures)) _ c.others.ensures

@@ -4,7 +4,7 @@ use mathlib.Core.Path.{refl, ◌∙◌}
 use mathlib.Core.List.{[]}
 use Prim.Native.Nat.{◌≤◌}
 use lib.ListN.{length, get_or}
-use Rattle.fates.proofs.EachLaws.{telling_none, forward, ends, ends-in-row, own-tellable, telling-more, telling-all}
+use Rattle.fates.proofs.EachLaws.{telling_none, forward, ends, ends_in_row, own_tellable, telling_more, telling_all}
 use Rattle.fates.proofs.inner.shapes.each.Goals as goal
 
 -- the next shape: its entries begin where those before it end, and there are as many as it has contours
@@ -22,10 +22,10 @@ in_contours_2 : (c : goal.After-shape-arg-in-loop-i-3-1) → get_or (get_or c.ar
 in_contours_2 c = ends c.loop-i.invariant.0 c.requires.tellable.long c.loop-i-test.true
 
 in_row : (c : goal.After-to-1) → get_or (get_or c.args.shapes.now c.loop-i.i []) 1 0 ≤ length c.loop-i.fates
-in_row c = ends-in-row c.loop-i.invariant.0 c.requires.tellable.long c.loop-i-test.true
+in_row c = ends_in_row c.loop-i.invariant.0 c.requires.tellable.long c.loop-i-test.true
 
 in_row_2 : (c : goal.After-shape-arg-in-loop-i-3-1) → get_or (get_or c.args.shapes.now c.loop-i.i []) 1 0 ≤ length c.loop-i.fates
-in_row_2 c = ends-in-row c.loop-i.invariant.0 c.requires.tellable.long c.loop-i-test.true
+in_row_2 c = ends_in_row c.loop-i.invariant.0 c.requires.tellable.long c.loop-i-test.true
 
 pub loop-i-init : goal.loop-i-init
 loop-i-init c = (telling_none _ _ _ _ _ _ _ _ c.requires, refl, refl, refl)
@@ -54,17 +54,17 @@ slice_bounds-shape-end-in-loop-i c = let a = at_most_2 c in let b = in_contours_
 pub shape-requires : goal.shape-requires
 shape-requires c =
     let v = c.loop-i.invariant in
-    own-tellable v.0 c.requires.tellable.long c.loop-i-test.true c.requires.tellable _ _ _ v.1 v.2 v.3
+    own_tellable v.0 c.requires.tellable.long c.loop-i-test.true c.requires.tellable _ _ _ v.1 v.2 v.3
 
 pub loop-i-preserved : goal.loop-i-preserved
 loop-i-preserved c =
     let long = c.shape.auto in
     let v = c.loop-i.invariant in (
-      telling-more v.0 c.requires.tellable.long c.loop-i-test.true _ long.fates c.shape.ensures,
+      telling_more v.0 c.requires.tellable.long c.loop-i-test.true _ long.fates c.shape.ensures,
       long.next ∙ v.1,
       long.prev ∙ v.2,
       long.mark ∙ v.3,
     )
 
 pub returns : goal.returns
-returns c = telling-all c.loop-i.invariant.0 c.requires.tellable.long c.loop-i-test.false
+returns c = telling_all c.loop-i.invariant.0 c.requires.tellable.long c.loop-i-test.false

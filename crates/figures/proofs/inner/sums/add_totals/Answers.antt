@@ -4,21 +4,21 @@ use mathlib.Core.List.{List}
 use Prim.Native.Nat.{ℕ, ◌<◌, ◌-◌}
 use native.Mathlib.Omega.{arith}
 use lib.ListN.{length, get_or}
-use Rattle.figures.proofs.TotalLaws.{at_most_total, so-far-at, so-far-length, so_far_more, so_far_all}
+use Rattle.figures.proofs.TotalLaws.{at_most_total, so_far_at, so_far_length, so_far_more, so_far_all}
 use Rattle.figures.proofs.inner.sums.add_totals.Goals as goal
 
 -- inside the loop the row is as long as it was, and from i on as it was
 inside : (h : goal.After-slice_known-1-unread) → h.loop.i < length h.args.other.now → h.loop.i < length h.loop.row
-inside h l = omega (arith, ap length h.loop.invariant.1, so-far-length h.args.row.now h.args.other.now h.requires.0 h.loop.i (omega (arith, h.requires.0)))
+inside h l = omega (arith, ap length h.loop.invariant.1, so_far_length h.args.row.now h.args.other.now h.requires.0 h.loop.i (omega (arith, h.requires.0)))
 
 -- inside the loop the row is as long as it was, and from i on as it was
 inside_2 : (h : goal.After-shared_slice_known-1) → h.loop.i < length h.args.other.now → h.loop.i < length h.loop.row
-inside_2 h l = omega (arith, ap length h.loop.invariant.1, so-far-length h.args.row.now h.args.other.now h.requires.0 h.loop.i (omega (arith, h.requires.0)))
+inside_2 h l = omega (arith, ap length h.loop.invariant.1, so_far_length h.args.row.now h.args.other.now h.requires.0 h.loop.i (omega (arith, h.requires.0)))
 
 unchanged : (h : goal.After-shared_slice_known-1) → h.loop.i < length h.args.other.now → get_or h.loop.row h.loop.i 0 ≡ get_or h.args.row.now h.loop.i 0
 unchanged h l =
     ap (λ (r : List ℕ). get_or r h.loop.i 0) h.loop.invariant.1
-    ∙ so-far-at h.args.row.now h.args.other.now h.requires.0 h.loop.i (omega (arith, h.requires.0))
+    ∙ so_far_at h.args.row.now h.args.other.now h.requires.0 h.loop.i (omega (arith, h.requires.0))
 
 pub loop-i-init : goal.loop-i-init
 loop-i-init c = (omega arith, refl)
@@ -41,7 +41,7 @@ loop-i-preserved c =
     (omega arith, rw (unchanged c l, c.loop-i.invariant.1) (so_far_more c.args.row.now c.args.other.now c.requires.0 c.loop-i.i (omega (arith, c.requires.0))))
 
 pub shape_of-row : goal.shape_of-row
-shape_of-row c = omega (arith, ap length c.loop-i.invariant.1, so-far-length c.args.row.now c.args.other.now c.requires.0 c.loop-i.i (omega (arith, c.requires.0)))
+shape_of-row c = omega (arith, ap length c.loop-i.invariant.1, so_far_length c.args.row.now c.args.other.now c.requires.0 c.loop-i.i (omega (arith, c.requires.0)))
 
 pub returns : goal.returns
 returns c = c.loop-i.invariant.1 ∙ so_far_all c.args.row.now c.args.other.now c.requires.0 c.loop-i.i (omega (arith, c.requires.0))

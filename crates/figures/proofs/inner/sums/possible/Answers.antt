@@ -8,25 +8,25 @@ use mir.Syntax.{w64}
 use mir.Facts.{to_z-of_z}
 use borrow.Author.Rules.{sfits_of}
 use Rattle.figures.specs.Joining.{most_high, possible}
-use Rattle.figures.proofs.PossibleLaws.{high-tests, not-before, not_after, not-decisions, by_high}
+use Rattle.figures.proofs.PossibleLaws.{high_tests, not_before, not_after, not_decisions, by_high}
 use Rattle.figures.proofs.inner.sums.possible.Goals as goal
 
 -- past the first three tests
-tested : (c : goal.After-struct_told-then-f-geminus140735340871680-1) → let f = c.args.f in possible f ≡ high-tests f
+tested : (c : goal.After-struct_told-then-f-geminus140735340871680-1) → let f = c.args.f in possible f ≡ high_tests f
 tested c = by_high c.args.f c.if-f-gt4294901760.false c.if-f-gt4294901760-2.false c.if-f-gt17179017225.false
 
 -- past the first three tests
-tested_2 : (c : goal.Else-f-geminus140735340871680) → let f = c.args.f in possible f ≡ high-tests f
+tested_2 : (c : goal.Else-f-geminus140735340871680) → let f = c.args.f in possible f ≡ high_tests f
 tested_2 c = by_high c.args.f c.if-f-gt4294901760.false c.if-f-gt4294901760-2.false c.if-f-gt17179017225.false
 
 pub returns-then-f-gt4294901760 : goal.returns-then-f-gt4294901760
-returns-then-f-gt4294901760 c = not-before c.args.f c.if-f-gt4294901760.true
+returns-then-f-gt4294901760 c = not_before c.args.f c.if-f-gt4294901760.true
 
 pub returns-then-f-gt4294901760-2 : goal.returns-then-f-gt4294901760-2
 returns-then-f-gt4294901760-2 c = not_after c.args.f c.if-f-gt4294901760.false c.if-f-gt4294901760-2.true
 
 pub returns-then-f-gt17179017225 : goal.returns-then-f-gt17179017225
-returns-then-f-gt17179017225 c = not-decisions c.args.f c.if-f-gt4294901760.false c.if-f-gt4294901760-2.false c.if-f-gt17179017225.true
+returns-then-f-gt17179017225 c = not_decisions c.args.f c.if-f-gt4294901760.false c.if-f-gt4294901760-2.false c.if-f-gt17179017225.true
 
 pub returns-then-f-geminus140735340871680 : goal.returns-then-f-geminus140735340871680
 returns-then-f-geminus140735340871680 c =

@@ -3,7 +3,7 @@ use mathlib.Core.Path.{sym, ◌∙◌}
 use Prim.Native.Nat.{◌/◌, ◌+◌, ◌^◌}
 use native.Mathlib.Omega.{arith}
 use Rattle.figures.proofs.PossibleLaws.{Possible, possible_means}
-use Rattle.figures.proofs.SumLaws.{highs_fit, carry-fits, carry-is, sum_is}
+use Rattle.figures.proofs.SumLaws.{highs_fit, carry_fits, carry_is, sum_is}
 use Rattle.figures.proofs.inner.sums.sum.Goals as goal
 
 -- sets can have both figures
@@ -50,9 +50,9 @@ pub overflow_add-result-3 : goal.overflow_add-result-3
 overflow_add-result-3 c = omega (arith, (of_first_4 c).decisions, (of_second_4 c).decisions)
 
 pub overflow_add-result-4 : goal.overflow_add-result-4
-overflow_add-result-4 c = carry-fits {n = (c.args.f.low + c.args.g.low) / 2 ^ 32} (of_first_4 c).high (of_second_4 c).high (omega arith)
+overflow_add-result-4 c = carry_fits {n = (c.args.f.low + c.args.g.low) / 2 ^ 32} (of_first_4 c).high (of_second_4 c).high (omega arith)
 
 pub returns : goal.returns
 returns c =
     sum_is c.args.f c.args.g _ _ c.add_totals.ensures
-    (carry-is {n = (c.args.f.low + c.args.g.low) / 2 ^ 32} (of_first_4 c).high (of_second_4 c).high (omega arith))
+    (carry_is {n = (c.args.f.low + c.args.g.low) / 2 ^ 32} (of_first_4 c).high (of_second_4 c).high (omega arith))

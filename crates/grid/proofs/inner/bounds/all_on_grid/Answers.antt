@@ -3,7 +3,7 @@ use Rattle.std.proofs.Common.{◌-◌, ◌≤◌, Bool, not, ◌&&◌, ◌||◌,
 use mathlib.Core.Bool.{not-not}
 use Rattle.integers.proofs.Logic.{or_left, or_right, not_both}
 use Rattle.grid.specs.Limits.{all_on_grid}
-use Rattle.grid.proofs.LimitLaws.{on-parts}
+use Rattle.grid.proofs.LimitLaws.{on_parts}
 use Rattle.grid.proofs.inner.bounds.all_on_grid.Goals as goal
 
 -- four to eight numbers
@@ -35,4 +35,4 @@ returns c =
     let back = all_on_grid bound (take (n - (n - 4)) (drop (n - 4) row)) in
     ap₂ (λ (s t : Bool). not (s || t)) c.some_beyond-2.ensures c.some_beyond-3.ensures
     ∙ ap not (sym (not_both front back)) ∙ not-not (front && back)
-    ∙ on-parts bound 4 (n - 4) (n - (n - 4)) row (omega (arith, eight_or_less c)) (omega arith)
+    ∙ on_parts bound 4 (n - 4) (n - (n - 4)) row (omega (arith, eight_or_less c)) (omega arith)

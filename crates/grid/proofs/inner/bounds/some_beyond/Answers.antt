@@ -4,7 +4,7 @@ use borrow.Author.Rules.{sfits_of}
 use mathlib.Core.Bool.{or_assoc, or-false}
 use Rattle.integers.proofs.Logic.{not_both}
 use Rattle.grid.specs.Limits.{on_grid, all_on_grid}
-use Rattle.grid.proofs.LimitLaws.{all-on-grid-more, all-on-grid-none}
+use Rattle.grid.proofs.LimitLaws.{all_on_grid_more, all_on_grid_none}
 use Rattle.grid.proofs.inner.bounds.some_beyond.Goals as goal
 
 pub loop-i-init : goal.loop-i-init
@@ -21,7 +21,7 @@ loop-i-preserved c =
     let is : c.beyond-some.result ≡ not on = c.beyond-some.ensures ∙ ap (λ z. not (on_grid bound z)) (to_z-of_z {w = w32} (sfits_of c.beyond-arg-1.given)) in (
       search rules,
       ap (λ (t : Bool). some || t || not rest) is ∙ or_assoc some (not on) (not rest)
-          ∙ ap (λ (t : Bool). some || t) (sym (not_both on rest) ∙ ap not (sym (all-on-grid-more bound row i c.loop-i-test.true)))
+          ∙ ap (λ (t : Bool). some || t) (sym (not_both on rest) ∙ ap not (sym (all_on_grid_more bound row i c.loop-i-test.true)))
           ∙ c.loop-i.invariant.1,
     )
 
@@ -30,5 +30,5 @@ returns c =
     let bound = c.args.bound in
     let row = c.args.row.now in
     let done : c.loop-i.i ≡ length row = omega arith in
-    sym (or-false c.loop-i.some) ∙ ap (λ (t : Bool). c.loop-i.some || not t) (sym (all-on-grid-none bound row c.loop-i.i done))
+    sym (or-false c.loop-i.some) ∙ ap (λ (t : Bool). c.loop-i.some || not t) (sym (all_on_grid_none bound row c.loop-i.i done))
     ∙ c.loop-i.invariant.1

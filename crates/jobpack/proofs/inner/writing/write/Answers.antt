@@ -3,7 +3,7 @@ use mathlib.Core.Path.{◌≡◌, ◌∙◌}
 use Rattle.replies.specs.Ladder.{first_of}
 use Rattle.setfile.specs.Writing as W
 use Rattle.setfile.specs.Promises.{edition_file, write_refusals}
-use Rattle.jobpack.proofs.PackLaws.{writer-told, by_refusal, by_file}
+use Rattle.jobpack.proofs.PackLaws.{writer_told, by_refusal, by_file}
 use Rattle.jobpack.proofs.inner.writing.write.Goals as goal
 
 -- the writer refuses for nothing but the set
@@ -13,7 +13,7 @@ told : (c : goal.After-slice_known-then-file-ne0-2-1) →
     ≡ W.written (first_of (write_refusals s.second s.points.now s.contours.now s.shapes.now)) (edition_file s.second s.points.now s.contours.now s.shapes.now) s.out.now
 told c =
     let s = c.args in
-    c.written-file.ensures ∙ writer-told s.points.now s.contours.now s.shapes.now s.out.now s.second c.requires.0
+    c.written-file.ensures ∙ writer_told s.points.now s.contours.now s.shapes.now s.out.now s.second c.requires.0
 
 -- the writer refuses for nothing but the set
 told_2 : (c : goal.Else-file-ne0) →
@@ -22,7 +22,7 @@ told_2 : (c : goal.Else-file-ne0) →
     ≡ W.written (first_of (write_refusals s.second s.points.now s.contours.now s.shapes.now)) (edition_file s.second s.points.now s.contours.now s.shapes.now) s.out.now
 told_2 c =
     let s = c.args in
-    c.written-file.ensures ∙ writer-told s.points.now s.contours.now s.shapes.now s.out.now s.second c.requires.0
+    c.written-file.ensures ∙ writer_told s.points.now s.contours.now s.shapes.now s.out.now s.second c.requires.0
 
 pub returns-then-file-ne0 : goal.returns-then-file-ne0
 returns-then-file-ne0 c =

@@ -8,52 +8,52 @@ use lib.Seq.{length-take-le}
 use lib.IntN.{ℤ}
 use Rattle.setfile.specs.Entries.{entry}
 use Rattle.setfile.specs.inside.Reading.{Whole}
-use Rattle.setfile.proofs.ContourLaws.{whole-small, whole-ends}
+use Rattle.setfile.proofs.ContourLaws.{whole_small, whole_ends}
 use Rattle.report.specs.inside.Lines.{Put}
-use Rattle.report.proofs.LinesLaws.{contour_at, contour-read}
+use Rattle.report.proofs.LinesLaws.{contour_at, contour_read}
 use Rattle.jobtext.specs.Text.{line}
-use Rattle.jobtext.proofs.LineLaws.{lining_none, lining-there, lining-on, lining-room, lining-more, lining-all}
+use Rattle.jobtext.proofs.LineLaws.{lining_none, lining_there, lining_on, lining_room, lining_more, lining_all}
 use Rattle.jobtext.proofs.inner.lines.put.Goals as goal
 
 -- the contour that is met is all there
 there : (c : goal.In-loop-i) →
     let s = c.args in
     Whole s.second s.bytes.now c.loop-i.at
-there c = lining-there c.loop-i.invariant.0 c.loop-i-test.true
+there c = lining_there c.loop-i.invariant.0 c.loop-i-test.true
 
 -- the contour that is met is all there
 there_2 : (c : goal.After-put-arg-1) →
     let s = c.args in
     Whole s.second s.bytes.now c.loop-i.at
-there_2 c = lining-there c.loop-i.invariant.0 c.loop-i-test.true
+there_2 c = lining_there c.loop-i.invariant.0 c.loop-i-test.true
 
 -- the contour that is met is all there
 there_3 : (c : goal.After-struct_known-1) →
     let s = c.args in
     Whole s.second s.bytes.now c.loop-i.at
-there_3 c = lining-there c.loop-i.invariant.0 c.loop-i-test.true
+there_3 c = lining_there c.loop-i.invariant.0 c.loop-i-test.true
 
 -- the contour that is met is all there
 there_4 : (c : goal.After-slice_known-in-loop-i-1) →
     let s = c.args in
     Whole s.second s.bytes.now c.loop-i.at
-there_4 c = lining-there c.loop-i.invariant.0 c.loop-i-test.true
+there_4 c = lining_there c.loop-i.invariant.0 c.loop-i-test.true
 
 -- the contour that is met is all there
 there_5 : (c : goal.After-size-at) →
     let s = c.args in
     Whole s.second s.bytes.now c.loop-i.at
-there_5 c = lining-there c.loop-i.invariant.0 c.loop-i-test.true
+there_5 c = lining_there c.loop-i.invariant.0 c.loop-i-test.true
 
 -- and its points have room
 roomy : (c : goal.After-put-arg-1) → 2 * c.header_at-h.result.count ≤ length c.loop-i.points
 roomy c =
-    omega (arith, (whole-small (there_2 c) _ c.header_at-h.ensures).0, c.requires.dumpable.roomy, c.loop-i.invariant.1)
+    omega (arith, (whole_small (there_2 c) _ c.header_at-h.ensures).0, c.requires.dumpable.roomy, c.loop-i.invariant.1)
 
 -- and its points have room
 roomy_2 : (c : goal.After-struct_known-1) → 2 * c.header_at-h.result.count ≤ length c.loop-i.points
 roomy_2 c =
-    omega (arith, (whole-small (there_3 c) _ c.header_at-h.ensures).0, c.requires.dumpable.roomy, c.loop-i.invariant.1)
+    omega (arith, (whole_small (there_3 c) _ c.header_at-h.ensures).0, c.requires.dumpable.roomy, c.loop-i.invariant.1)
 
 -- what was read is the contour
 met : (c : goal.After-struct_known-1) →
@@ -62,7 +62,7 @@ met : (c : goal.After-struct_known-1) →
 met c =
     let s = c.args in
     ap (take (2 * c.header_at-h.result.count)) c.put.ensures
-    ∙ contour-read s.second s.bytes.now c.loop-i.at _ c.header_at-h.ensures c.loop-i.points
+    ∙ contour_read s.second s.bytes.now c.loop-i.at _ c.header_at-h.ensures c.loop-i.points
 
 -- what was read is the contour
 met_2 : (c : goal.After-size-at) →
@@ -71,7 +71,7 @@ met_2 : (c : goal.After-size-at) →
 met_2 c =
     let s = c.args in
     ap (take (2 * c.header_at-h.result.count)) c.put.ensures
-    ∙ contour-read s.second s.bytes.now c.loop-i.at _ c.header_at-h.ensures c.loop-i.points
+    ∙ contour_read s.second s.bytes.now c.loop-i.at _ c.header_at-h.ensures c.loop-i.points
 
 pub loop-i-init : goal.loop-i-init
 loop-i-init c =
@@ -82,11 +82,11 @@ header_at-h-requires c = ((there c).here, (there c).headed)
 
 pub put-requires : goal.put-requires
 put-requires c =
-    (there_2 c, c.header_at-h.ensures, lining-on c.loop-i.invariant.0 c.loop-i-test.true, omega (arith, roomy c))
+    (there_2 c, c.header_at-h.ensures, lining_on c.loop-i.invariant.0 c.loop-i-test.true, omega (arith, roomy c))
 
 pub overflow_mul-h : goal.overflow_mul-h
 overflow_mul-h c =
-    omega (arith, (whole-small (there_3 c) _ c.header_at-h.ensures).0)
+    omega (arith, (whole_small (there_3 c) _ c.header_at-h.ensures).0)
 
 pub slice_bounds-put_line-end : goal.slice_bounds-put_line-end
 slice_bounds-put_line-end c =
@@ -100,16 +100,16 @@ pub put_line-behind-requires : goal.put_line-behind-requires
 put_line-behind-requires c =
     let l = c.loop-i in
     subst (λ (w : List ℤ). l.behind + length (line (entry c.header_at-h.result.begins w)) ≤ length l.text) (sym (met c))
-    (lining-room l.invariant.0 c.loop-i-test.true _ c.header_at-h.ensures)
+    (lining_room l.invariant.0 c.loop-i-test.true _ c.header_at-h.ensures)
 
 pub size-at-requires : goal.size-at-requires
 size-at-requires c =
-    whole-small (there_4 c) _ c.header_at-h.ensures
+    whole_small (there_4 c) _ c.header_at-h.ensures
 
 pub overflow_add-at : goal.overflow_add-at
 overflow_add-at c =
     let w = there_5 c in
-    omega (arith, whole-ends w _ c.header_at-h.ensures _ c.size-at.ensures, w.here.short)
+    omega (arith, whole_ends w _ c.header_at-h.ensures _ c.size-at.ensures, w.here.short)
 
 pub overflow_add-i : goal.overflow_add-i
 overflow_add-i c =
@@ -124,7 +124,7 @@ loop-i-preserved c =
     let put =
     subst (λ (w : List ℤ). Put l.behind (line (entry c.header_at-h.result.begins w)) l.text c.put_line-behind.result c.put_line-behind.new.text) (met_2 c)
     c.put_line-behind.ensures in
-    (lining-more l.invariant.0 c.loop-i-test.true _ c.header_at-h.ensures put _ c.size-at.ensures, c.put.auto.out ∙ l.invariant.1)
+    (lining_more l.invariant.0 c.loop-i-test.true _ c.header_at-h.ensures put _ c.size-at.ensures, c.put.auto.out ∙ l.invariant.1)
 
 pub shape_of-points : goal.shape_of-points
 shape_of-points c = c.loop-i.invariant.1
@@ -133,4 +133,4 @@ pub shape_of-text : goal.shape_of-text
 shape_of-text c = c.loop-i.invariant.0.going.long
 
 pub returns : goal.returns
-returns c = lining-all c.loop-i.invariant.0 c.loop-i-test.false
+returns c = lining_all c.loop-i.invariant.0 c.loop-i-test.false

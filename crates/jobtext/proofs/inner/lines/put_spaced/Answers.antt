@@ -10,7 +10,7 @@ use mir.Facts.{to_z-of_z}
 use Rattle.report.specs.Text.{signed}
 use Rattle.report.specs.inside.Lines.{Put}
 use Rattle.jobtext.specs.Text.{spaced}
-use Rattle.report.proofs.PutLaws.{room-behind, both_put}
+use Rattle.report.proofs.PutLaws.{room_behind, both_put}
 use Rattle.jobtext.proofs.inner.lines.put_spaced.Goals as goal
 
 -- the number that is put is the one that is asked for
@@ -38,7 +38,7 @@ roomy_2 c =
     subst (λ (z : ℤ). c.args.at + length (spaced z) ≤ length c.args.text.now) (sym (same c)) c.requires
 
 pub put_signed-requires : goal.put_signed-requires
-put_signed-requires c = room-behind c.put-behind.ensures (signed (to_z w64 (of_z w64 c.wide.result))) (roomy c)
+put_signed-requires c = room_behind c.put-behind.ensures (signed (to_z w64 (of_z w64 c.wide.result))) (roomy c)
 
 pub returns : goal.returns
 returns c =

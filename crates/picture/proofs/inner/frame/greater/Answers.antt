@@ -1,12 +1,12 @@
 -- `picture::inner::frame::greater` meets its contract.
 use mir.Facts.{to_z-of_z}
-use Rattle.picture.proofs.ExtentLaws.{greater-second, greater-first}
+use Rattle.picture.proofs.ExtentLaws.{greater_second, greater_first}
 use Rattle.picture.proofs.inner.frame.greater.Goals as goal
 
 pub returns-then-a-b : goal.returns-then-a-b
 returns-then-a-b c =
-    rw (to_z-of_z c.ranges.b) (greater-second c.args.a c.args.b (rw (to_z-of_z c.ranges.a, to_z-of_z c.ranges.b) at c.if-a-b.true))
+    rw (to_z-of_z c.ranges.b) (greater_second c.args.a c.args.b (rw (to_z-of_z c.ranges.a, to_z-of_z c.ranges.b) at c.if-a-b.true))
 
 pub returns-else-a-b : goal.returns-else-a-b
 returns-else-a-b c =
-    rw (to_z-of_z c.ranges.a) (greater-first c.args.a c.args.b (rw (to_z-of_z c.ranges.a, to_z-of_z c.ranges.b) at c.if-a-b.false))
+    rw (to_z-of_z c.ranges.a) (greater_first c.args.a c.args.b (rw (to_z-of_z c.ranges.a, to_z-of_z c.ranges.b) at c.if-a-b.false))

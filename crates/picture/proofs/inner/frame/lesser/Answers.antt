@@ -1,12 +1,12 @@
 -- `picture::inner::frame::lesser` meets its contract.
 use mir.Facts.{to_z-of_z}
-use Rattle.picture.proofs.ExtentLaws.{lesser-first, lesser-second}
+use Rattle.picture.proofs.ExtentLaws.{lesser_first, lesser_second}
 use Rattle.picture.proofs.inner.frame.lesser.Goals as goal
 
 pub returns-then-a-b : goal.returns-then-a-b
 returns-then-a-b c =
-    rw (to_z-of_z c.ranges.a) (lesser-first c.args.a c.args.b (rw (to_z-of_z c.ranges.a, to_z-of_z c.ranges.b) at c.if-a-b.true))
+    rw (to_z-of_z c.ranges.a) (lesser_first c.args.a c.args.b (rw (to_z-of_z c.ranges.a, to_z-of_z c.ranges.b) at c.if-a-b.true))
 
 pub returns-else-a-b : goal.returns-else-a-b
 returns-else-a-b c =
-    rw (to_z-of_z c.ranges.b) (lesser-second c.args.a c.args.b (rw (to_z-of_z c.ranges.a, to_z-of_z c.ranges.b) at c.if-a-b.false))
+    rw (to_z-of_z c.ranges.b) (lesser_second c.args.a c.args.b (rw (to_z-of_z c.ranges.a, to_z-of_z c.ranges.b) at c.if-a-b.false))

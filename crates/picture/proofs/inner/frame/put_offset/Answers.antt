@@ -7,7 +7,7 @@ use mir.Val.{to_z, of_z}
 use Rattle.integers.proofs.Logic.{and_both}
 use Rattle.grid.specs.declared.Edge.{Edge}
 use Rattle.grid.specs.Limits.{limit}
-use Rattle.grid.proofs.PointLaws.{x-on, y-on, passed, gone}
+use Rattle.grid.proofs.PointLaws.{x_on, y_on, passed, gone}
 use Rattle.buffer.specs.Sets.{joined}
 use Rattle.report.specs.Text.{signed, space}
 use Rattle.report.proofs.PutLaws.{Going, going_none, going_room, going_more, going_all, three_words}
@@ -21,10 +21,10 @@ words : (c : goal.After-struct_told-3-1) →
     ≡ joined (signed (to_z w64 (of_z w64 c.between-by.result.dx)) ∷ space ∷ signed (to_z w64 (of_z w64 c.between-by.result.dy)) ∷ [])
 words c =
     let k = c.requires.0 in
-    let x = x-on limit _ k.0 in
-    let y = y-on limit _ k.1 in
-    let x₀ = x-on limit _ origin_on in
-    let y₀ = y-on limit _ origin_on in
+    let x = x_on limit _ k.0 in
+    let y = y_on limit _ k.1 in
+    let x₀ = x_on limit _ origin_on in
+    let y₀ = y_on limit _ origin_on in
     ap₂ (λ (a b : ℤ). signed a ++ space ++ signed b)
     (sym (apart_back _ (pos 0) _ x x₀ (gone _ (pos 0) x x₀ (ap (λ (u : Edge). u.dx) c.between-by.ensures))))
     (sym (apart_back _ (pos 0) _ y y₀ (gone _ (pos 0) y y₀ (ap (λ (u : Edge). u.dy) c.between-by.ensures))))
@@ -36,10 +36,10 @@ words_2 : (c : goal.After-put-arg-3-1) →
     ≡ joined (signed (to_z w64 (of_z w64 c.between-by.result.dx)) ∷ space ∷ signed (to_z w64 (of_z w64 c.between-by.result.dy)) ∷ [])
 words_2 c =
     let k = c.requires.0 in
-    let x = x-on limit _ k.0 in
-    let y = y-on limit _ k.1 in
-    let x₀ = x-on limit _ origin_on in
-    let y₀ = y-on limit _ origin_on in
+    let x = x_on limit _ k.0 in
+    let y = y_on limit _ k.1 in
+    let x₀ = x_on limit _ origin_on in
+    let y₀ = y_on limit _ origin_on in
     ap₂ (λ (a b : ℤ). signed a ++ space ++ signed b)
     (sym (apart_back _ (pos 0) _ x x₀ (gone _ (pos 0) x x₀ (ap (λ (u : Edge). u.dx) c.between-by.ensures))))
     (sym (apart_back _ (pos 0) _ y y₀ (gone _ (pos 0) y y₀ (ap (λ (u : Edge). u.dy) c.between-by.ensures))))
@@ -51,10 +51,10 @@ words_3 : (c : goal.After-struct_told-4-1) →
     ≡ joined (signed (to_z w64 (of_z w64 c.between-by.result.dx)) ∷ space ∷ signed (to_z w64 (of_z w64 c.between-by.result.dy)) ∷ [])
 words_3 c =
     let k = c.requires.0 in
-    let x = x-on limit _ k.0 in
-    let y = y-on limit _ k.1 in
-    let x₀ = x-on limit _ origin_on in
-    let y₀ = y-on limit _ origin_on in
+    let x = x_on limit _ k.0 in
+    let y = y_on limit _ k.1 in
+    let x₀ = x_on limit _ origin_on in
+    let y₀ = y_on limit _ origin_on in
     ap₂ (λ (a b : ℤ). signed a ++ space ++ signed b)
     (sym (apart_back _ (pos 0) _ x x₀ (gone _ (pos 0) x x₀ (ap (λ (u : Edge). u.dx) c.between-by.ensures))))
     (sym (apart_back _ (pos 0) _ y y₀ (gone _ (pos 0) y y₀ (ap (λ (u : Edge). u.dy) c.between-by.ensures))))
@@ -66,10 +66,10 @@ words_4 : (c : goal.After-slice_known-4-1) →
     ≡ joined (signed (to_z w64 (of_z w64 c.between-by.result.dx)) ∷ space ∷ signed (to_z w64 (of_z w64 c.between-by.result.dy)) ∷ [])
 words_4 c =
     let k = c.requires.0 in
-    let x = x-on limit _ k.0 in
-    let y = y-on limit _ k.1 in
-    let x₀ = x-on limit _ origin_on in
-    let y₀ = y-on limit _ origin_on in
+    let x = x_on limit _ k.0 in
+    let y = y_on limit _ k.1 in
+    let x₀ = x_on limit _ origin_on in
+    let y₀ = y_on limit _ origin_on in
     ap₂ (λ (a b : ℤ). signed a ++ space ++ signed b)
     (sym (apart_back _ (pos 0) _ x x₀ (gone _ (pos 0) x x₀ (ap (λ (u : Edge). u.dx) c.between-by.ensures))))
     (sym (apart_back _ (pos 0) _ y y₀ (gone _ (pos 0) y y₀ (ap (λ (u : Edge). u.dy) c.between-by.ensures))))
@@ -102,7 +102,7 @@ going_4 c = going_none c.args.at c.args.text.now _ (words_4 c) c.requires.1
 pub between-by-requires : goal.between-by-requires
 between-by-requires c =
     let k = c.requires.0 in
-    let p = passed _ _ (x-on limit _ k.0) (y-on limit _ k.1) in
+    let p = passed _ _ (x_on limit _ k.0) (y_on limit _ k.1) in
     (and_both _ _ p.0 p.1, origin_on)
 
 pub put_signed-second-requires : goal.put_signed-second-requires

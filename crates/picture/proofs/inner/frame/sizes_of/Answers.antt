@@ -4,7 +4,7 @@ use Prim.Native.Nat.{ℕ}
 use lib.IntN.{nat_abs}
 use Rattle.grid.specs.declared.Edge.{Edge}
 use Rattle.grid.specs.Limits.{limit}
-use Rattle.grid.proofs.PointLaws.{x-on, y-on}
+use Rattle.grid.proofs.PointLaws.{x_on, y_on}
 use Rattle.picture.specs.Frame.{sizes_by}
 use Rattle.picture.specs.inside.Parts.{Small}
 use Rattle.picture.proofs.ExtentLaws.{apart_back, sizes_small}
@@ -16,10 +16,10 @@ returns c =
     let k = c.requires in
     let w =
     c.magnitude-width.ensures
-    ∙ ap nat_abs (apart_back _ _ _ (x-on limit _ k.0) (x-on limit _ k.1) (ap (λ (u : Edge). u.dx) c.between-across.ensures)) in
+    ∙ ap nat_abs (apart_back _ _ _ (x_on limit _ k.0) (x_on limit _ k.1) (ap (λ (u : Edge). u.dx) c.between-across.ensures)) in
     let h =
     c.magnitude-height.ensures
-    ∙ ap nat_abs (apart_back _ _ _ (y-on limit _ k.0) (y-on limit _ k.1) (ap (λ (u : Edge). u.dy) c.between-across.ensures)) in
+    ∙ ap nat_abs (apart_back _ _ _ (y_on limit _ k.0) (y_on limit _ k.1) (ap (λ (u : Edge). u.dy) c.between-across.ensures)) in
     let is =
     ap (λ (l : ℕ). record { width = c.magnitude-width.result; height = c.magnitude-height.result; letter = l }) c.letter.ensures ∙ ap₂ sizes_by w h in
     (is, subst Small (sym is) (sizes_small c.args.e k))

@@ -8,44 +8,44 @@ use lib.IntN.{ℤ}
 use mathlib.Core.Bool.{true}
 use Rattle.grid.specs.Limits.{limit, all_on_grid}
 use Rattle.setfile.specs.inside.Reading.{from_bit, front_points, Whole}
-use Rattle.setfile.proofs.ContourLaws.{whole-small, whole-ends}
+use Rattle.setfile.proofs.ContourLaws.{whole_small, whole_ends}
 use Rattle.report.specs.inside.Lines.{Put}
 use Rattle.picture.specs.Picture.{outline}
-use Rattle.vertices.proofs.AlongLaws.{along-there, along-on, along-ends, along-part}
-use Rattle.picture.proofs.OutlineLaws.{outlining_none, outlining-before, outlining-room, outlining-more, outlining-empty, outlining-left, outlining-all}
+use Rattle.vertices.proofs.AlongLaws.{along_there, along_on, along_ends, along_part}
+use Rattle.picture.proofs.OutlineLaws.{outlining_none, outlining_before, outlining_room, outlining_more, outlining_empty, outlining_left, outlining_all}
 use Rattle.picture.proofs.inner.outlines.put.Goals as goal
 
 -- the contour that is met is all there
 there : (c : goal.In-loop-i) →
     let s = c.args in
     Whole s.second s.bytes.now c.loop-i.at
-there c = along-there c.loop-i.invariant.along c.loop-i-test.true
+there c = along_there c.loop-i.invariant.along c.loop-i-test.true
 
 -- the contour that is met is all there
 there_2 : (c : goal.After-struct_known-1) →
     let s = c.args in
     Whole s.second s.bytes.now c.loop-i.at
-there_2 c = along-there c.loop-i.invariant.along c.loop-i-test.true
+there_2 c = along_there c.loop-i.invariant.along c.loop-i-test.true
 
 -- the contour that is met is all there
 there_3 : (c : goal.After-slice_known-in-loop-i-2-1) →
     let s = c.args in
     Whole s.second s.bytes.now c.loop-i.at
-there_3 c = along-there c.loop-i.invariant.along c.loop-i-test.true
+there_3 c = along_there c.loop-i.invariant.along c.loop-i-test.true
 
 -- the contour that is met is all there
 there_4 : (c : goal.After-size-at) →
     let s = c.args in
     Whole s.second s.bytes.now c.loop-i.at
-there_4 c = along-there c.loop-i.invariant.along c.loop-i-test.true
+there_4 c = along_there c.loop-i.invariant.along c.loop-i-test.true
 
 -- and its points are in the row
 ends : (c : goal.After-struct_known-1) → c.loop-i.start + 2 * c.header_at-h.result.count ≤ length c.args.points.now
-ends c = along-ends c.loop-i.invariant.along c.loop-i-test.true _ c.header_at-h.ensures
+ends c = along_ends c.loop-i.invariant.along c.loop-i-test.true _ c.header_at-h.ensures
 
 -- and its points are in the row
 ends_2 : (c : goal.After-put_outline-arg-1) → c.loop-i.start + 2 * c.header_at-h.result.count ≤ length c.args.points.now
-ends_2 c = along-ends c.loop-i.invariant.along c.loop-i-test.true _ c.header_at-h.ensures
+ends_2 c = along_ends c.loop-i.invariant.along c.loop-i-test.true _ c.header_at-h.ensures
 
 -- the part of the row that is lent is that contour
 part : (c : goal.After-put_outline-arg-in-loop-i-1) →
@@ -55,7 +55,7 @@ part : (c : goal.After-put_outline-arg-in-loop-i-1) →
 part c =
     let l = c.loop-i in
     let k : l.start + 2 * c.header_at-h.result.count - l.start ≡ 2 * c.header_at-h.result.count = omega arith in
-    ap (λ (n : ℕ). take n (drop l.start c.args.points.now)) k ∙ along-part l.invariant.along c.loop-i-test.true _ c.header_at-h.ensures
+    ap (λ (n : ℕ). take n (drop l.start c.args.points.now)) k ∙ along_part l.invariant.along c.loop-i-test.true _ c.header_at-h.ensures
 
 -- the part of the row that is lent is that contour
 part_2 : (c : goal.After-size-at) →
@@ -65,7 +65,7 @@ part_2 : (c : goal.After-size-at) →
 part_2 c =
     let l = c.loop-i in
     let k : l.start + 2 * c.header_at-h.result.count - l.start ≡ 2 * c.header_at-h.result.count = omega arith in
-    ap (λ (n : ℕ). take n (drop l.start c.args.points.now)) k ∙ along-part l.invariant.along c.loop-i-test.true _ c.header_at-h.ensures
+    ap (λ (n : ℕ). take n (drop l.start c.args.points.now)) k ∙ along_part l.invariant.along c.loop-i-test.true _ c.header_at-h.ensures
 
 pub loop-i-init : goal.loop-i-init
 loop-i-init c =
@@ -76,11 +76,11 @@ header_at-h-requires c = ((there c).here, (there c).headed)
 
 pub put_before-begun-requires : goal.put_before-begun-requires
 put_before-begun-requires c =
-    outlining-before c.loop-i.invariant c.loop-i-test.true _ c.header_at-h.ensures
+    outlining_before c.loop-i.invariant c.loop-i-test.true _ c.header_at-h.ensures
 
 pub overflow_mul-end : goal.overflow_mul-end
 overflow_mul-end c =
-    omega (arith, (whole-small (there_2 c) _ c.header_at-h.ensures).0)
+    omega (arith, (whole_small (there_2 c) _ c.header_at-h.ensures).0)
 
 pub overflow_add-end : goal.overflow_add-end
 overflow_add-end c = let e = ends c in omega arith
@@ -103,18 +103,18 @@ put_outline-behind-requires c =
     let go = c.loop-i-test.true in
     let h =
     subst (λ (w : List ℤ). (all_on_grid limit w ≡ true) × (c.put_before-begun.result + length (outline w) ≤ length c.put_before-begun.new.text)) (sym (part c))
-    (along-on l.invariant.along go, outlining-room l.invariant go _ c.header_at-h.ensures c.put_before-begun.ensures)
+    (along_on l.invariant.along go, outlining_room l.invariant go _ c.header_at-h.ensures c.put_before-begun.ensures)
     in
     record { contour_value = h.0; contour_in_bounds = h.1 }
 
 pub size-at-requires : goal.size-at-requires
 size-at-requires c =
-    whole-small (there_3 c) _ c.header_at-h.ensures
+    whole_small (there_3 c) _ c.header_at-h.ensures
 
 pub overflow_add-at : goal.overflow_add-at
 overflow_add-at c =
     let w = there_4 c in
-    omega (arith, whole-ends w _ c.header_at-h.ensures _ c.size-at.ensures, w.here.short)
+    omega (arith, whole_ends w _ c.header_at-h.ensures _ c.size-at.ensures, w.here.short)
 
 pub overflow_add-i : goal.overflow_add-i
 overflow_add-i c = omega (arith, c.loop-i-test.true, c.ranges.n)
@@ -125,7 +125,7 @@ loop-i-smaller c = omega (arith, c.loop-i-test.true)
 pub loop-i-preserved : goal.loop-i-preserved
 loop-i-preserved c =
     let l = c.loop-i in
-    outlining-more l.invariant c.loop-i-test.true _ c.header_at-h.ensures c.put_before-begun.ensures
+    outlining_more l.invariant c.loop-i-test.true _ c.header_at-h.ensures c.put_before-begun.ensures
     (subst (λ (w : List ℤ). Put c.put_before-begun.result (outline w) c.put_before-begun.new.text c.put_outline-behind.result c.put_outline-behind.new.text) (part_2 c)
     c.put_outline-behind.ensures) _ c.size-at.ensures
 
@@ -134,11 +134,11 @@ shape_of-text-then-n-eq0 c = c.loop-i.invariant.going.long
 
 pub returns-then-n-eq0 : goal.returns-then-n-eq0
 returns-then-n-eq0 c =
-    outlining-empty c.loop-i.invariant c.loop-i-test.false c.if-n-eq0.true
+    outlining_empty c.loop-i.invariant c.loop-i-test.false c.if-n-eq0.true
 
 pub put-requires : goal.put-requires
 put-requires c =
-    outlining-left c.loop-i.invariant c.loop-i-test.false c.if-n-eq0.false
+    outlining_left c.loop-i.invariant c.loop-i-test.false c.if-n-eq0.false
 
 pub shape_of-text : goal.shape_of-text
 shape_of-text c =
@@ -146,4 +146,4 @@ shape_of-text c =
 
 pub returns : goal.returns
 returns c =
-    outlining-all c.loop-i.invariant c.loop-i-test.false c.if-n-eq0.false c.put.ensures
+    outlining_all c.loop-i.invariant c.loop-i-test.false c.if-n-eq0.false c.put.ensures

@@ -8,7 +8,7 @@ use mir.Syntax.{w64}
 use mir.Val.{to_z, of_z}
 use mir.Facts.{to_z-of_z}
 use Rattle.report.specs.Text.{signed, space}
-use Rattle.report.proofs.PutLaws.{room-behind, both_put}
+use Rattle.report.proofs.PutLaws.{room_behind, both_put}
 use Rattle.picture.specs.Picture.{coordinate}
 use Rattle.picture.proofs.inner.outlines.put_coordinate.Goals as goal
 
@@ -36,7 +36,7 @@ put_signed-behind-requires c =
 
 pub put-requires : goal.put-requires
 put-requires c =
-    room-behind c.put_signed-behind.ensures space (rw (words_2 c) at c.requires)
+    room_behind c.put_signed-behind.ensures space (rw (words_2 c) at c.requires)
 
 pub returns : goal.returns
 returns c =

@@ -1,7 +1,7 @@
 -- `picture::inner::outlines::put_coordinates` meets its contract: those ahead are left.
 use lib.IntN.{pos}
 use Rattle.grid.specs.Limits.{limit}
-use Rattle.grid.proofs.LimitLaws.{on_grid_back, all-on-grid-at}
+use Rattle.grid.proofs.LimitLaws.{on_grid_back, all_on_grid_at}
 use Rattle.picture.specs.Picture.{coordinate}
 use Rattle.vertices.proofs.WritingLaws.{writing_none, writing_room, writing_more, writing_all}
 use Rattle.picture.proofs.inner.outlines.put_coordinates.Goals as goal
@@ -11,13 +11,13 @@ loop-i-init c = writing_none coordinate _ _ _ c.requires.contour_in_bounds
 
 pub put_coordinate-behind-requires : goal.put_coordinate-behind-requires
 put_coordinate-behind-requires c =
-    rw (on_grid_back _ (all-on-grid-at limit c.args.contour.now c.loop-i.i c.requires.contour_value))
+    rw (on_grid_back _ (all_on_grid_at limit c.args.contour.now c.loop-i.i c.requires.contour_value))
     (writing_room coordinate c.loop-i.invariant (pos 0) c.loop-i-test.true)
 
 pub loop-i-preserved : goal.loop-i-preserved
 loop-i-preserved c =
     writing_more coordinate c.loop-i.invariant (pos 0) c.loop-i-test.true
-    (rw (on_grid_back _ (all-on-grid-at limit c.args.contour.now c.loop-i.i c.requires.contour_value)) at c.put_coordinate-behind.ensures)
+    (rw (on_grid_back _ (all_on_grid_at limit c.args.contour.now c.loop-i.i c.requires.contour_value)) at c.put_coordinate-behind.ensures)
 
 pub shape_of-text : goal.shape_of-text
 shape_of-text c = c.loop-i.invariant.going.long

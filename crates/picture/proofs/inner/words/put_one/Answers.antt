@@ -2,7 +2,7 @@
 use native.Mathlib.Omega.{arith}
 use lib.ListN.{length-append}
 use Rattle.report.specs.Text.{decimal}
-use Rattle.report.proofs.PutLaws.{room-behind, both_put}
+use Rattle.report.proofs.PutLaws.{room_behind, both_put}
 use Rattle.picture.proofs.inner.words.put_one.Goals as goal
 
 pub put-behind-requires : goal.put-behind-requires
@@ -11,7 +11,7 @@ put-behind-requires c =
 
 pub put_number-requires : goal.put_number-requires
 put_number-requires c =
-    room-behind c.put-behind.ensures (decimal c.args.n) c.requires
+    room_behind c.put-behind.ensures (decimal c.args.n) c.requires
 
 pub returns : goal.returns
 returns c =

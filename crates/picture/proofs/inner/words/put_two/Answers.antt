@@ -3,7 +3,7 @@ use mathlib.Core.List.{◌++◌}
 use native.Mathlib.Omega.{arith}
 use lib.ListN.{length-append}
 use Rattle.report.specs.Text.{decimal}
-use Rattle.report.proofs.PutLaws.{room-behind, both_put}
+use Rattle.report.proofs.PutLaws.{room_behind, both_put}
 use Rattle.picture.proofs.inner.words.put_two.Goals as goal
 
 pub put_one-behind-requires : goal.put_one-behind-requires
@@ -13,7 +13,7 @@ put_one-behind-requires c =
 
 pub put_one-requires : goal.put_one-requires
 put_one-requires c =
-    room-behind c.put_one-behind.ensures (c.args.other.now ++ decimal c.args.n) c.requires
+    room_behind c.put_one-behind.ensures (c.args.other.now ++ decimal c.args.n) c.requires
 
 pub returns : goal.returns
 returns c =

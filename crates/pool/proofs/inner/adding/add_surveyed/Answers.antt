@@ -2,7 +2,7 @@
 use mathlib.Core.Path.{◌∙◌, ap}
 use native.Mathlib.Omega.{arith}
 use Rattle.pool.specs.Outcome.{leaving}
-use Rattle.pool.proofs.CallLaws.{shares-small, Asked, add_refused, add_holds, add_fits, add_done, grown_not}
+use Rattle.pool.proofs.CallLaws.{shares_small, Asked, add_refused, add_holds, add_fits, add_done, grown_not}
 use Rattle.pool.proofs.inner.adding.add_surveyed.Goals as goal
 
 -- what is asked of the contour, the pool and the room
@@ -46,7 +46,7 @@ asked_3 c = record {
 
 pub refusal-refused-requires : goal.refusal-refused-requires
 refusal-refused-requires c =
-    λ e. let h = shares-small _ c.args.found c.requires c.args.second e in (omega (arith, h.0, c.share-mine.ensures), omega (arith, h.1, c.share-others.ensures))
+    λ e. let h = shares_small _ c.args.found c.requires c.args.second e in (omega (arith, h.0, c.share-mine.ensures), omega (arith, h.1, c.share-others.ensures))
 
 pub returns-then-refused-ne0 : goal.returns-then-refused-ne0
 returns-then-refused-ne0 c =

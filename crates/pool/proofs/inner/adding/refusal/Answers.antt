@@ -2,7 +2,7 @@
 use mathlib.Core.Path.{sym, ◌∙◌}
 use Rattle.grid.specs.Limits.{limit}
 use Rattle.buffer.proofs.RefusalLaws.{accepted}
-use Rattle.pool.proofs.CallLaws.{asked-first, asked-full, asked-room, asked-done}
+use Rattle.pool.proofs.CallLaws.{asked_first, asked_full, asked_room, asked_done}
 use borrow.Author.Rules.{rules}
 use Rattle.std.proofs.Common.{ap}
 use Rattle.std.proofs.Common.{not}
@@ -16,7 +16,7 @@ pub returns-then-first-ne0 : goal.returns-then-first-ne0
 unfolding limit
 returns-then-first-ne0 c =
     let s = c.args in
-    asked-first s.contour.now s.sound s.mine s.others s.enough _ c.of_set-first.ensures c.if-first-ne0.true
+    asked_first s.contour.now s.sound s.mine s.others s.enough _ c.of_set-first.ensures c.if-first-ne0.true
 
 pub full-requires : goal.full-requires
 unfolding limit
@@ -28,16 +28,16 @@ pub returns-then-full : goal.returns-then-full
 unfolding limit
 returns-then-full c =
     let s = c.args in
-    asked-full s.contour.now s.sound s.mine s.others s.enough (sym c.of_set-first.ensures ∙ c.if-first-ne0.false) (sym c.full.ensures ∙ c.if-full.true)
+    asked_full s.contour.now s.sound s.mine s.others s.enough (sym c.of_set-first.ensures ∙ c.if-first-ne0.false) (sym c.full.ensures ∙ c.if-full.true)
 
 pub returns-then-not-enough : goal.returns-then-not-enough
 unfolding limit
 returns-then-not-enough c =
     let s = c.args in
-    asked-room s.contour.now s.sound s.mine s.others s.enough (sym c.of_set-first.ensures ∙ c.if-first-ne0.false) (sym c.full.ensures ∙ c.if-full.false) (ap not c.if-not-enough.true)
+    asked_room s.contour.now s.sound s.mine s.others s.enough (sym c.of_set-first.ensures ∙ c.if-first-ne0.false) (sym c.full.ensures ∙ c.if-full.false) (ap not c.if-not-enough.true)
 
 pub returns : goal.returns
 unfolding limit
 returns c =
     let s = c.args in
-    asked-done s.contour.now s.sound s.mine s.others s.enough (sym c.of_set-first.ensures ∙ c.if-first-ne0.false) (sym c.full.ensures ∙ c.if-full.false) (ap not c.if-not-enough.false)
+    asked_done s.contour.now s.sound s.mine s.others s.enough (sym c.of_set-first.ensures ∙ c.if-first-ne0.false) (sym c.full.ensures ∙ c.if-full.false) (ap not c.if-not-enough.false)

@@ -7,7 +7,7 @@ use lib.ListN.{length, get_or, take, drop}
 use Rattle.rows.proofs.RowLaws.{copied_none, copied_more, copied_all}
 use Rattle.pool.specs.inside.Records.{lowered}
 use Rattle.pool.proofs.RowLaws.{ahead}
-use Rattle.pool.proofs.MovingLaws.{lowered-length, lowered-at}
+use Rattle.pool.proofs.MovingLaws.{lowered-length, lowered_at}
 use Rattle.pool.proofs.inner.moving.records.Goals as goal
 
 pub loop-i-init : goal.loop-i-init
@@ -38,7 +38,7 @@ loop-i-preserved c =
     let same = ahead s.row.now s.at _ c.loop-i.invariant (s.at + 1 + c.loop-i.i) [] (omega (arith, pre.there)) (omega arith) in
     let n = lowered-length s.row.now (s.at + 1) s.d s.n pre.there in
     copied_more _ _ _ c.loop-i.invariant [] _ (omega (arith, pre.there)) (omega arith)
-    (ap (lowered s.d) same ∙ sym (lowered-at s.row.now (s.at + 1) s.d s.n pre.there c.loop-i.i (omega arith)))
+    (ap (lowered s.d) same ∙ sym (lowered_at s.row.now (s.at + 1) s.d s.n pre.there c.loop-i.i (omega arith)))
 
 pub shape_of-row : goal.shape_of-row
 shape_of-row c = c.loop-i.invariant.long

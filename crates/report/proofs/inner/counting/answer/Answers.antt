@@ -8,13 +8,13 @@ use Rattle.ring.specs.Rule.{goes}
 use Rattle.ring.specs.inside.Rows.{FirstStand}
 use Rattle.clean.specs.inside.Settling.{alone}
 use Rattle.report.specs.Listing.{rule_of}
-use Rattle.clean.proofs.OutcomeLaws.{settled-few}
-use Rattle.clean.proofs.Unchanged.{settled-untouched}
+use Rattle.clean.proofs.OutcomeLaws.{settled_few}
+use Rattle.clean.proofs.Unchanged.{settled_untouched}
 use Rattle.report.proofs.inner.counting.answer.Goals as goal
 
 pub returns-then-n-lt3 : goal.returns-then-n-lt3
 returns-then-n-lt3 c =
-    (settled-few (rule_of c.args.second) c.args.contour.now [] c.requires.contour c.if-n-lt3.true).answer
+    (settled_few (rule_of c.args.second) c.args.contour.now [] c.requires.contour c.if-n-lt3.true).answer
 
 pub standing-standing-requires : goal.standing-standing-requires
 standing-standing-requires c =
@@ -22,7 +22,7 @@ standing-standing-requires c =
 
 pub returns-then-standing-n : goal.returns-then-standing-n
 returns-then-standing-n c =
-    (settled-untouched c.rule.result c.args.contour.now [] c.requires.contour c.if-n-lt3.false c.standing-standing.ensures c.if-standing-n.true _ refl).answer
+    (settled_untouched c.rule.result c.args.contour.now [] c.requires.contour c.if-n-lt3.false c.standing-standing.ensures c.if-standing-n.true _ refl).answer
     ∙ ap (λ (r : R.Rule). (alone r c.args.contour.now []).answer) c.rule.ensures
 
 pub walked-requires : goal.walked-requires

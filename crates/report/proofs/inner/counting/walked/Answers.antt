@@ -7,7 +7,7 @@ use Rattle.ring.specs.declared.Rule as R
 use Rattle.ring.specs.Rule.{goes}
 use Rattle.ring.specs.inside.Rows.{FirstStand}
 use Rattle.clean.specs.inside.Settling.{alone}
-use Rattle.clean.proofs.OutcomeLaws.{settled-kept, settled-fallen}
+use Rattle.clean.proofs.OutcomeLaws.{settled_kept, settled_fallen}
 use Rattle.report.proofs.CountLaws.{few_unmarked}
 use Rattle.report.proofs.inner.counting.walked.Goals as goal
 
@@ -32,12 +32,12 @@ turns-requires c =
 
 pub returns-then-ending : goal.returns-then-ending
 returns-then-ending c =
-    (settled-kept c.rule.result c.args.contour.now [] c.requires.contour.0 c.walk-ending.result _ _ c.walk-ending.ensures
+    (settled_kept c.rule.result c.args.contour.now [] c.requires.contour.0 c.walk-ending.result _ _ c.walk-ending.ensures
     c.if-ending.true _ _ _ c.survivors-points.ensures c.turns.ensures refl).answer
     ∙ ap (λ (r : R.Rule). (alone r c.args.contour.now []).answer) c.rule.ensures
 
 pub returns : goal.returns
 returns c =
-    (settled-fallen c.rule.result c.args.contour.now [] c.requires.contour.0 c.walk-ending.result _ _ c.walk-ending.ensures
+    (settled_fallen c.rule.result c.args.contour.now [] c.requires.contour.0 c.walk-ending.result _ _ c.walk-ending.ensures
     c.if-ending.false).answer
     ∙ ap (λ (r : R.Rule). (alone r c.args.contour.now []).answer) c.rule.ensures

@@ -4,7 +4,7 @@ use lib.ListN.{length-append}
 use Rattle.report.specs.Text.{decimal, space}
 use Rattle.report.proofs.TextLaws.{decimal_is}
 use Rattle.report.proofs.DigitLaws.{decimal_long, one_digit}
-use Rattle.report.proofs.PutLaws.{room-behind, both_put}
+use Rattle.report.proofs.PutLaws.{room_behind, both_put}
 use Rattle.report.proofs.inner.line.put_cell.Goals as goal
 
 pub put_one-one-requires : goal.put_one-one-requires
@@ -15,7 +15,7 @@ put_one-one-requires c =
 pub put-requires : goal.put-requires
 put-requires c =
     let number = rw (decimal_is c.args.n 1 c.ranges.n.fits (one_digit c.args.n c.if-n-lt10.true)) at c.put_one-one.ensures in
-    room-behind number space c.requires
+    room_behind number space c.requires
 
 pub returns-then-n-lt10 : goal.returns-then-n-lt10
 returns-then-n-lt10 c =
@@ -28,7 +28,7 @@ put_number-behind-requires c =
 
 pub put-requires-2 : goal.put-requires-2
 put-requires-2 c =
-    room-behind c.put_number-behind.ensures space c.requires
+    room_behind c.put_number-behind.ensures space c.requires
 
 pub returns : goal.returns
 returns c =

@@ -7,41 +7,41 @@ use lib.ListN.{length, take}
 use lib.Seq.{length-take-le}
 use lib.IntN.{ℤ}
 use Rattle.setfile.specs.inside.Reading.{Whole}
-use Rattle.setfile.proofs.ContourLaws.{whole-small, whole-ends}
+use Rattle.setfile.proofs.ContourLaws.{whole_small, whole_ends}
 use Rattle.report.specs.Listing.{line, rule_of}
 use Rattle.report.specs.inside.Lines.{Put, Cleanable}
-use Rattle.report.proofs.LinesLaws.{contour_at, contour-long, contour-read, lining_none, lining-there, lining-on, lining-few, lining-cleanable, lining-room, lining-more, lining-all}
+use Rattle.report.proofs.LinesLaws.{contour_at, contour_long, contour_read, lining_none, lining_there, lining_on, lining_few, lining_cleanable, lining_room, lining_more, lining_all}
 use Rattle.report.proofs.inner.lines.put.Goals as goal
 
 -- the contour that is met is all there
 there : (c : goal.In-loop-i) →
     let s = c.args in
     Whole s.second s.bytes.now c.loop-i.at
-there c = lining-there c.loop-i.invariant.0 c.loop-i-test.true
+there c = lining_there c.loop-i.invariant.0 c.loop-i-test.true
 
 -- the contour that is met is all there
 there_2 : (c : goal.After-put-arg-1) →
     let s = c.args in
     Whole s.second s.bytes.now c.loop-i.at
-there_2 c = lining-there c.loop-i.invariant.0 c.loop-i-test.true
+there_2 c = lining_there c.loop-i.invariant.0 c.loop-i-test.true
 
 -- the contour that is met is all there
 there_3 : (c : goal.After-struct_known-1) →
     let s = c.args in
     Whole s.second s.bytes.now c.loop-i.at
-there_3 c = lining-there c.loop-i.invariant.0 c.loop-i-test.true
+there_3 c = lining_there c.loop-i.invariant.0 c.loop-i-test.true
 
 -- the contour that is met is all there
 there_4 : (c : goal.After-slice_known-in-loop-i-4-1) →
     let s = c.args in
     Whole s.second s.bytes.now c.loop-i.at
-there_4 c = lining-there c.loop-i.invariant.0 c.loop-i-test.true
+there_4 c = lining_there c.loop-i.invariant.0 c.loop-i-test.true
 
 -- the contour that is met is all there
 there_5 : (c : goal.After-size-at) →
     let s = c.args in
     Whole s.second s.bytes.now c.loop-i.at
-there_5 c = lining-there c.loop-i.invariant.0 c.loop-i-test.true
+there_5 c = lining_there c.loop-i.invariant.0 c.loop-i-test.true
 
 -- and its points have room
 roomy : (c : goal.After-put-arg-1) → 2 * c.header_at-h.result.count ≤ length c.loop-i.points
@@ -50,8 +50,8 @@ roomy c =
     let p = c.requires.listable in
     omega (
       arith,
-      lining-few l.invariant.0 c.loop-i-test.true,
-      contour-long c.args.second c.args.bytes.now l.at _ c.header_at-h.ensures,
+      lining_few l.invariant.0 c.loop-i-test.true,
+      contour_long c.args.second c.args.bytes.now l.at _ c.header_at-h.ensures,
       p.1.in_points,
       l.invariant.1,
     )
@@ -63,8 +63,8 @@ roomy_2 c =
     let p = c.requires.listable in
     omega (
       arith,
-      lining-few l.invariant.0 c.loop-i-test.true,
-      contour-long c.args.second c.args.bytes.now l.at _ c.header_at-h.ensures,
+      lining_few l.invariant.0 c.loop-i-test.true,
+      contour_long c.args.second c.args.bytes.now l.at _ c.header_at-h.ensures,
       p.1.in_points,
       l.invariant.1,
     )
@@ -76,7 +76,7 @@ met : (c : goal.After-put-arg-in-loop-i-4-1) →
 met c =
     let s = c.args in
     ap (take (2 * c.header_at-h.result.count)) c.put.ensures
-    ∙ contour-read s.second s.bytes.now c.loop-i.at _ c.header_at-h.ensures c.loop-i.points
+    ∙ contour_read s.second s.bytes.now c.loop-i.at _ c.header_at-h.ensures c.loop-i.points
 
 -- what was read is the contour
 met_2 : (c : goal.After-size-at) →
@@ -85,7 +85,7 @@ met_2 : (c : goal.After-size-at) →
 met_2 c =
     let s = c.args in
     ap (take (2 * c.header_at-h.result.count)) c.put.ensures
-    ∙ contour-read s.second s.bytes.now c.loop-i.at _ c.header_at-h.ensures c.loop-i.points
+    ∙ contour_read s.second s.bytes.now c.loop-i.at _ c.header_at-h.ensures c.loop-i.points
 
 pub loop-i-init : goal.loop-i-init
 loop-i-init c =
@@ -96,11 +96,11 @@ header_at-h-requires c = ((there c).here, (there c).headed)
 
 pub put-requires : goal.put-requires
 put-requires c =
-    (there_2 c, c.header_at-h.ensures, lining-on c.loop-i.invariant.0 c.loop-i-test.true, omega (arith, roomy c))
+    (there_2 c, c.header_at-h.ensures, lining_on c.loop-i.invariant.0 c.loop-i-test.true, omega (arith, roomy c))
 
 pub overflow_mul-contour : goal.overflow_mul-contour
 overflow_mul-contour c =
-    omega (arith, (whole-small (there_3 c) _ c.header_at-h.ensures).0)
+    omega (arith, (whole_small (there_3 c) _ c.header_at-h.ensures).0)
 
 pub slice_bounds-contour-end : goal.slice_bounds-contour-end
 slice_bounds-contour-end c =
@@ -115,20 +115,20 @@ put-behind-requires c =
     let l = c.loop-i in
     let p = c.requires.listable in
     let cleanable =
-    lining-cleanable l.invariant.0 c.loop-i-test.true l.next l.prev l.mark
+    lining_cleanable l.invariant.0 c.loop-i-test.true l.next l.prev l.mark
     (omega (arith, p.1.in_next, l.invariant.2)) (omega (arith, p.1.in_prev, l.invariant.3)) (omega (arith, p.1.in_mark, l.invariant.4)) in record {
       cleanable = subst (λ (w : List ℤ). Cleanable w l.next l.prev l.mark) (sym (met c)) cleanable;
-      contour_in_bounds = subst (λ (w : List ℤ). l.behind + length (line (rule_of c.args.second) (l.i + 1) w) ≤ length l.text) (sym (met c)) (lining-room l.invariant.0 c.loop-i-test.true);
+      contour_in_bounds = subst (λ (w : List ℤ). l.behind + length (line (rule_of c.args.second) (l.i + 1) w) ≤ length l.text) (sym (met c)) (lining_room l.invariant.0 c.loop-i-test.true);
     }
 
 pub size-at-requires : goal.size-at-requires
 size-at-requires c =
-    whole-small (there_4 c) _ c.header_at-h.ensures
+    whole_small (there_4 c) _ c.header_at-h.ensures
 
 pub overflow_add-at : goal.overflow_add-at
 overflow_add-at c =
     let w = there_5 c in
-    omega (arith, whole-ends w _ c.header_at-h.ensures _ c.size-at.ensures, w.here.short)
+    omega (arith, whole_ends w _ c.header_at-h.ensures _ c.size-at.ensures, w.here.short)
 
 pub overflow_add-i-in-loop-i : goal.overflow_add-i-in-loop-i
 overflow_add-i-in-loop-i c =
@@ -144,7 +144,7 @@ loop-i-preserved c =
     let put =
     subst (λ (w : List ℤ). Put l.behind (line (rule_of s.second) (l.i + 1) w) l.text c.put-behind.result c.put-behind.new.text) (met_2 c)
     c.put-behind.ensures in (
-      lining-more l.invariant.0 c.loop-i-test.true put _ c.header_at-h.ensures _ c.size-at.ensures,
+      lining_more l.invariant.0 c.loop-i-test.true put _ c.header_at-h.ensures _ c.size-at.ensures,
       c.put.auto.out ∙ l.invariant.1,
       c.put-behind.auto.next ∙ l.invariant.2,
       c.put-behind.auto.prev ∙ l.invariant.3,
@@ -167,4 +167,4 @@ pub shape_of-text : goal.shape_of-text
 shape_of-text c = c.loop-i.invariant.0.going.long
 
 pub returns : goal.returns
-returns c = lining-all c.loop-i.invariant.0 c.loop-i-test.false
+returns c = lining_all c.loop-i.invariant.0 c.loop-i-test.false

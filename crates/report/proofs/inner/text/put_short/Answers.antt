@@ -5,7 +5,7 @@ use lib.ListN.{length}
 use native.Mathlib.Omega.{arith}
 use Rattle.io.specs.Digits.{IsDigitCount}
 use Rattle.report.proofs.TextLaws.{decimal_is}
-use Rattle.report.proofs.DigitLaws.{decimal_long, one_digit, digits-room, digits-put}
+use Rattle.report.proofs.DigitLaws.{decimal_long, one_digit, digits_room, digits_put}
 use Rattle.report.proofs.inner.text.put_short.Goals as goal
 
 -- so many digits hold it, by the tests that it passed
@@ -62,13 +62,13 @@ put_one-behind-requires c = (omega (arith, c.if-n-lt1000.true), omega (arith, th
 
 pub put_two-requires-then-n-lt1000 : goal.put_two-requires-then-n-lt1000
 put_two-requires-then-n-lt1000 c =
-    (omega arith, digits-room 1 2 c.args.n (three_room_2 c) c.put_one-behind.ensures)
+    (omega arith, digits_room 1 2 c.args.n (three_room_2 c) c.put_one-behind.ensures)
 
 pub returns-then-n-lt1000 : goal.returns-then-n-lt1000
 returns-then-n-lt1000 c =
     let n = c.args.n in
     rw (sym (decimal_is n 3 (omega (arith, c.requires.0)) (three n c.if-n-lt100.false c.if-n-lt1000.true)))
-    (digits-put 1 2 n (three_room_3 c) c.put_one-behind.ensures c.put_two-then-n-lt1000.ensures)
+    (digits_put 1 2 n (three_room_3 c) c.put_one-behind.ensures c.put_two-then-n-lt1000.ensures)
 
 pub put_four-requires : goal.put_four-requires
 put_four-requires c =

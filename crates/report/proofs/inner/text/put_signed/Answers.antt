@@ -5,7 +5,7 @@ use native.Mathlib.Omega.{arith}
 use lib.ListN.{length-append}
 use Rattle.report.specs.Text.{dash, decimal, signed}
 use Rattle.report.proofs.TextLaws.{signed_below, signed_above}
-use Rattle.report.proofs.PutLaws.{room-behind, both_put}
+use Rattle.report.proofs.PutLaws.{room_behind, both_put}
 use Rattle.report.proofs.inner.text.put_signed.Goals as goal
 
 -- the words of a number below zero
@@ -29,7 +29,7 @@ put-behind-requires c =
 
 pub put_number-requires : goal.put_number-requires
 put_number-requires c =
-    room-behind c.put-behind.ensures (decimal c.magnitude-size.result) (rw (words_2 c) at c.requires)
+    room_behind c.put-behind.ensures (decimal c.magnitude-size.result) (rw (words_2 c) at c.requires)
 
 pub returns-then-z-lt0 : goal.returns-then-z-lt0
 returns-then-z-lt0 c =

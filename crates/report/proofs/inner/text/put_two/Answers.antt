@@ -1,6 +1,6 @@
 -- `report::inner::text::put_two` meets its contract: half of the digits, and the other half.
 use native.Mathlib.Omega.{arith}
-use Rattle.report.proofs.DigitLaws.{digits-room, digits-put}
+use Rattle.report.proofs.DigitLaws.{digits_room, digits_put}
 use Rattle.report.proofs.inner.text.put_two.Goals as goal
 
 pub put_one-behind-requires : goal.put_one-behind-requires
@@ -8,8 +8,8 @@ put_one-behind-requires c = let p = c.requires in (omega (arith, p.0), omega (ar
 
 pub put_one-requires : goal.put_one-requires
 put_one-requires c =
-    (omega arith, digits-room 1 1 c.args.n c.requires.1 c.put_one-behind.ensures)
+    (omega arith, digits_room 1 1 c.args.n c.requires.1 c.put_one-behind.ensures)
 
 pub returns : goal.returns
 returns c =
-    digits-put 1 1 c.args.n c.requires.1 c.put_one-behind.ensures c.put_one.ensures
+    digits_put 1 1 c.args.n c.requires.1 c.put_one-behind.ensures c.put_one.ensures

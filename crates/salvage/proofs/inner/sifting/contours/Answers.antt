@@ -3,7 +3,7 @@ use mathlib.Core.Path.{◌≡◌, sym, ◌∙◌}
 use mathlib.Core.Bool.{true}
 use native.Mathlib.Omega.{arith}
 use lib.ListN.{drop}
-use Rattle.salvage.proofs.SiftLaws.{sifting_none, ready, sifting-more, stopped, finished}
+use Rattle.salvage.proofs.SiftLaws.{sifting_none, ready, sifting_more, stopped, finished}
 use Rattle.setfile.specs.inside.Bytes.{all_there}
 use Rattle.salvage.proofs.inner.sifting.contours.Goals as goal
 
@@ -51,7 +51,7 @@ loop-i-smaller c =
 
 pub loop-i-preserved : goal.loop-i-preserved
 loop-i-preserved c =
-    sifting-more c.loop-i.invariant c.requires c.loop-i-test.true (there_2 c)
+    sifting_more c.loop-i.invariant c.requires c.loop-i-test.true (there_2 c)
     (λ i h. (c.type_inv.bytes i).fits) c.sift-s.ensures
 
 pub overflow_sub-result-2 : goal.overflow_sub-result-2

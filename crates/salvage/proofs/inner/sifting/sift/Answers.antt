@@ -1,7 +1,7 @@
 -- `salvage::inner::sifting::sift` meets its contract.
 use mathlib.Core.Path.{◌≡◌}
 use lib.ListN.{drop}
-use Rattle.salvage.proofs.SiftLaws.{reason_is, sifts-kept, sifts-noted}
+use Rattle.salvage.proofs.SiftLaws.{reason_is, sifts_kept, sifts_noted}
 use Rattle.setfile.specs.inside.Bytes.{front_entry}
 use Rattle.salvage.specs.Fates.{reason}
 use Rattle.salvage.proofs.inner.sifting.sift.Goals as goal
@@ -27,11 +27,11 @@ judged_2 c =
 pub returns-then-wrong-eq0 : goal.returns-then-wrong-eq0
 returns-then-wrong-eq0 c =
     let s = c.args in
-    sifts-kept s.bytes.now s.s s.i s.out.now s.list.now _ c.held-n.ensures _
+    sifts_kept s.bytes.now s.s s.i s.out.now s.list.now _ c.held-n.ensures _
     (judged c) c.if-wrong-eq0.true c.copy_bytes.ensures
 
 pub returns : goal.returns
 returns c =
     let s = c.args in
-    sifts-noted s.bytes.now s.s s.i s.out.now s.list.now _ c.held-n.ensures _
+    sifts_noted s.bytes.now s.s s.i s.out.now s.list.now _ c.held-n.ensures _
     (judged_2 c) c.if-wrong-eq0.false _ c.starts-begins.ensures

@@ -3,7 +3,7 @@ use Rattle.std.proofs.Common.{Bool, List, ℤ, sym, ap, ◌∙◌, ap₂, arith}
 use Rattle.grid.specs.Limits.{all_on_grid}
 use Rattle.rows.specs.Rows.{placed}
 use Rattle.setfile.specs.Editions.{bound}
-use Rattle.setfile.proofs.ContourLaws.{whole-small, First, first_there, Second, second_there}
+use Rattle.setfile.proofs.ContourLaws.{whole_small, First, first_there, Second, second_there}
 use Rattle.setfile.proofs.inner.contours.put.Goals as goal
 
 pub overflow_add-at : goal.overflow_add-at
@@ -27,7 +27,7 @@ pub overflow_add-at-else-second : goal.overflow_add-at-else-second
 overflow_add-at-else-second c = let p = c.requires in omega (arith, p.0.here.within, p.0.here.short)
 
 pub overflow_mul-h : goal.overflow_mul-h
-overflow_mul-h c = let p = c.requires in omega (arith, (whole-small p.0 _ p.1).0)
+overflow_mul-h c = let p = c.requires in omega (arith, (whole_small p.0 _ p.1).0)
 
 -- it is of edition 1
 first : (c : goal.After-coordinates-arg-1) → let s = c.args in First s.second s.bytes.now s.at s.h

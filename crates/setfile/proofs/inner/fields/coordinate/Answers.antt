@@ -3,7 +3,7 @@ use Rattle.std.proofs.Common.{ℕ, drop, ap, ◌∙◌, arith, length-drop, to_z
 use borrow.Author.Rules.{sfits_of}
 use Rattle.bits.proofs.WordLaws.{byte_drop}
 use Rattle.setfile.specs.inside.Bytes.{swapped}
-use Rattle.setfile.proofs.FieldLaws.{coordinate-swapped}
+use Rattle.setfile.proofs.FieldLaws.{coordinate_swapped}
 use Rattle.setfile.proofs.inner.fields.coordinate.Goals as goal
 
 pub returns : goal.returns
@@ -12,4 +12,4 @@ returns c =
     let small = byte_drop s.at s.bytes.now (λ (i : ℕ). (c.type_inv.bytes i).fits) in
     to_z-of_z {w = w32} (sfits_of c.signed_32.type_inv) ∙ c.signed_32.ensures
     ∙ ap (to_z w32) (c.swapped.ensures ∙ ap swapped c.word.ensures)
-    ∙ coordinate-swapped (drop s.at s.bytes.now) small (omega (arith, length-drop s.at s.bytes.now, c.requires))
+    ∙ coordinate_swapped (drop s.at s.bytes.now) small (omega (arith, length-drop s.at s.bytes.now, c.requires))

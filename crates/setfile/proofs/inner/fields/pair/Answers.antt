@@ -1,6 +1,6 @@
 -- `setfile::inner::fields::pair` meets its contract: two bytes make a number below 65,536.
 use Rattle.std.proofs.Common.{ℕ, ◌+◌, arith}
-use Rattle.setfile.proofs.FieldLaws.{pair-at}
+use Rattle.setfile.proofs.FieldLaws.{pair_at}
 use Rattle.setfile.proofs.inner.fields.pair.Goals as goal
 
 pub overflow_cast-result : goal.overflow_cast-result
@@ -19,4 +19,4 @@ overflow_add-result-2 c =
 
 pub returns : goal.returns
 returns c =
-    pair-at c.args.bytes.now c.args.at (λ (i : ℕ). (c.type_inv.bytes i).fits) c.requires
+    pair_at c.args.bytes.now c.args.at (λ (i : ℕ). (c.type_inv.bytes i).fits) c.requires

@@ -4,7 +4,7 @@ use lib.Bits.{bit_or, or_mod, or_add_and, and_le_l, and_le_r}
 use Rattle.bits.proofs.WordLaws.{byte_drop}
 use Rattle.grid.specs.Limits.{narrow, on_grid, all_on_grid}
 use Rattle.setfile.specs.inside.Bytes.{low_first, decoded}
-use Rattle.setfile.proofs.FieldLaws.{first-byte-on-grid}
+use Rattle.setfile.proofs.FieldLaws.{first_byte_on_grid}
 use Rattle.setfile.proofs.ReadLaws.{decoded_more, decoded_none}
 use Rattle.setfile.proofs.inner.fields.raised_bits.Goals as goal
 
@@ -58,7 +58,7 @@ loop-i-preserved c =
           let small : any % 256 < 64 = omega (arith, h, both, or_add_and (any % 2 ^ 8) (more % 2 ^ 8), and_le_r (any % 2 ^ 8) (more % 2 ^ 8)) in
           let low : more % 2 ^ 8 < 64 = omega (arith, h, both, or_add_and (any % 2 ^ 8) (more % 2 ^ 8), and_le_l (any % 2 ^ 8) (more % 2 ^ 8)) in
           c.loop-i.invariant.1 small ∙ ap (all_on_grid narrow) (decoded_more f s.at s.k i c.loop-i-test.true)
-          ∙ first_on _ (decoded (s.k - (i + 1)) (drop (s.at + 4 * (i + 1)) f)) (first-byte-on-grid (drop (s.at + 4 * i) f) small_bytes four (rw is at low)),
+          ∙ first_on _ (decoded (s.k - (i + 1)) (drop (s.at + 4 * (i + 1)) f)) (first_byte_on_grid (drop (s.at + 4 * i) f) small_bytes four (rw is at low)),
     )
 
 pub returns : goal.returns

@@ -1,10 +1,10 @@
 -- `setfile::inner::filling::begun_shapes` meets its contract: the shape that is met is written where the next begins, and the last at the end.
 use Rattle.std.proofs.Common.{◌≡◌, ◌<◌, length, arith, length-set}
 use Rattle.setfile.specs.inside.Reading.{Whole}
-use Rattle.setfile.proofs.ContourLaws.{whole-small, whole-ends}
+use Rattle.setfile.proofs.ContourLaws.{whole_small, whole_ends}
 use Rattle.setfile.proofs.RestLaws.{first_whole}
 use Rattle.setfile.proofs.FillLaws.{contour_there}
-use Rattle.setfile.proofs.ShapeFillLaws.{shapes_room, shapes-next, shapes-done, shapes_first}
+use Rattle.setfile.proofs.ShapeFillLaws.{shapes_room, shapes_next, shapes_done, shapes_first}
 use Rattle.setfile.proofs.inner.filling.begun_shapes.Goals as goal
 
 -- the first contour is all there
@@ -49,12 +49,12 @@ pub header_at-first-requires : goal.header_at-first-requires
 header_at-first-requires c = ((first c).here, (first c).headed)
 
 pub size-at-requires : goal.size-at-requires
-size-at-requires c = whole-small (first_2 c) _ c.header_at-first.ensures
+size-at-requires c = whole_small (first_2 c) _ c.header_at-first.ensures
 
 pub overflow_add-at : goal.overflow_add-at
 overflow_add-at c =
     let w = first_3 c in
-    omega (arith, whole-ends w _ c.header_at-first.ensures _ c.size-at.ensures, w.here.short)
+    omega (arith, whole_ends w _ c.header_at-first.ensures _ c.size-at.ensures, w.here.short)
 
 pub loop-i-init : goal.loop-i-init
 loop-i-init c =
@@ -69,12 +69,12 @@ pub begin-shape-requires : goal.begin-shape-requires
 begin-shape-requires c = roomy c
 
 pub size-at-requires-in-loop-i : goal.size-at-requires-in-loop-i
-size-at-requires-in-loop-i c = whole-small (there_2 c) _ c.header_at-h.ensures
+size-at-requires-in-loop-i c = whole_small (there_2 c) _ c.header_at-h.ensures
 
 pub overflow_add-at-in-loop-i : goal.overflow_add-at-in-loop-i
 overflow_add-at-in-loop-i c =
     let w = there_3 c in
-    omega (arith, whole-ends w _ c.header_at-h.ensures _ c.size-at-in-loop-i.ensures, w.here.short)
+    omega (arith, whole_ends w _ c.header_at-h.ensures _ c.size-at-in-loop-i.ensures, w.here.short)
 
 pub overflow_add-i : goal.overflow_add-i
 overflow_add-i c =
@@ -87,7 +87,7 @@ pub loop-i-preserved : goal.loop-i-preserved
 loop-i-preserved c =
     let l = c.loop-i in
     let e = c.begin-shape.ensures in
-    let next = shapes-next _ l.invariant.2 l.invariant.1 c.loop-i-test.true _ c.header_at-h.ensures _ c.size-at-in-loop-i.ensures _ _ e.0 e.1 in
+    let next = shapes_next _ l.invariant.2 l.invariant.1 c.loop-i-test.true _ c.header_at-h.ensures _ c.size-at-in-loop-i.ensures _ _ e.0 e.1 in
     (omega (arith, c.loop-i-test.true), next.0, next.1)
 
 pub offset_bounds-groups-k : goal.offset_bounds-groups-k
@@ -102,4 +102,4 @@ shape_of-groups c = simp length-set c.loop-i.invariant.2.ahead.long
 pub returns : goal.returns
 returns c =
     let done : c.loop-i.i ≡ c.args.n = omega arith in
-    shapes-done _ c.loop-i.invariant.2 c.loop-i.invariant.1 done
+    shapes_done _ c.loop-i.invariant.2 c.loop-i.invariant.1 done

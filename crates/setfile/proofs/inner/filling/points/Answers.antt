@@ -3,8 +3,8 @@ use Rattle.std.proofs.Common.{◌≡◌, ◌+◌, ◌*◌, ◌≤◌, length, re
 use Rattle.buffer.specs.Sets.{joined}
 use Rattle.setfile.specs.declared.inner.headers.Header.{Header}
 use Rattle.setfile.specs.inside.Reading.{Whole}
-use Rattle.setfile.proofs.ContourLaws.{whole-small, whole-ends}
-use Rattle.setfile.proofs.FillLaws.{filling_all, filling_done, points_made, coming, contour_there, points_room, points-more}
+use Rattle.setfile.proofs.ContourLaws.{whole_small, whole_ends}
+use Rattle.setfile.proofs.FillLaws.{filling_all, filling_done, points_made, coming, contour_there, points_room, points_more}
 use Rattle.setfile.proofs.inner.filling.points.Goals as goal
 
 -- the contour that is met is all there
@@ -60,16 +60,16 @@ put-requires c =
 
 pub size-at-requires : goal.size-at-requires
 size-at-requires c =
-    whole-small (there_3 c) _ c.header_at-h.ensures
+    whole_small (there_3 c) _ c.header_at-h.ensures
 
 pub overflow_add-at : goal.overflow_add-at
 overflow_add-at c =
     let w = there_4 c in
-    omega (arith, whole-ends w _ c.header_at-h.ensures _ c.size-at.ensures, w.here.short)
+    omega (arith, whole_ends w _ c.header_at-h.ensures _ c.size-at.ensures, w.here.short)
 
 pub overflow_mul-to : goal.overflow_mul-to
 overflow_mul-to c =
-    omega (arith, (whole-small (there_5 c) _ c.header_at-h.ensures).0)
+    omega (arith, (whole_small (there_5 c) _ c.header_at-h.ensures).0)
 
 pub overflow_add-to : goal.overflow_add-to
 overflow_add-to c =
@@ -85,7 +85,7 @@ loop-i-smaller c = omega (arith, c.loop-i-test.true)
 pub loop-i-preserved : goal.loop-i-preserved
 loop-i-preserved c = (
   omega (arith, c.loop-i-test.true),
-  points-more c.loop-i.invariant.1 c.loop-i-test.true _ c.header_at-h.ensures _ c.size-at.ensures _ c.put.ensures,
+  points_more c.loop-i.invariant.1 c.loop-i-test.true _ c.header_at-h.ensures _ c.size-at.ensures _ c.put.ensures,
 )
 
 pub shape_of-out : goal.shape_of-out

@@ -2,8 +2,8 @@
 use Rattle.std.proofs.Common.{◌≡◌, ◌<◌, ◌≤◌, length, refl, arith}
 use Rattle.buffer.specs.Spans.{laid}
 use Rattle.setfile.specs.inside.Reading.{contained, Whole}
-use Rattle.setfile.proofs.ContourLaws.{whole-small, whole-ends}
-use Rattle.setfile.proofs.FillLaws.{filling_all, filling_done, contours_made, contours_made_length, contour_there, contour_counted, contours-room, contours-more}
+use Rattle.setfile.proofs.ContourLaws.{whole_small, whole_ends}
+use Rattle.setfile.proofs.FillLaws.{filling_all, filling_done, contours_made, contours_made_length, contour_there, contour_counted, contours_room, contours_more}
 use Rattle.setfile.proofs.inner.filling.ranges.Goals as goal
 
 -- the contour that is met is all there
@@ -26,7 +26,7 @@ there_3 c = contour_there c.loop-i.invariant.2 c.loop-i-test.true
 
 -- and its range has room
 roomy : (c : goal.After-struct_known-1) → c.loop-i.i < length c.loop-i.records
-roomy c = contours-room _ c.loop-i.invariant.2 c.loop-i-test.true
+roomy c = contours_room _ c.loop-i.invariant.2 c.loop-i-test.true
 
 pub loop-i-init : goal.loop-i-init
 loop-i-init c =
@@ -41,7 +41,7 @@ header_at-h-requires c = ((there c).here, (there c).headed)
 pub overflow_add-end : goal.overflow_add-end
 overflow_add-end c =
     let w = there_2 c in
-    omega (arith, (whole-small w _ c.header_at-h.ensures).0, c.loop-i.invariant.1, w.here.within, w.here.short)
+    omega (arith, (whole_small w _ c.header_at-h.ensures).0, c.loop-i.invariant.1, w.here.within, w.here.short)
 
 pub offset_bounds-records-i : goal.offset_bounds-records-i
 offset_bounds-records-i c = omega (arith, roomy c, c.loop-i.invariant.2.ahead.long)
@@ -50,12 +50,12 @@ pub bounds-records-i : goal.bounds-records-i
 bounds-records-i c = omega (arith, roomy c)
 
 pub size-at-requires : goal.size-at-requires
-size-at-requires c = whole-small (there_2 c) _ c.header_at-h.ensures
+size-at-requires c = whole_small (there_2 c) _ c.header_at-h.ensures
 
 pub overflow_add-at : goal.overflow_add-at
 overflow_add-at c =
     let w = there_3 c in
-    omega (arith, whole-ends w _ c.header_at-h.ensures _ c.size-at.ensures, w.here.short)
+    omega (arith, whole_ends w _ c.header_at-h.ensures _ c.size-at.ensures, w.here.short)
 
 pub overflow_add-i : goal.overflow_add-i
 overflow_add-i c = omega (arith, c.loop-i-test.true)
@@ -69,7 +69,7 @@ loop-i-preserved c =
     let more = c.loop-i-test.true in (
       omega (arith, more),
       omega (arith, l.invariant.1, contour_counted l.invariant.2 more _ c.header_at-h.ensures _ c.size-at.ensures),
-      contours-more _ l.invariant.2 more _ c.header_at-h.ensures _ c.size-at.ensures,
+      contours_more _ l.invariant.2 more _ c.header_at-h.ensures _ c.size-at.ensures,
     )
 
 pub shape_of-records : goal.shape_of-records

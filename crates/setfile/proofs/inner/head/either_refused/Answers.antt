@@ -1,30 +1,30 @@
 -- `setfile::inner::head::either_refused` meets its contract.
 use Rattle.std.proofs.Common.{◌≡◌, ℕ, ◌/◌, ap, ◌∙◌}
 use Rattle.setfile.specs.Layouts.{edition_of}
-use Rattle.setfile.proofs.ByteLaws.{edition-by-pair}
-use Rattle.setfile.proofs.FaultLaws.{over-long-either, head-short-either, head-neither, head-either}
+use Rattle.setfile.proofs.ByteLaws.{edition_by_pair}
+use Rattle.setfile.proofs.FaultLaws.{over_long_either, head_short_either, head_neither, head_either}
 use Rattle.setfile.proofs.inner.head.either_refused.Goals as goal
 
 pub returns-then-bytes-gt-MOST_BYTES : goal.returns-then-bytes-gt-MOST_BYTES
-returns-then-bytes-gt-MOST_BYTES c = over-long-either c.args.bytes.now c.if-bytes-gt-MOST_BYTES.true
+returns-then-bytes-gt-MOST_BYTES c = over_long_either c.args.bytes.now c.if-bytes-gt-MOST_BYTES.true
 
 pub returns-then-bytes-lt2 : goal.returns-then-bytes-lt2
-returns-then-bytes-lt2 c = head-short-either c.args.bytes.now c.if-bytes-gt-MOST_BYTES.false c.if-bytes-lt2.true
+returns-then-bytes-lt2 c = head_short_either c.args.bytes.now c.if-bytes-gt-MOST_BYTES.false c.if-bytes-lt2.true
 
 -- the edition that is met
 edition : (c : goal.Then-edition) → c.pair-edition.result / 4096 ≡ edition_of c.args.bytes.now
 edition c =
-    ap (λ (n : ℕ). n / 4096) c.pair-edition.ensures ∙ edition-by-pair c.args.bytes.now c.if-bytes-lt2.false
+    ap (λ (n : ℕ). n / 4096) c.pair-edition.ensures ∙ edition_by_pair c.args.bytes.now c.if-bytes-lt2.false
 
 -- the edition that is met
 edition_2 : (c : goal.Else-edition) → c.pair-edition.result / 4096 ≡ edition_of c.args.bytes.now
 edition_2 c =
-    ap (λ (n : ℕ). n / 4096) c.pair-edition.ensures ∙ edition-by-pair c.args.bytes.now c.if-bytes-lt2.false
+    ap (λ (n : ℕ). n / 4096) c.pair-edition.ensures ∙ edition_by_pair c.args.bytes.now c.if-bytes-lt2.false
 
 pub returns-then-edition : goal.returns-then-edition
 returns-then-edition c =
-    head-neither c.args.bytes.now c.if-bytes-gt-MOST_BYTES.false c.if-bytes-lt2.false _ (edition c) c.if-edition.true
+    head_neither c.args.bytes.now c.if-bytes-gt-MOST_BYTES.false c.if-bytes-lt2.false _ (edition c) c.if-edition.true
 
 pub returns : goal.returns
 returns c =
-    head-either c.args.bytes.now c.if-bytes-gt-MOST_BYTES.false c.if-bytes-lt2.false _ (edition_2 c) c.if-edition.false
+    head_either c.args.bytes.now c.if-bytes-gt-MOST_BYTES.false c.if-bytes-lt2.false _ (edition_2 c) c.if-edition.false

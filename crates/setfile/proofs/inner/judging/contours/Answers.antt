@@ -6,7 +6,7 @@ use Rattle.setfile.specs.Layouts.{contours_in}
 use Rattle.setfile.specs.Editions.{layout}
 use Rattle.setfile.specs.inside.Reading.{from_bit, Whole, none_met, Within, summed}
 use Rattle.setfile.proofs.ContourLaws.{right, whole}
-use Rattle.setfile.proofs.JudgeLaws.{judged-faulty, judged-more, within_more, none_left}
+use Rattle.setfile.proofs.JudgeLaws.{judged_faulty, judged_more, within_more, none_left}
 use Rattle.setfile.proofs.inner.judging.contours.Goals as goal
 
 -- the contour that is met has no fault
@@ -54,7 +54,7 @@ returns-then-wrong-ne0 c =
     let l = c.loop-i in
     let s = c.args in
     c.refused.ensures
-    ∙ judged-faulty s.second s.bytes.now s.n l.i l.m (eqb l.i 0) c.loop-i-test.true
+    ∙ judged_faulty s.second s.bytes.now s.n l.i l.m (eqb l.i 0) c.loop-i-test.true
     _ c.contour_fault-wrong.ensures c.if-wrong-ne0.true
     ∙ sym l.invariant.2
 
@@ -82,7 +82,7 @@ loop-i-preserved c =
     (sym c.met_more-m.ensures) (
       within_more b f s.n l.i l.m l.invariant.0 (there_2 c) r.counted r.some,
       omega arith,
-      l.invariant.2 ∙ judged-more b f s.n l.i l.m (eqb l.i 0) c.loop-i-test.true (sound c),
+      l.invariant.2 ∙ judged_more b f s.n l.i l.m (eqb l.i 0) c.loop-i-test.true (sound c),
     )
 
 pub finished-requires : goal.finished-requires

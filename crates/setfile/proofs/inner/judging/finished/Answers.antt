@@ -3,7 +3,7 @@ use Rattle.std.proofs.Common.{◌≡◌, sym, ap, ◌∙◌}
 use Rattle.replies.specs.Ladder.{first_of}
 use Rattle.setfile.specs.Layouts.{end_damage}
 use Rattle.setfile.specs.inside.Reading.{from_bit, on_or_refused}
-use Rattle.setfile.proofs.JudgeLaws.{left_over, all-met}
+use Rattle.setfile.proofs.JudgeLaws.{left_over, all_met}
 use Rattle.setfile.proofs.inner.judging.finished.Goals as goal
 
 pub end_fault-wrong-requires : goal.end_fault-wrong-requires
@@ -30,10 +30,10 @@ pub returns-then-m : goal.returns-then-m
 unfolding first_of
 returns-then-m c =
     let s = c.args in
-    all-met s.second s.m s.n (from_bit s.bytes.now s.m.at) (ended c) 0 (sym (ap on_or_refused c.if-m.true))
+    all_met s.second s.m s.n (from_bit s.bytes.now s.m.at) (ended c) 0 (sym (ap on_or_refused c.if-m.true))
 
 pub returns-else-m : goal.returns-else-m
 unfolding first_of
 returns-else-m c =
     let s = c.args in
-    all-met s.second s.m s.n (from_bit s.bytes.now s.m.at) (ended_2 c) 3 (sym (ap on_or_refused c.if-m.false))
+    all_met s.second s.m s.n (from_bit s.bytes.now s.m.at) (ended_2 c) 3 (sym (ap on_or_refused c.if-m.false))

@@ -3,12 +3,12 @@ use Rattle.std.proofs.Common.{◌≡◌, ℕ, ◌+◌, ◌/◌, ◌≤◌, List,
 use mir.Facts.{Fits-of_lt}
 use Rattle.steps.specs.Steps.{differences}
 use Rattle.steps.specs.Bodies.{contour_width, body_size}
-use Rattle.steps.proofs.BodyLaws.{width-within-32}
+use Rattle.steps.proofs.BodyLaws.{width_within_32}
 use Rattle.buffer.specs.Spans.{span}
 use Rattle.buffer.specs.Sets.{contour}
 use Rattle.buffer.proofs.PartLaws.{same_numbers}
 use Rattle.setfile.specs.inside.Writing.{Countable, written_size}
-use Rattle.setfile.proofs.MeasureLaws.{size_within, size-more, size-done, widths_more}
+use Rattle.setfile.proofs.MeasureLaws.{size_within, size_more, size_done, widths_more}
 use Rattle.setfile.proofs.inner.measuring.file_length.Goals as goal
 
 -- the contour of a number
@@ -32,7 +32,7 @@ width_is : (c : goal.After-second_size-bits) → let s = c.args in
 width_is c = c.width-width.ensures ∙ ap contour_width (same_numbers c.named-contour.ensures)
 
 narrow : (c : goal.After-width-width) → c.width-width.result ≤ 32
-narrow c = rw c.width-width.ensures (width-within-32 (differences c.named-contour.result.now))
+narrow c = rw c.width-width.ensures (width_within_32 (differences c.named-contour.result.now))
 
 sized : (c : goal.After-second_size-bits) → let s = c.args in
     c.second_size-bits.result ≡ written_size (part s.points.now s.contours.now c.loop-k.k)
@@ -77,7 +77,7 @@ loop-k-preserved c =
     let cs = c.args.contours.now in (
       omega (arith, h),
       omega (arith, short c, v.1),
-      omega (arith, v.2, sized c, size-more p cs c.loop-k.k h (part p cs c.loop-k.k) refl),
+      omega (arith, v.2, sized c, size_more p cs c.loop-k.k h (part p cs c.loop-k.k) refl),
       widths_more (λ (j : ℕ). contour_width (part p cs j)) c.loop-k.widths c.loop-k.k c.width-width.result (omega (arith, v.4, c.requires.2, h)) v.3 (width_is c),
       simp length-set v.4,
     )
@@ -91,6 +91,6 @@ shape_of-widths c = c.loop-k.invariant.4
 pub returns : goal.returns
 returns c =
     let l = c.loop-k in (
-      omega (arith, l.invariant.2, size-done c.args.points.now c.args.contours.now l.k (omega arith)),
+      omega (arith, l.invariant.2, size_done c.args.points.now c.args.contours.now l.k (omega arith)),
       record { all = omega (arith, l.invariant.4, c.requires.2); is = λ j h. l.invariant.3 j (omega arith) },
     )

@@ -2,7 +2,7 @@
 use Rattle.std.proofs.Common.{arith}
 use mir.Facts.{Fits-of_lt}
 use Rattle.setfile.specs.Entries.{entry}
-use Rattle.setfile.proofs.CodedLaws.{header-room, coordinates-room, contour-put}
+use Rattle.setfile.proofs.CodedLaws.{header_room, coordinates_room, contour_put}
 use Rattle.bits.proofs.BitLaws.{byte_digit, byte_below}
 use Rattle.setfile.proofs.inner.putting.put_contour_1.Goals as goal
 
@@ -14,12 +14,12 @@ overflow_add-head c = Fits-of_lt (omega (arith, byte_below c.args.begins))
 
 pub put_pair-behind-requires : goal.put_pair-behind-requires
 put_pair-behind-requires c =
-    rw (byte_digit c.args.begins) (header-room (entry c.args.begins c.args.contour.now) c.args.at c.args.bytes.now c.requires.0 c.requires.1)
+    rw (byte_digit c.args.begins) (header_room (entry c.args.begins c.args.contour.now) c.args.at c.args.bytes.now c.requires.0 c.requires.1)
 
 pub put_coordinates-requires : goal.put_coordinates-requires
 put_coordinates-requires c =
-    coordinates-room (entry c.args.begins c.args.contour.now) c.args.at c.args.bytes.now c.requires.0 c.requires.1 (rw (byte_digit c.args.begins) at c.put_pair-behind.ensures)
+    coordinates_room (entry c.args.begins c.args.contour.now) c.args.at c.args.bytes.now c.requires.0 c.requires.1 (rw (byte_digit c.args.begins) at c.put_pair-behind.ensures)
 
 pub returns : goal.returns
 returns c =
-    contour-put (entry c.args.begins c.args.contour.now) c.args.at c.args.bytes.now c.requires.0 c.requires.1 (rw (byte_digit c.args.begins) at c.put_pair-behind.ensures) c.put_coordinates.ensures
+    contour_put (entry c.args.begins c.args.contour.now) c.args.at c.args.bytes.now c.requires.0 c.requires.1 (rw (byte_digit c.args.begins) at c.put_pair-behind.ensures) c.put_coordinates.ensures

@@ -2,7 +2,7 @@
 use Rattle.std.proofs.Common.{length, arith}
 use mir.Facts.{Fits-of_lt}
 use Rattle.bits.proofs.BitLaws.{byte_below}
-use Rattle.setfile.proofs.PutLaws.{head_is, head_room, shapes-penned, all-reached, file-front, file-ends}
+use Rattle.setfile.proofs.PutLaws.{head_is, head_room, shapes_penned, all_reached, file_front, file_ends}
 use Rattle.setfile.proofs.inner.putting.put_file.Goals as goal
 
 pub overflow_mul-head : goal.overflow_mul-head
@@ -20,13 +20,13 @@ put_pair-behind-requires c =
 
 pub put_shapes-done-requires : goal.put_shapes-done-requires
 put_shapes-done-requires c =
-    (c.requires.0.named, c.requires.0.grouped, c.requires.1, shapes-penned c.requires.0 (rw (head_is c.args.second (length c.args.contours.now)) at c.put_pair-behind.ensures))
+    (c.requires.0.named, c.requires.0.grouped, c.requires.1, shapes_penned c.requires.0 (rw (head_is c.args.second (length c.args.contours.now)) at c.put_pair-behind.ensures))
 
 pub lift-requires : goal.lift-requires
 lift-requires c =
-    all-reached c.requires.0 (rw (head_is c.args.second (length c.args.contours.now)) at c.put_pair-behind.ensures) c.put_shapes-done.ensures
+    all_reached c.requires.0 (rw (head_is c.args.second (length c.args.contours.now)) at c.put_pair-behind.ensures) c.put_shapes-done.ensures
 
 pub returns : goal.returns
 returns c =
     let head = rw (head_is c.args.second (length c.args.contours.now)) at c.put_pair-behind.ensures in
-    (file-front c.requires.0 head c.put_shapes-done.ensures c.lift.ensures (λ i. (c.type_inv.bytes i).fits), file-ends c.requires.0 head c.put_shapes-done.ensures c.lift.ensures (λ i. (c.type_inv.bytes i).fits))
+    (file_front c.requires.0 head c.put_shapes-done.ensures c.lift.ensures (λ i. (c.type_inv.bytes i).fits), file_ends c.requires.0 head c.put_shapes-done.ensures c.lift.ensures (λ i. (c.type_inv.bytes i).fits))

@@ -3,8 +3,8 @@ use Rattle.std.proofs.Common.{sym, ap, ◌∙◌, arith}
 use Rattle.steps.specs.Bodies.{contour_width}
 use Rattle.buffer.proofs.PartLaws.{same_numbers}
 use Rattle.setfile.specs.Editions.{layout}
-use Rattle.setfile.proofs.WriteLaws.{none_inked, bits-room, bits-inked, all-inked}
-use Rattle.setfile.proofs.CodedLaws.{next-contour, no-contour, first_contour}
+use Rattle.setfile.proofs.WriteLaws.{none_inked, bits_room, bits_inked, all_inked}
+use Rattle.setfile.proofs.CodedLaws.{next_contour, no_contour, first_contour}
 use Rattle.setfile.proofs.inner.putting.put_shape.Goals as goal
 
 pub loop-k-init : goal.loop-k-init
@@ -30,8 +30,8 @@ put_contour-behind-requires c =
       record {
         small = v.0.wrote.small;
         few = v.1;
-        room = bits-room v.0
-            (next-contour (layout c.args.second) c.args.points.now c.args.ranges.now c.args.from c.loop-k.k c.args.to v.2 h
+        room = bits_room v.0
+            (next_contour (layout c.args.second) c.args.points.now c.args.ranges.now c.args.from c.loop-k.k c.args.to v.2 h
             (c.requires.0 _ h).0.there _ part);
       },
     )
@@ -40,8 +40,8 @@ pub loop-k-preserved : goal.loop-k-preserved
 loop-k-preserved c =
     let v = c.loop-k.invariant in
     let h = c.loop-k-test.true in (
-      bits-inked v.0
-          (next-contour (layout c.args.second) c.args.points.now c.args.ranges.now c.args.from c.loop-k.k c.args.to v.2 h
+      bits_inked v.0
+          (next_contour (layout c.args.second) c.args.points.now c.args.ranges.now c.args.from c.loop-k.k c.args.to v.2 h
           (c.requires.0 _ h).0.there _ (same_numbers c.named-contour.ensures))
           c.put_contour-behind.ensures.wrote,
       c.put_contour-behind.ensures.few,
@@ -56,6 +56,6 @@ returns c =
     let s = c.args in
     let v = c.loop-k.invariant in
     record {
-      wrote = all-inked v.0 (no-contour (layout s.second) s.points.now s.ranges.now s.from c.loop-k.k s.to (omega arith));
+      wrote = all_inked v.0 (no_contour (layout s.second) s.points.now s.ranges.now s.from c.loop-k.k s.to (omega arith));
       few = v.1;
     }

@@ -1,7 +1,7 @@
 -- `setfile::inner::putting::put_shapes` meets its contract: the shapes that are left are written behind what is written.
 use Rattle.std.proofs.Common.{arith}
-use Rattle.setfile.proofs.WriteLaws.{none_inked, bits-room, bits-inked, all-inked}
-use Rattle.setfile.proofs.CodedLaws.{next-shape, no_shape}
+use Rattle.setfile.proofs.WriteLaws.{none_inked, bits_room, bits_inked, all_inked}
+use Rattle.setfile.proofs.CodedLaws.{next_shape, no_shape}
 use Rattle.setfile.proofs.inner.putting.put_shapes.Goals as goal
 
 pub loop-i-init : goal.loop-i-init
@@ -19,14 +19,14 @@ put_shape-behind-requires c =
       record {
         small = v.0.wrote.small;
         few = v.1;
-        room = bits-room v.0 (next-shape c.args.second c.args.points.now c.args.contours.now c.args.shapes.now c.loop-i.i h);
+        room = bits_room v.0 (next_shape c.args.second c.args.points.now c.args.contours.now c.args.shapes.now c.loop-i.i h);
       },
     )
 
 pub loop-i-preserved : goal.loop-i-preserved
 loop-i-preserved c =
     let s = c.args in (
-      bits-inked c.loop-i.invariant.0 (next-shape s.second s.points.now s.contours.now s.shapes.now c.loop-i.i c.loop-i-test.true)
+      bits_inked c.loop-i.invariant.0 (next_shape s.second s.points.now s.contours.now s.shapes.now c.loop-i.i c.loop-i-test.true)
           c.put_shape-behind.ensures.wrote,
       c.put_shape-behind.ensures.few,
     )
@@ -39,6 +39,6 @@ returns c =
     let s = c.args in
     let v = c.loop-i.invariant in
     record {
-      wrote = all-inked v.0 (no_shape s.second s.points.now s.contours.now s.shapes.now c.loop-i.i (omega arith));
+      wrote = all_inked v.0 (no_shape s.second s.points.now s.contours.now s.shapes.now c.loop-i.i (omega arith));
       few = v.1;
     }

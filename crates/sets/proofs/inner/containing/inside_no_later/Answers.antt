@@ -6,7 +6,7 @@ use Rattle.path.specs.Locate.{location}
 use Rattle.buffer.specs.Spans.{span}
 use Rattle.buffer.specs.Sets.{contour}
 use Rattle.sets.specs.Contains.{inside}
-use Rattle.sets.proofs.PartLaws.{one-fails, one_passes, all_pass}
+use Rattle.sets.proofs.PartLaws.{one_fails, one_passes, all_pass}
 use Rattle.sets.proofs.inner.containing.inside_no_later.Goals as goal
 
 -- what is asked of a contour
@@ -32,7 +32,7 @@ location-requires c = (c.requires, c.loop-i-test.true)
 pub returns-then-location-eq-INSIDE : goal.returns-then-location-eq-INSIDE
 returns-then-location-eq-INSIDE c =
     let s = c.args in
-    sym (one-fails (out s.p) s.points.now s.ranges.now 1 c.loop-i.i c.loop-i.invariant c.loop-i-test.true (ap not (eq-eqb _ 2 (sym (here c) ∙ c.if-location-eq-INSIDE.true))))
+    sym (one_fails (out s.p) s.points.now s.ranges.now 1 c.loop-i.i c.loop-i.invariant c.loop-i-test.true (ap not (eq-eqb _ 2 (sym (here c) ∙ c.if-location-eq-INSIDE.true))))
 
 pub loop-i-preserved : goal.loop-i-preserved
 loop-i-preserved c =

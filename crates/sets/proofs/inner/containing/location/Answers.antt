@@ -6,16 +6,16 @@ use Rattle.grid.specs.Points.{points}
 use Rattle.grid.specs.Domain.{domain}
 use Rattle.path.specs.Locate.{location}
 use Rattle.buffer.proofs.PartLaws.{same_numbers}
-use Rattle.sets.proofs.PartLaws.{part-named, part-in-domain}
+use Rattle.sets.proofs.PartLaws.{part_named, part_in_domain}
 use Rattle.sets.proofs.inner.containing.location.Goals as goal
 
 pub named-requires : goal.named-requires
-named-requires c = part-named c.args.points.now c.args.ranges.now c.args.k c.requires.0.taken c.requires.1
+named-requires c = part_named c.args.points.now c.args.ranges.now c.args.k c.requires.0.taken c.requires.1
 
 pub location-requires : goal.location-requires
 location-requires c = (
   ap (λ (row : List ℤ). first_of (domain limit row)) (same_numbers c.named.ensures)
-      ∙ part-in-domain c.args.points.now c.args.ranges.now c.args.k c.requires.0.taken c.requires.1,
+      ∙ part_in_domain c.args.points.now c.args.ranges.now c.args.k c.requires.0.taken c.requires.1,
   c.requires.0.on_grid,
 )
 

@@ -1,6 +1,6 @@
 -- `sets::inner::contour::behind` meets its contract: the contour stays behind what is written, or all is as it was.
 use Rattle.std.proofs.Common.{arith}
-use Rattle.sets.proofs.BehindLaws.{cleanable_behind, notable, behind-is}
+use Rattle.sets.proofs.BehindLaws.{cleanable_behind, notable, behind_is}
 use Rattle.sets.proofs.inner.contour.behind.Goals as goal
 
 pub one-cleaned-requires : goal.one-cleaned-requires
@@ -12,4 +12,4 @@ note-requires c =
 
 pub returns : goal.returns
 returns c =
-    behind-is c.args.rule c.args.contour.now c.args.out.now c.args.at c.args.records.now _ _ c.one-cleaned.ensures _ _ c.note.ensures
+    behind_is c.args.rule c.args.contour.now c.args.out.now c.args.at c.args.records.now _ _ c.one-cleaned.ensures _ _ c.note.ensures

@@ -1,16 +1,16 @@
 -- `sets::inner::contour::one` meets its contract: too few points, copied, or walked.
 use Rattle.std.proofs.Common.{sym, length-take-le}
-use Rattle.clean.proofs.LookLaws.{failing-goes}
-use Rattle.sets.proofs.FateLaws.{fated-few, fated-copied, fated-walked}
+use Rattle.clean.proofs.LookLaws.{failing_goes}
+use Rattle.sets.proofs.FateLaws.{fated_few, fated_copied, fated_walked}
 use Rattle.sets.proofs.BehindLaws.{ready}
 use Rattle.sets.proofs.inner.contour.one.Goals as goal
 
 pub returns-then-n-lt3 : goal.returns-then-n-lt3
-returns-then-n-lt3 c = fated-few c.args.rule _ _ c.requires.contour c.if-n-lt3.true
+returns-then-n-lt3 c = fated_few c.args.rule _ _ c.requires.contour c.if-n-lt3.true
 
 pub returns-then-look : goal.returns-then-look
 returns-then-look c =
-    fated-copied _ _ _ _ c.look_over-look.ensures.verdict c.if-look.true _ c.copy.ensures
+    fated_copied _ _ _ _ c.look_over-look.ensures.verdict c.if-look.true _ c.copy.ensures
 
 pub slice_bounds-settle_from-end-2 : goal.slice_bounds-settle_from-end-2
 slice_bounds-settle_from-end-2 c = sym (length-take-le _ _ c.requires.scratch.in_next)
@@ -28,9 +28,9 @@ settle_from-requires c =
     let over = c.look_over-look.ensures in
     record {
       ready = (ready _ _ _ _ _ c.requires, rw long many);
-      standing_in_bounds = (rw long (failing-goes c.args.contour.now c.requires.contour c.args.rule many _ over c.if-look.false), rw long over.standing.stand);
+      standing_in_bounds = (rw long (failing_goes c.args.contour.now c.requires.contour c.args.rule many _ over c.if-look.false), rw long over.standing.stand);
     }
 
 pub returns : goal.returns
 returns c =
-    fated-walked _ _ _ _ c.look_over-look.ensures.verdict c.if-look.false _ _ c.settle_from.ensures
+    fated_walked _ _ _ _ c.look_over-look.ensures.verdict c.if-look.false _ _ c.settle_from.ensures

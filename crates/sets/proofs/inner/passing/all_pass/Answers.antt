@@ -9,7 +9,7 @@ use Rattle.buffer.specs.Spans.{span}
 use Rattle.buffer.specs.Sets.{contour}
 use Rattle.buffer.proofs.PartLaws.{same_numbers}
 use Rattle.clean.specs.Verdicts.{passes}
-use Rattle.sets.proofs.PartLaws.{part-named, part-in-domain, one-fails, one_passes, all_pass}
+use Rattle.sets.proofs.PartLaws.{part_named, part_in_domain, one_fails, one_passes, all_pass}
 use Rattle.sets.proofs.inner.passing.all_pass.Goals as goal
 
 -- what is asked of a contour
@@ -30,15 +30,15 @@ pub loop-i-init : goal.loop-i-init
 loop-i-init c = refl
 
 pub named-requires : goal.named-requires
-named-requires c = part-named c.args.points.now c.args.ranges.now c.loop-i.i c.requires c.loop-i-test.true
+named-requires c = part_named c.args.points.now c.args.ranges.now c.loop-i.i c.requires c.loop-i-test.true
 
 pub passes-requires : goal.passes-requires
 passes-requires c =
-    ap (λ (row : List ℤ). first_of (domain limit row)) (same_numbers c.named.ensures) ∙ part-in-domain c.args.points.now c.args.ranges.now c.loop-i.i c.requires c.loop-i-test.true
+    ap (λ (row : List ℤ). first_of (domain limit row)) (same_numbers c.named.ensures) ∙ part_in_domain c.args.points.now c.args.ranges.now c.loop-i.i c.requires c.loop-i-test.true
 
 pub returns-then-not-passes : goal.returns-then-not-passes
 returns-then-not-passes c =
-    sym (one-fails (test c.args.rule) c.args.points.now c.args.ranges.now 0 c.loop-i.i c.loop-i.invariant c.loop-i-test.true (sym (here c) ∙ c.if-not-passes.true))
+    sym (one_fails (test c.args.rule) c.args.points.now c.args.ranges.now 0 c.loop-i.i c.loop-i.invariant c.loop-i-test.true (sym (here c) ∙ c.if-not-passes.true))
 
 pub loop-i-preserved : goal.loop-i-preserved
 loop-i-preserved c =

@@ -1,6 +1,6 @@
 -- `sets::inner::shapes::each` meets its contract: what is left is cleaned from where the loop has come to.
 use Rattle.std.proofs.Common.{refl, ◌∙◌}
-use Rattle.sets.proofs.EachLaws.{grouping_none, grouping-addable, grouping-more, grouping-all}
+use Rattle.sets.proofs.EachLaws.{grouping_none, grouping_addable, grouping_more, grouping_all}
 use Rattle.sets.proofs.inner.shapes.each.Goals as goal
 
 pub loop-i-init : goal.loop-i-init
@@ -12,17 +12,17 @@ ranges_of-own-requires c = (c.loop-i-test.true, c.requires.within _ c.loop-i-tes
 pub add_shape-at-requires : goal.add_shape-at-requires
 add_shape-at-requires c =
     let v = c.loop-i.invariant in
-    grouping-addable v.0 c.requires c.loop-i-test.true _ c.ranges_of-own.ensures _ _ _ v.1 v.2 v.3
+    grouping_addable v.0 c.requires c.loop-i-test.true _ c.ranges_of-own.ensures _ _ _ v.1 v.2 v.3
 
 pub loop-i-preserved : goal.loop-i-preserved
 loop-i-preserved c =
     let long = c.add_shape-at.auto in
     let v = c.loop-i.invariant in (
-      grouping-more v.0 c.requires c.loop-i-test.true _ c.ranges_of-own.ensures _ _ _ _ c.add_shape-at.ensures,
+      grouping_more v.0 c.requires c.loop-i-test.true _ c.ranges_of-own.ensures _ _ _ _ c.add_shape-at.ensures,
       long.next ∙ v.1,
       long.prev ∙ v.2,
       long.mark ∙ v.3,
     )
 
 pub returns : goal.returns
-returns c = grouping-all c.loop-i.invariant.0 c.loop-i-test.false
+returns c = grouping_all c.loop-i.invariant.0 c.loop-i-test.false

@@ -2,7 +2,7 @@
 use Rattle.std.proofs.Common.{[]}
 use Rattle.sets.specs.inside.Contour.{reached}
 use Rattle.sets.specs.inside.Shapes.{Grouped, grouped}
-use Rattle.sets.proofs.ShapeLaws.{adding-fallen, adding-standing}
+use Rattle.sets.proofs.ShapeLaws.{adding_fallen, adding_standing}
 use Rattle.sets.proofs.inner.shapes.group.Goals as goal
 
 abbrev before_of : goal.Then-not-tried → Grouped
@@ -13,8 +13,8 @@ before_of_2 s = grouped s.args.at.shapes (reached s.args.at.progress [] []) s.ar
 
 pub returns-then-not-tried : goal.returns-then-not-tried
 returns-then-not-tried c =
-    adding-fallen c.args.tried.stays (reached c.args.tried.progress [] []) (before_of c) c.if-not-tried.true
+    adding_fallen c.args.tried.stays (reached c.args.tried.progress [] []) (before_of c) c.if-not-tried.true
 
 pub returns : goal.returns
 returns c =
-    adding-standing c.args.tried.stays (reached c.args.tried.progress [] []) (before_of_2 c) c.if-not-tried.false
+    adding_standing c.args.tried.stays (reached c.args.tried.progress [] []) (before_of_2 c) c.if-not-tried.false

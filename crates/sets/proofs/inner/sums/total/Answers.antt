@@ -12,15 +12,15 @@ use Rattle.buffer.specs.Spans.{span, spans}
 use Rattle.buffer.specs.Sets.{contour, contours}
 use Rattle.buffer.proofs.PartLaws.{same_numbers}
 use Rattle.sets.specs.Area.{filled}
-use Rattle.sets.proofs.PartLaws.{part-named, part-in-domain, one-fails, all_pass}
-use Rattle.sets.proofs.AreaLaws.{set-empty, set-filled, gathered_none, gathered_more, gathered_all}
+use Rattle.sets.proofs.PartLaws.{part_named, part_in_domain, one_fails, all_pass}
+use Rattle.sets.proofs.AreaLaws.{set_empty, set_filled, gathered_none, gathered_more, gathered_all}
 use Rattle.sets.proofs.inner.sums.total.Goals as goal
 
 pub loop-i-init : goal.loop-i-init
 loop-i-init c = gathered_none c.args.points.now c.args.ranges.now
 
 pub named-contour-requires : goal.named-contour-requires
-named-contour-requires c = part-named c.args.points.now c.args.ranges.now c.loop-i.i c.requires c.loop-i-test.true
+named-contour-requires c = part_named c.args.points.now c.args.ranges.now c.loop-i.i c.requires c.loop-i-test.true
 
 pub returns-then-contour-eq0 : goal.returns-then-contour-eq0
 returns-then-contour-eq0 c =
@@ -28,14 +28,14 @@ returns-then-contour-eq0 c =
     let cs = c.args.ranges.now in
     let part : List ℤ = contour p (span (get_or cs c.loop-i.i [])) in
     let none : filled part ≡ _ = ap not (eq-eqb (count part) 0 (ap count (sym (same_numbers c.named-contour.ensures)) ∙ c.if-contour-eq0.true)) in
-    set-empty (contours p (spans cs)) (one-fails filled p cs 0 c.loop-i.i c.loop-i.invariant.rest c.loop-i-test.true none)
+    set_empty (contours p (spans cs)) (one_fails filled p cs 0 c.loop-i.i c.loop-i.invariant.rest c.loop-i-test.true none)
 
 pub doubled_area-requires : goal.doubled_area-requires
 doubled_area-requires c =
     sym
     (refused_none c.named-contour.result.now
     (ap (λ (row : List ℤ). first_of (domain limit row)) (same_numbers c.named-contour.ensures)
-    ∙ part-in-domain c.args.points.now c.args.ranges.now c.loop-i.i c.requires c.loop-i-test.true)
+    ∙ part_in_domain c.args.points.now c.args.ranges.now c.loop-i.i c.requires c.loop-i-test.true)
     c.if-contour-eq0.false)
 
 pub loop-i-preserved : goal.loop-i-preserved
@@ -53,5 +53,5 @@ pub returns : goal.returns
 returns c =
     let p = c.args.points.now in
     let cs = c.args.ranges.now in
-    set-filled (contours p (spans cs)) _ (all_pass filled p cs 0 c.loop-i.i c.loop-i.invariant.rest c.loop-i-test.false)
+    set_filled (contours p (spans cs)) _ (all_pass filled p cs 0 c.loop-i.i c.loop-i.invariant.rest c.loop-i-test.false)
     (to_z-of_z {w = w64} (sfits_of c.signed_64.type_inv) ∙ c.signed_64.ensures ∙ gathered_all p cs c.loop-i.invariant c.loop-i-test.false)

@@ -1,6 +1,6 @@
 -- `shift::inner::doing::clean` meets its contract.
 use Rattle.pool.specs.Rows.{lent}
-use Rattle.shift.proofs.DoingLaws.{lies, fair, did-clean, second_within}
+use Rattle.shift.proofs.DoingLaws.{lies, fair, did_clean, second_within}
 use Rattle.shift.proofs.inner.doing.clean.Goals as goal
 
 pub clean-cleaned-requires : goal.clean-cleaned-requires
@@ -16,4 +16,4 @@ pub returns : goal.returns
 returns c =
     let a = c.args in
     let r = c.clean-cleaned.ensures in
-    did-clean (lent a.points.now a.records.now a.n) a.found c.requires.0 a.rule _ _ _ _ _ _ r.rows_are r.points_are r.held_is r.second_is r.decisions_are r.few
+    did_clean (lent a.points.now a.records.now a.n) a.found c.requires.0 a.rule _ _ _ _ _ _ r.rows_are r.points_are r.held_is r.second_is r.decisions_are r.few

@@ -1,7 +1,7 @@
 -- `sifting::inner::sifting::sift` meets its contract.
 use mathlib.Core.Path.{sym, ◌∙◌}
 use lib.Seq.{length-take-le}
-use Rattle.clean.proofs.LookLaws.{failing-goes}
+use Rattle.clean.proofs.LookLaws.{failing_goes}
 use Rattle.sifting.specs.inside.Sifting.{lying}
 use Rattle.sifting.proofs.SiftingLaws.{sifted_few, sifted_left}
 use Rattle.sifting.proofs.inner.sifting.sift.Goals as goal
@@ -34,6 +34,6 @@ walk_down-requires c =
     let fails = c.if-look.false in
     let long = length-take-le _ a.mark.now c.requires.in_mark in record {
       in_place = (c.requires.lies, record { many = rw long many; mark_long = long; next_long = length-take-le _ _ c.requires.in_next ∙ sym long; prev_long = length-take-le _ _ c.requires.in_prev ∙ sym long });
-      standing_in_bounds = (rw long (failing-goes own c.requires.lies.contour a.rule many _ over fails), rw long over.standing.stand);
+      standing_in_bounds = (rw long (failing_goes own c.requires.lies.contour a.rule many _ over fails), rw long over.standing.stand);
       to_le_start = (c.requires.down, sym over.verdict ∙ fails);
     }

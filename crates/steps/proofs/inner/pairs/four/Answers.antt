@@ -14,8 +14,8 @@ use Rattle.integers.proofs.Bound.{in_eq}
 use Rattle.bits.specs.Signs.{fits, all_fit}
 use Rattle.steps.specs.Steps.{differences}
 use Rattle.steps.specs.inside.Asked.{step, joined}
-use Rattle.steps.proofs.WriteLaws.{fit-point, first_fits, second_fits}
-use Rattle.steps.proofs.PairLaws.{middle, middle_below, scale_in, up, up-below, up-turned, rising, raised_is, word_fits, word-turned}
+use Rattle.steps.proofs.WriteLaws.{fit_point, first_fits, second_fits}
+use Rattle.steps.proofs.PairLaws.{middle, middle_below, scale_in, up, up_below, up_turned, rising, raised_is, word_fits, word_turned}
 use borrow.Author.Rules.{sfits_of}
 use Rattle.steps.proofs.inner.pairs.four.Goals as goal
 
@@ -95,13 +95,13 @@ last_too_2 c =
 -- the four differences fit
 module _ (l : List ℤ) (w k : ℕ) (some : 0 < w) (long : k + 5 < length l) (f : all_fit w (differences (drop k l)) ≡ true) where
   left : all_fit w (differences (drop (k + 2) l)) ≡ true
-  left = fit-point l w k some (omega (arith, long)) f
+  left = fit_point l w k some (omega (arith, long)) f
 
-  fits-0 : fits w (step l k) ≡ true
-  fits-0 = first_fits l w k some (omega (arith, long)) f
+  fits_0 : fits w (step l k) ≡ true
+  fits_0 = first_fits l w k some (omega (arith, long)) f
 
-  fits-1 : fits w (step l (k + 1)) ≡ true
-  fits-1 = second_fits l w k some (omega (arith, long)) f
+  fits_1 : fits w (step l (k + 1)) ≡ true
+  fits_1 = second_fits l w k some (omega (arith, long)) f
 
   fits-2 : fits w (step l (k + 2)) ≡ true
   fits-2 = first_fits l w (k + 2) some (omega (arith, long)) left
@@ -111,9 +111,9 @@ module _ (l : List ℤ) (w k : ℕ) (some : 0 < w) (long : k + 5 < length l) (f 
 
 -- both points, raised
 first_is : (c : goal.After-raised-second) →
-    c.raised-first.result ≡ up c.args.contour.now c.args.width c.args.k c.requires.2 (fits-0 c.args.contour.now c.args.width c.args.k c.requires.2.some c.requires.0 c.requires.3) (fits-1 c.args.contour.now c.args.width c.args.k c.requires.2.some c.requires.0 c.requires.3)
+    c.raised-first.result ≡ up c.args.contour.now c.args.width c.args.k c.requires.2 (fits_0 c.args.contour.now c.args.width c.args.k c.requires.2.some c.requires.0 c.requires.3) (fits_1 c.args.contour.now c.args.width c.args.k c.requires.2.some c.requires.0 c.requires.3)
 first_is c =
-    raised_is c.args.contour.now c.args.width c.args.k c.requires.2 (fits-0 c.args.contour.now c.args.width c.args.k c.requires.2.some c.requires.0 c.requires.3) (fits-1 c.args.contour.now c.args.width c.args.k c.requires.2.some c.requires.0 c.requires.3) _ _ (from_is_2 c) (between_is_3 c) _ _ c.halves-halves.ensures c.raised-first.ensures
+    raised_is c.args.contour.now c.args.width c.args.k c.requires.2 (fits_0 c.args.contour.now c.args.width c.args.k c.requires.2.some c.requires.0 c.requires.3) (fits_1 c.args.contour.now c.args.width c.args.k c.requires.2.some c.requires.0 c.requires.3) _ _ (from_is_2 c) (between_is_3 c) _ _ c.halves-halves.ensures c.raised-first.ensures
 
 second_is : (c : goal.After-raised-second) →
     c.raised-second.result ≡ up c.args.contour.now c.args.width (c.args.k + 2) c.requires.2 (fits-2 c.args.contour.now c.args.width c.args.k c.requires.2.some c.requires.0 c.requires.3) (fits-3 c.args.contour.now c.args.width c.args.k c.requires.2.some c.requires.0 c.requires.3)
@@ -128,7 +128,7 @@ joined-last-requires c = (omega arith, c.requires.1, scale_small_2 c)
 
 pub raised-first-requires : goal.raised-first-requires
 raised-first-requires c =
-    rising c.args.contour.now c.args.width c.args.k c.requires.2 (fits-0 c.args.contour.now c.args.width c.args.k c.requires.2.some c.requires.0 c.requires.3) (fits-1 c.args.contour.now c.args.width c.args.k c.requires.2.some c.requires.0 c.requires.3) c.requires.1 _ _ (from_is c) (between_is c) _ c.halves-halves.ensures
+    rising c.args.contour.now c.args.width c.args.k c.requires.2 (fits_0 c.args.contour.now c.args.width c.args.k c.requires.2.some c.requires.0 c.requires.3) (fits_1 c.args.contour.now c.args.width c.args.k c.requires.2.some c.requires.0 c.requires.3) c.requires.1 _ _ (from_is c) (between_is c) _ c.halves-halves.ensures
 
 pub raised-second-requires : goal.raised-second-requires
 raised-second-requires c =
@@ -142,14 +142,14 @@ overflow_add-turned c =
 pub overflow_add-result : goal.overflow_add-result
 overflow_add-result c =
     rw (first_is c, second_is c)
-    (Fits-of_lt (word_fits c.args.width c.requires.2 _ _ (up-below c.args.contour.now c.args.width c.args.k c.requires.2 (fits-0 c.args.contour.now c.args.width c.args.k c.requires.2.some c.requires.0 c.requires.3) (fits-1 c.args.contour.now c.args.width c.args.k c.requires.2.some c.requires.0 c.requires.3)) (up-below c.args.contour.now c.args.width (c.args.k + 2) c.requires.2 (fits-2 c.args.contour.now c.args.width c.args.k c.requires.2.some c.requires.0 c.requires.3) (fits-3 c.args.contour.now c.args.width c.args.k c.requires.2.some c.requires.0 c.requires.3))))
+    (Fits-of_lt (word_fits c.args.width c.requires.2 _ _ (up_below c.args.contour.now c.args.width c.args.k c.requires.2 (fits_0 c.args.contour.now c.args.width c.args.k c.requires.2.some c.requires.0 c.requires.3) (fits_1 c.args.contour.now c.args.width c.args.k c.requires.2.some c.requires.0 c.requires.3)) (up_below c.args.contour.now c.args.width (c.args.k + 2) c.requires.2 (fits-2 c.args.contour.now c.args.width c.args.k c.requires.2.some c.requires.0 c.requires.3) (fits-3 c.args.contour.now c.args.width c.args.k c.requires.2.some c.requires.0 c.requires.3))))
 
 pub returns : goal.returns
 returns c =
     let w = c.args.width in
-    let below = up-below c.args.contour.now w c.args.k c.requires.2 (fits-0 c.args.contour.now c.args.width c.args.k c.requires.2.some c.requires.0 c.requires.3) (fits-1 c.args.contour.now c.args.width c.args.k c.requires.2.some c.requires.0 c.requires.3) in
-    let below-too = up-below c.args.contour.now w (c.args.k + 2) c.requires.2 (fits-2 c.args.contour.now c.args.width c.args.k c.requires.2.some c.requires.0 c.requires.3) (fits-3 c.args.contour.now c.args.width c.args.k c.requires.2.some c.requires.0 c.requires.3) in (
-      rw (first_is c, second_is c, c.halves-halves.ensures) (word-turned w c.requires.2 _ _ below below-too
-          ∙ ap₂ (λ (a b : ℕ). a * 2 ^ (2 * w) + b) (up-turned c.args.contour.now w c.args.k c.requires.2 (fits-0 c.args.contour.now c.args.width c.args.k c.requires.2.some c.requires.0 c.requires.3) (fits-1 c.args.contour.now c.args.width c.args.k c.requires.2.some c.requires.0 c.requires.3)) (up-turned c.args.contour.now w (c.args.k + 2) c.requires.2 (fits-2 c.args.contour.now c.args.width c.args.k c.requires.2.some c.requires.0 c.requires.3) (fits-3 c.args.contour.now c.args.width c.args.k c.requires.2.some c.requires.0 c.requires.3))),
+    let below = up_below c.args.contour.now w c.args.k c.requires.2 (fits_0 c.args.contour.now c.args.width c.args.k c.requires.2.some c.requires.0 c.requires.3) (fits_1 c.args.contour.now c.args.width c.args.k c.requires.2.some c.requires.0 c.requires.3) in
+    let below-too = up_below c.args.contour.now w (c.args.k + 2) c.requires.2 (fits-2 c.args.contour.now c.args.width c.args.k c.requires.2.some c.requires.0 c.requires.3) (fits-3 c.args.contour.now c.args.width c.args.k c.requires.2.some c.requires.0 c.requires.3) in (
+      rw (first_is c, second_is c, c.halves-halves.ensures) (word_turned w c.requires.2 _ _ below below-too
+          ∙ ap₂ (λ (a b : ℕ). a * 2 ^ (2 * w) + b) (up_turned c.args.contour.now w c.args.k c.requires.2 (fits_0 c.args.contour.now c.args.width c.args.k c.requires.2.some c.requires.0 c.requires.3) (fits_1 c.args.contour.now c.args.width c.args.k c.requires.2.some c.requires.0 c.requires.3)) (up_turned c.args.contour.now w (c.args.k + 2) c.requires.2 (fits-2 c.args.contour.now c.args.width c.args.k c.requires.2.some c.requires.0 c.requires.3) (fits-3 c.args.contour.now c.args.width c.args.k c.requires.2.some c.requires.0 c.requires.3))),
       last_is c,
     )

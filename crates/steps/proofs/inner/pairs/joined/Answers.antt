@@ -6,7 +6,7 @@ use lib.IntN.{pos}
 use mir.Syntax.{w32}
 use Rattle.integers.proofs.Bound.{back}
 use Rattle.grid.specs.Limits.{limit}
-use Rattle.steps.proofs.PairLaws.{in_grid, product-fits, joined-fits, joined_is}
+use Rattle.steps.proofs.PairLaws.{in_grid, product_fits, joined_fits, joined_is}
 use Rattle.steps.proofs.inner.pairs.joined.Goals as goal
 
 -- both coordinates are read as they are
@@ -24,10 +24,10 @@ unfolding limit
 read_too c = c.wide-2.ensures ∙ back w32 (in_grid c.args.contour.now c.requires.1 (c.args.k + 1)) tt
 
 pub overflow_mul-result : goal.overflow_mul-result
-overflow_mul-result c = product-fits _ _ _ _ _ (in_grid c.args.contour.now c.requires.1 c.args.k) (in_grid c.args.contour.now c.requires.1 c.args.k) c.requires.2 (read c) (read c)
+overflow_mul-result c = product_fits _ _ _ _ _ (in_grid c.args.contour.now c.requires.1 c.args.k) (in_grid c.args.contour.now c.requires.1 c.args.k) c.requires.2 (read c) (read c)
 
 pub overflow_add-result : goal.overflow_add-result
-overflow_add-result c = joined-fits _ _ _ _ _ (in_grid c.args.contour.now c.requires.1 c.args.k) (in_grid c.args.contour.now c.requires.1 (c.args.k + 1)) c.requires.2 (read_2 c) (read_too c)
+overflow_add-result c = joined_fits _ _ _ _ _ (in_grid c.args.contour.now c.requires.1 c.args.k) (in_grid c.args.contour.now c.requires.1 (c.args.k + 1)) c.requires.2 (read_2 c) (read_too c)
 
 pub returns : goal.returns
 returns c = joined_is _ _ _ _ _ (in_grid c.args.contour.now c.requires.1 c.args.k) (in_grid c.args.contour.now c.requires.1 (c.args.k + 1)) c.requires.2 (read_2 c) (read_too c)

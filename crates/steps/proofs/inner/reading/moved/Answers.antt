@@ -12,7 +12,7 @@ use Rattle.bits.specs.Signs.{signed}
 use Rattle.bits.specs.inside.Words.{leading}
 use Rattle.bits.proofs.WordLaws.{leading_below}
 use Rattle.grid.specs.Limits.{limit}
-use Rattle.grid.proofs.LimitLaws.{on-grid-in}
+use Rattle.grid.proofs.LimitLaws.{on_grid_in}
 use Rattle.steps.proofs.ReadLaws.{in_32, signed_small}
 use Rattle.steps.proofs.inner.reading.moved.Goals as goal
 
@@ -46,7 +46,7 @@ sum_is c =
 
 sum_fits : (c : goal.After-signed) → SFits w32 (to_z w64 (of_z w64 (to_z w64 (of_z w64 c.wide.result) +ℤ to_z w64 (of_z w64 c.signed.result))))
 unfolding limit
-sum_fits c = subst (SFits w32) (sym (sum_is c)) (in_fits (on-grid-in limit _ c.requires.1) tt)
+sum_fits c = subst (SFits w32) (sym (sum_is c)) (in_fits (on_grid_in limit _ c.requires.1) tt)
 
 pub overflow_cast-result : goal.overflow_cast-result
 overflow_cast-result c = sum_fits c

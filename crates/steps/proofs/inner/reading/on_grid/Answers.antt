@@ -17,7 +17,7 @@ use Rattle.grid.specs.Limits.{limit, all_on_grid}
 use Rattle.steps.specs.Steps.{sums}
 use Rattle.steps.specs.Bodies.{points_of_width}
 use Rattle.steps.proofs.ReadLaws.{points_near}
-use Rattle.steps.proofs.StandLaws.{no_points, some-points, two_on, x-there, y-there, long_enough, steps-there}
+use Rattle.steps.proofs.StandLaws.{no_points, some_points, two_on, x_there, y_there, long_enough, steps_there}
 use Rattle.steps.proofs.inner.reading.on_grid.Goals as goal
 
 some : (c : goal.Else-n-eq0) → 0 < c.args.n
@@ -61,7 +61,7 @@ asked_are : (c : goal.Then-stays) → let s = c.args in
     points_of_width s.n s.width (drop s.at (bits s.bytes.now)) ≡ to_z w32 (of_z w32 c.coordinate-x.result) ∷ to_z w32 (of_z w32 c.coordinate-y.result) ∷ following_3 c
 asked_are c =
     let s = c.args in
-    some-points (bits s.bytes.now) s.at s.width s.n (some_3 c) _ _
+    some_points (bits s.bytes.now) s.at s.width s.n (some_3 c) _ _
     (to_z-of_z {w = w32} (sfits_of c.coordinate-x.type_inv) ∙ c.coordinate-x.ensures)
     (to_z-of_z {w = w32} (sfits_of c.coordinate-y.type_inv) ∙ c.coordinate-y.ensures)
 
@@ -70,7 +70,7 @@ asked_are_2 : (c : goal.After-sums_on) → let s = c.args in
     points_of_width s.n s.width (drop s.at (bits s.bytes.now)) ≡ to_z w32 (of_z w32 c.coordinate-x.result) ∷ to_z w32 (of_z w32 c.coordinate-y.result) ∷ following c
 asked_are_2 c =
     let s = c.args in
-    some-points (bits s.bytes.now) s.at s.width s.n (some_5 c) _ _
+    some_points (bits s.bytes.now) s.at s.width s.n (some_5 c) _ _
     (to_z-of_z {w = w32} (sfits_of c.coordinate-x.type_inv) ∙ c.coordinate-x.ensures)
     (to_z-of_z {w = w32} (sfits_of c.coordinate-y.type_inv) ∙ c.coordinate-y.ensures)
 
@@ -79,7 +79,7 @@ asked_are_3 : (c : goal.Else-on_grid) → let s = c.args in
     points_of_width s.n s.width (drop s.at (bits s.bytes.now)) ≡ to_z w32 (of_z w32 c.coordinate-x.result) ∷ to_z w32 (of_z w32 c.coordinate-y.result) ∷ following_2 c
 asked_are_3 c =
     let s = c.args in
-    some-points (bits s.bytes.now) s.at s.width s.n (some_6 c) _ _
+    some_points (bits s.bytes.now) s.at s.width s.n (some_6 c) _ _
     (to_z-of_z {w = w32} (sfits_of c.coordinate-x.type_inv) ∙ c.coordinate-x.ensures)
     (to_z-of_z {w = w32} (sfits_of c.coordinate-y.type_inv) ∙ c.coordinate-y.ensures)
 
@@ -106,10 +106,10 @@ unfolding all_on_grid
 returns-then-n-eq0 c = let s = c.args in ap (all_on_grid limit) (sym (no_points s.n s.width (drop s.at (bits s.bytes.now)) c.if-n-eq0.true))
 
 pub coordinate-x-requires : goal.coordinate-x-requires
-coordinate-x-requires c = let p = c.requires.0 in (x-there p (some c), long_enough p (some c))
+coordinate-x-requires c = let p = c.requires.0 in (x_there p (some c), long_enough p (some c))
 
 pub coordinate-y-requires : goal.coordinate-y-requires
-coordinate-y-requires c = let p = c.requires.0 in (y-there p (some_2 c), long_enough p (some_2 c))
+coordinate-y-requires c = let p = c.requires.0 in (y_there p (some_2 c), long_enough p (some_2 c))
 
 -- near
 pub returns-then-stays : goal.returns-then-stays
@@ -117,7 +117,7 @@ returns-then-stays c =
     let r = c.stays.result in
     let q = c.stays-2.result in
     sym (ap (all_on_grid limit) (asked_are c)
-    ∙ points_near (c.args.n - 1) (steps-there c.requires.0 (some_3 c) c.requires.1) limit _ _
+    ∙ points_near (c.args.n - 1) (steps_there c.requires.0 (some_3 c) c.requires.1) limit _ _
     (sym c.stays.ensures ∙ and_left r q c.if-stays.true) (sym c.stays-2.ensures ∙ and_right r q c.if-stays.true))
 
 pub on_grid-requires : goal.on_grid-requires
@@ -131,7 +131,7 @@ on_grid-requires-2 c = search rules
 pub sums_on-requires : goal.sums_on-requires
 sums_on-requires c =
     let p = c.requires in
-    steps-there p.0 (some_4 c) p.1
+    steps_there p.0 (some_4 c) p.1
 
 pub returns-then-on_grid : goal.returns-then-on_grid
 returns-then-on_grid c =

@@ -16,7 +16,7 @@ use Rattle.steps.specs.Bodies.{steps_in}
 use Rattle.steps.specs.inside.Asked.{There}
 use Rattle.steps.proofs.BodyLaws.{width_some}
 use Rattle.steps.proofs.ReadLaws.{all_there}
-use Rattle.steps.proofs.StandLaws.{no_steps, some-steps, steps-there}
+use Rattle.steps.proofs.StandLaws.{no_steps, some_steps, steps_there}
 use Rattle.steps.proofs.SmallestLaws.{width_of_none, no_width, smallest_if}
 use Rattle.steps.proofs.inner.reading.smallest.Goals as goal
 
@@ -31,33 +31,33 @@ differences_2 c = let s = c.args in numbers s.width (2 * (s.n - 1)) (drop (s.at 
 asked : (c : goal.Then-width-eq1) → eqb c.args.width (width_of (differences c)) ≡ eqb c.args.width (width_of (steps_in c.args.n c.args.width (drop c.args.at (bits c.args.bytes.now))))
 asked c =
     let s = c.args in
-    sym (ap (λ (l : List ℤ). eqb s.width (width_of l)) (some-steps (bits s.bytes.now) s.at s.width s.n (omega (arith, c.if-n-lt2.false))))
+    sym (ap (λ (l : List ℤ). eqb s.width (width_of l)) (some_steps (bits s.bytes.now) s.at s.width s.n (omega (arith, c.if-n-lt2.false))))
 
 asked_2 : (c : goal.After-some_needs) → eqb c.args.width (width_of (differences_2 c)) ≡ eqb c.args.width (width_of (steps_in c.args.n c.args.width (drop c.args.at (bits c.args.bytes.now))))
 asked_2 c =
     let s = c.args in
-    sym (ap (λ (l : List ℤ). eqb s.width (width_of l)) (some-steps (bits s.bytes.now) s.at s.width s.n (omega (arith, c.if-n-lt2.false))))
+    sym (ap (λ (l : List ℤ). eqb s.width (width_of l)) (some_steps (bits s.bytes.now) s.at s.width s.n (omega (arith, c.if-n-lt2.false))))
 
 -- where they stand, in a width that is written
 there : (c : goal.Then-width-eq1) → let s = c.args in There s.bytes.now (s.at + 64) s.width (2 * (s.n - 1))
 there c =
     let w = c.args.width in
     let some = eqb-false w 0 (or_left (eqb w 0) (ltb 32 w) c.if-width.false) in
-    steps-there c.requires.0 (omega (arith, c.if-n-lt2.false)) (record { some = omega (arith, some); few = ltb-false 32 w (or_right (eqb w 0) (ltb 32 w) c.if-width.false) })
+    steps_there c.requires.0 (omega (arith, c.if-n-lt2.false)) (record { some = omega (arith, some); few = ltb-false 32 w (or_right (eqb w 0) (ltb 32 w) c.if-width.false) })
 
 -- where they stand, in a width that is written
 there_2 : (c : goal.Else-width-eq1) → let s = c.args in There s.bytes.now (s.at + 64) s.width (2 * (s.n - 1))
 there_2 c =
     let w = c.args.width in
     let some = eqb-false w 0 (or_left (eqb w 0) (ltb 32 w) c.if-width.false) in
-    steps-there c.requires.0 (omega (arith, c.if-n-lt2.false)) (record { some = omega (arith, some); few = ltb-false 32 w (or_right (eqb w 0) (ltb 32 w) c.if-width.false) })
+    steps_there c.requires.0 (omega (arith, c.if-n-lt2.false)) (record { some = omega (arith, some); few = ltb-false 32 w (or_right (eqb w 0) (ltb 32 w) c.if-width.false) })
 
 -- where they stand, in a width that is written
 there_3 : (c : goal.After-some_needs) → let s = c.args in There s.bytes.now (s.at + 64) s.width (2 * (s.n - 1))
 there_3 c =
     let w = c.args.width in
     let some = eqb-false w 0 (or_left (eqb w 0) (ltb 32 w) c.if-width.false) in
-    steps-there c.requires.0 (omega (arith, c.if-n-lt2.false)) (record { some = omega (arith, some); few = ltb-false 32 w (or_right (eqb w 0) (ltb 32 w) c.if-width.false) })
+    steps_there c.requires.0 (omega (arith, c.if-n-lt2.false)) (record { some = omega (arith, some); few = ltb-false 32 w (or_right (eqb w 0) (ltb 32 w) c.if-width.false) })
 
 pub returns-then-n-lt2 : goal.returns-then-n-lt2
 returns-then-n-lt2 c =

@@ -9,7 +9,7 @@ use lib.Signed.{mag}
 use mir.Facts.{to_z-of_z}
 use Rattle.bits.specs.Signs.{all_fit}
 use Rattle.bits.proofs.CodeLaws.{one_shifted}
-use Rattle.steps.proofs.ReadLaws.{difference, step_there, step_near, rest_all, next-unfit, next_fits, none-unfit}
+use Rattle.steps.proofs.ReadLaws.{difference, step_there, step_near, rest_all, next_unfit, next_fits, none_unfit}
 use Rattle.steps.proofs.inner.reading.some_needs.Goals as goal
 
 -- how far the next difference reaches
@@ -57,7 +57,7 @@ pub returns-then-most-reach : goal.returns-then-most-reach
 returns-then-most-reach c =
     let l = c.loop-i in
     let s = c.args in
-    sym (ap not (l.invariant.1 ∙ next-unfit s.bytes.now s.at s.width s.k (s.width - 1) l.i c.loop-i-test.true (omega (arith, most_is c, reach_is c, c.if-most-reach.true))))
+    sym (ap not (l.invariant.1 ∙ next_unfit s.bytes.now s.at s.width s.k (s.width - 1) l.i c.loop-i-test.true (omega (arith, most_is c, reach_is c, c.if-most-reach.true))))
 
 pub loop-i-preserved : goal.loop-i-preserved
 loop-i-preserved c =
@@ -69,4 +69,4 @@ pub returns : goal.returns
 returns c =
     let l = c.loop-i in
     let s = c.args in
-    sym (ap not (l.invariant.1 ∙ none-unfit s.bytes.now s.at s.width s.k (s.width - 1) l.i (omega arith)))
+    sym (ap not (l.invariant.1 ∙ none_unfit s.bytes.now s.at s.width s.k (s.width - 1) l.i (omega arith)))

@@ -15,7 +15,7 @@ use Rattle.bits.specs.Bits.{bits}
 use Rattle.bits.specs.Signs.{numbers}
 use Rattle.grid.specs.Limits.{limit, all_on_grid}
 use Rattle.steps.specs.Steps.{sums}
-use Rattle.steps.proofs.ReadLaws.{difference, step_there, step_near, rest, rest_all, next-off, next-on, none-off}
+use Rattle.steps.proofs.ReadLaws.{difference, step_there, step_near, rest, rest_all, next_off, next_on, none_off}
 use Rattle.steps.proofs.inner.reading.sums_on.Goals as goal
 
 -- what is asked for, by the numbers as they were passed
@@ -70,7 +70,7 @@ returns-then-magnitude c =
     sym
     (asked c
     ∙ l.invariant.1
-    ∙ next-off s.bytes.now s.at s.width s.k (to_z w32 l.a-bits) (to_z w32 l.b-bits) l.i c.loop-i-test.true limit (omega (arith, size_is c, c.if-magnitude.true)))
+    ∙ next_off s.bytes.now s.at s.width s.k (to_z w32 l.a-bits) (to_z w32 l.b-bits) l.i c.loop-i-test.true limit (omega (arith, size_is c, c.if-magnitude.true)))
 
 on_is : (c : goal.Else-magnitude) → In limit (to_z w64 (of_z w64 c.next-u.result))
 unfolding limit
@@ -91,7 +91,7 @@ loop-i-preserved c =
     let is = next_is c in (
       omega arith,
       l.invariant.1
-          ∙ next-on s.bytes.now s.at s.width s.k (to_z w32 l.a-bits) (to_z w32 l.b-bits) l.i c.loop-i-test.true limit (in_eq (sym is) (on_is c)).abs
+          ∙ next_on s.bytes.now s.at s.width s.k (to_z w32 l.a-bits) (to_z w32 l.b-bits) l.i c.loop-i-test.true limit (in_eq (sym is) (on_is c)).abs
           ∙ ap (λ (u : ℤ). all_on_grid limit (sums (to_z w32 l.b-bits) u (rest s.bytes.now s.at s.width s.k (l.i + 1)))) (sym (to_z-of_z (b_fits c) ∙ is)),
     )
 
@@ -99,4 +99,4 @@ pub returns : goal.returns
 returns c =
     let l = c.loop-i in
     let s = c.args in
-    sym (asked_2 c ∙ l.invariant.1 ∙ none-off s.bytes.now s.at s.width s.k (to_z w32 l.a-bits) (to_z w32 l.b-bits) l.i limit (omega arith))
+    sym (asked_2 c ∙ l.invariant.1 ∙ none_off s.bytes.now s.at s.width s.k (to_z w32 l.a-bits) (to_z w32 l.b-bits) l.i limit (omega arith))

@@ -17,10 +17,10 @@ use Rattle.bits.specs.Signs.{signed, numbers}
 use Rattle.bits.specs.inside.Words.{leading}
 use Rattle.bits.proofs.SignLaws.{numbers-length}
 use Rattle.grid.specs.Limits.{limit, on_grid, all_on_grid}
-use Rattle.grid.proofs.LimitLaws.{all-on-grid-at}
+use Rattle.grid.proofs.LimitLaws.{all_on_grid_at}
 use Rattle.steps.specs.Steps.{sums}
 use Rattle.steps.proofs.StepLaws.{sums-length}
-use Rattle.steps.proofs.ReadLaws.{difference, step_near, both_there, first_leading, second_leading, rest, next_is, next-behind}
+use Rattle.steps.proofs.ReadLaws.{difference, step_near, both_there, first_leading, second_leading, rest, next_is, next_behind}
 use Rattle.steps.proofs.inner.reading.write_points.Goals as goal
 
 -- the numbers that are asked for, by the bits of x and y
@@ -39,13 +39,13 @@ module _ (f : List ℕ) (at w n : ℕ) (row : List ℤ) (a b : ℤ) (k : ℕ) (m
   u_asked = next_is f at w (2 * n) a b k (omega (arith, more)) row is
 
   behind_u : drop (k + 1) row ≡ sums b u (rest f at w (2 * n) (k + 1))
-  behind_u = next-behind f at w (2 * n) a b k (omega (arith, more)) row is
+  behind_u = next_behind f at w (2 * n) a b k (omega (arith, more)) row is
 
   v_asked : get_or row (k + 1) (pos 0) ≡ v
   v_asked = next_is f at w (2 * n) b u (k + 1) more row behind_u
 
   behind_v : drop (k + 1 + 1) row ≡ sums u v (rest f at w (2 * n) (k + 1 + 1))
-  behind_v = next-behind f at w (2 * n) b u (k + 1) more row behind_u
+  behind_v = next_behind f at w (2 * n) b u (k + 1) more row behind_u
 
 -- what is asked for, by the numbers as they were passed
 asked_are : (f : List ℕ) (at w n : ℕ) {x y : ℤ} → SFits w32 x → SFits w32 y → all f at w n (of_z w32 x) (of_z w32 y) ≡ sums x y (numbers w (2 * n) (drop at (bits f)))
@@ -57,7 +57,7 @@ asked_long f at w n x y = sums-length _ _ (numbers w (2 * n) (drop at (bits f)))
 asked_on : (f : List ℕ) (at w n : ℕ) {x y : ℤ} → SFits w32 x → SFits w32 y → all_on_grid limit (sums x y (numbers w (2 * n) (drop at (bits f)))) ≡ true → (i : ℕ) →
     on_grid limit (get_or (all f at w n (of_z w32 x) (of_z w32 y)) i (pos 0)) ≡ true
 asked_on f at w n {x} {y} p q on i =
-    all-on-grid-at limit (all f at w n (of_z w32 x) (of_z w32 y)) i (ap (all_on_grid limit) (asked_are f at w n p q) ∙ on)
+    all_on_grid_at limit (all f at w n (of_z w32 x) (of_z w32 y)) i (ap (all_on_grid limit) (asked_are f at w n p q) ∙ on)
 
 near : (c : goal.In-loop-i) → c.args.at + c.args.width * (2 * c.loop-i.i) ≤ 524288
 near c = step_near c.requires.0.there (omega (arith, c.loop-i-test.true))

@@ -18,10 +18,10 @@ use Rattle.bits.specs.Bits.{bits}
 use Rattle.bits.specs.Signs.{numbers}
 use Rattle.bits.proofs.SignLaws.{numbers-length}
 use Rattle.grid.specs.Limits.{limit, all_on_grid}
-use Rattle.grid.proofs.LimitLaws.{on-grid-in, all-on-grid-at}
+use Rattle.grid.proofs.LimitLaws.{on_grid_in, all_on_grid_at}
 use Rattle.steps.specs.Steps.{sums}
 use Rattle.steps.proofs.StepLaws.{sums-length}
-use Rattle.steps.proofs.ReadLaws.{difference, step_there, step_near, rest, rest_all, next_is, next-behind}
+use Rattle.steps.proofs.ReadLaws.{difference, step_there, step_near, rest, rest_all, next_is, next_behind}
 use Rattle.steps.proofs.inner.reading.write_sums.Goals as goal
 
 -- the numbers that are asked for, by the bits of x and y
@@ -65,7 +65,7 @@ u_asked c =
 
 u_on : (c : goal.After-next-u) → In limit (to_z w64 (of_z w64 c.next-u.result))
 u_on c =
-    in_eq (u_asked c) (on-grid-in limit _ (all-on-grid-at limit (asked_2 c) c.loop-i.i (asked_on c)))
+    in_eq (u_asked c) (on_grid_in limit _ (all_on_grid_at limit (asked_2 c) c.loop-i.i (asked_on c)))
 
 pub loop-i-init : goal.loop-i-init
 loop-i-init c =
@@ -105,7 +105,7 @@ loop-i-preserved c =
     let long : length (asked_2 c) ≡ s.k = asked_long c in
     let back = to_z-of_z (u_fits c) in (
       copied_more s.out.now s.to (asked_2 c) l.invariant.0 (pos 0) _ (omega (arith, c.requires.2)) (omega arith) (back ∙ u_asked c),
-      next-behind s.bytes.now s.at s.width s.k (to_z w32 l.a-bits) (to_z w32 l.b-bits) l.i c.loop-i-test.true (asked_2 c) l.invariant.1
+      next_behind s.bytes.now s.at s.width s.k (to_z w32 l.a-bits) (to_z w32 l.b-bits) l.i c.loop-i-test.true (asked_2 c) l.invariant.1
           ∙ ap (λ (z : ℤ). sums (to_z w32 l.b-bits) z (rest s.bytes.now s.at s.width s.k (l.i + 1))) (sym (back ∙ u_is c)),
     )
 

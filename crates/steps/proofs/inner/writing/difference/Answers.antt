@@ -7,12 +7,12 @@ use mir.Syntax.{w32}
 use Rattle.integers.specs.Bound.{In}
 use Rattle.integers.proofs.Bound.{in_fits, in_sub, back, back_in}
 use Rattle.grid.specs.Limits.{limit}
-use Rattle.grid.proofs.LimitLaws.{on-grid-in, all-on-grid-at}
+use Rattle.grid.proofs.LimitLaws.{on_grid_in, all_on_grid_at}
 use Rattle.steps.proofs.inner.writing.difference.Goals as goal
 
 -- every coordinate is on the grid
 in_grid : (c : goal.After-result-2-1) (i : ℕ) → In limit (get_or c.args.contour.now i (pos 0))
-in_grid c i = let z : ℤ = get_or c.args.contour.now i (pos 0) in on-grid-in limit z (all-on-grid-at limit c.args.contour.now i c.requires.1)
+in_grid c i = let z : ℤ = get_or c.args.contour.now i (pos 0) in on_grid_in limit z (all_on_grid_at limit c.args.contour.now i c.requires.1)
 
 pub overflow_sub-result : goal.overflow_sub-result
 unfolding limit

@@ -3,7 +3,7 @@ use Prim.Native.Nat.{◌≤◌}
 use native.Mathlib.Omega.{arith}
 use lib.ListN.{length}
 use Rattle.bits.proofs.PenLaws.{wrote_none}
-use Rattle.steps.proofs.WriteLaws.{body_none, first-room, steps-fitting, body-wrote}
+use Rattle.steps.proofs.WriteLaws.{body_none, first_room, steps_fitting, body_wrote}
 use Rattle.steps.proofs.inner.writing.put.Goals as goal
 
 -- a contour that has points has two coordinates
@@ -25,12 +25,12 @@ returns-then-contour-eq0 c =
 pub put_first-first-requires : goal.put_first-first-requires
 put_first-first-requires c =
     let pre = c.requires in
-    (pre.ready, some c, first-room pre (some c))
+    (pre.ready, some c, first_room pre (some c))
 
 pub put_following-requires : goal.put_following-requires
 put_following-requires c =
-    steps-fitting c.requires (some_2 c) c.put_first-first.ensures.0 c.put_first-first.ensures.1
+    steps_fitting c.requires (some_2 c) c.put_first-first.ensures.0 c.put_first-first.ensures.1
 
 pub returns : goal.returns
 returns c =
-    (body-wrote c.requires (some_3 c) c.put_first-first.ensures.0 c.put_following.ensures.0, c.put_following.ensures.1)
+    (body_wrote c.requires (some_3 c) c.put_first-first.ensures.0 c.put_following.ensures.0, c.put_following.ensures.1)

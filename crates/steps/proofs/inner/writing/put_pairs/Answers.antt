@@ -18,7 +18,7 @@ use lib.Seq.{take_all}
 use lib.IntN.{ℤ, pos}
 use Rattle.bits.specs.inside.Pens.{Wrote}
 use Rattle.steps.specs.inside.Asked.{Fitting, Narrow, joined}
-use Rattle.steps.proofs.WriteLaws.{room-left, writing_none, pair-below, pair-room, writing-pair, writing-same, rest-fitting, writing-rest}
+use Rattle.steps.proofs.WriteLaws.{room_left, writing_none, pair_below, pair_room, writing_pair, writing_same, rest_fitting, writing_rest}
 use Rattle.steps.proofs.PairLaws.{scale_in, joined_in}
 use Rattle.steps.proofs.inner.writing.put_pairs.Goals as goal
 
@@ -65,8 +65,8 @@ sweep-b-requires c =
     let l = c.loop-k in
     let h = c.loop-k-test.true in (
       l.invariant.1,
-      record { some = omega (arith, (narrow c.args.bytes.now c.args.contour.now c.args.width c.args.pen c.requires.0 c.requires.1).some); within_60 = omega (arith, (narrow c.args.bytes.now c.args.contour.now c.args.width c.args.pen c.requires.0 c.requires.1).few); room = pair-room l.invariant.0 h (narrow c.args.bytes.now c.args.contour.now c.args.width c.args.pen c.requires.0 c.requires.1).some (fitting c.broaden-b.ensures.1 c.requires.0).room },
-      rw c.four-next.ensures.0 (pair-below l.invariant.0 h (narrow c.args.bytes.now c.args.contour.now c.args.width c.args.pen c.requires.0 c.requires.1).some),
+      record { some = omega (arith, (narrow c.args.bytes.now c.args.contour.now c.args.width c.args.pen c.requires.0 c.requires.1).some); within_60 = omega (arith, (narrow c.args.bytes.now c.args.contour.now c.args.width c.args.pen c.requires.0 c.requires.1).few); room = pair_room l.invariant.0 h (narrow c.args.bytes.now c.args.contour.now c.args.width c.args.pen c.requires.0 c.requires.1).some (fitting c.broaden-b.ensures.1 c.requires.0).room },
+      rw c.four-next.ensures.0 (pair_below l.invariant.0 h (narrow c.args.bytes.now c.args.contour.now c.args.width c.args.pen c.requires.0 c.requires.1).some),
     )
 
 pub loop-k-preserved : goal.loop-k-preserved
@@ -74,7 +74,7 @@ unfolding limit
 loop-k-preserved c =
     let l = c.loop-k in
     let h = c.loop-k-test.true in (
-      writing-pair l.invariant.0 h (narrow c.args.bytes.now c.args.contour.now c.args.width c.args.pen c.requires.0 c.requires.1).some c.four-next.ensures.0 c.sweep-b.ensures.0,
+      writing_pair l.invariant.0 h (narrow c.args.bytes.now c.args.contour.now c.args.width c.args.pen c.requires.0 c.requires.1).some c.four-next.ensures.0 c.sweep-b.ensures.0,
       c.sweep-b.ensures.1,
       omega (arith, l.invariant.2),
       omega (arith, h),
@@ -84,13 +84,13 @@ loop-k-preserved c =
 pub narrow-p-requires : goal.narrow-p-requires
 narrow-p-requires c =
     let l = c.loop-k in
-    (l.invariant.1, omega (arith, room-left l.invariant.0 (fitting c.broaden-b.ensures.1 c.requires.0).room))
+    (l.invariant.1, omega (arith, room_left l.invariant.0 (fitting c.broaden-b.ensures.1 c.requires.0).room))
 
 pub put_steps-requires : goal.put_steps-requires
 put_steps-requires c =
     let s = c.args in
     let l = c.loop-k in
-    rw (behind s.contour.now l.k) (rest-fitting (writing-same l.invariant.0 c.narrow-p.ensures.0) (fitting c.broaden-b.ensures.1 c.requires.0) l.invariant.2 (omega (arith, l.invariant.3)) c.narrow-p.ensures.1)
+    rw (behind s.contour.now l.k) (rest_fitting (writing_same l.invariant.0 c.narrow-p.ensures.0) (fitting c.broaden-b.ensures.1 c.requires.0) l.invariant.2 (omega (arith, l.invariant.3)) c.narrow-p.ensures.1)
 
 pub returns : goal.returns
 returns c =
@@ -98,6 +98,6 @@ returns c =
     let l = c.loop-k in
     let rest = rw (behind s.contour.now l.k) at c.put_steps.ensures.0 in (
       subst (λ (p : Pen). Wrote p (fields s.width (differences s.contour.now)) s.bytes.now c.put_steps.result c.put_steps.new.bytes) c.broaden-b.ensures.1
-          (writing-rest (writing-same l.invariant.0 c.narrow-p.ensures.0) rest),
+          (writing_rest (writing_same l.invariant.0 c.narrow-p.ensures.0) rest),
       c.put_steps.ensures.1,
     )

@@ -1,8 +1,8 @@
 -- `steps::inner::writing::put_steps` meets its contract: the differences that are left fit behind those that are written.
 use native.Mathlib.Omega.{arith}
-use Rattle.bits.proofs.SignLaws.{unsigned-below}
+use Rattle.bits.proofs.SignLaws.{unsigned_below}
 use Rattle.steps.specs.inside.Asked.{step}
-use Rattle.steps.proofs.WriteLaws.{writing_none, step_fits, step-space, writing_more, writing_all}
+use Rattle.steps.proofs.WriteLaws.{writing_none, step_fits, step_space, writing_more, writing_all}
 use Rattle.steps.proofs.inner.writing.put_steps.Goals as goal
 
 pub loop-k-init : goal.loop-k-init
@@ -18,8 +18,8 @@ write-p-requires c =
     let l = c.loop-k in
     let h = c.loop-k-test.true in (
       record { small = l.invariant.1.wrote.small; few = l.invariant.2 },
-      step-space l.invariant.1 h c.requires.width.few c.requires.room,
-      rw c.step_bits-n.ensures (unsigned-below c.args.width c.requires.width.some (step c.args.contour.now l.k) (step_fits l.invariant.1 h)),
+      step_space l.invariant.1 h c.requires.width.few c.requires.room,
+      rw c.step_bits-n.ensures (unsigned_below c.args.width c.requires.width.some (step c.args.contour.now l.k) (step_fits l.invariant.1 h)),
     )
 
 pub loop-k-preserved : goal.loop-k-preserved

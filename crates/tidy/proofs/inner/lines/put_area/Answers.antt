@@ -8,28 +8,28 @@ use mir.Val.{to_z, of_z}
 use mir.Facts.{to_z-of_z}
 use Rattle.buffer.specs.Sets.{joined}
 use Rattle.report.specs.Text.{signed}
-use Rattle.report.proofs.LineLaws.{area-clear}
+use Rattle.report.proofs.LineLaws.{area_clear}
 use Rattle.report.proofs.PutLaws.{Going, going_none, going_room, going_more, going_all, two_words}
 use Rattle.tidy.specs.Words.{doubled_area, area}
-use Rattle.tidy.proofs.LineLaws.{area-none, area-told}
+use Rattle.tidy.proofs.LineLaws.{area_none, area_told}
 use Rattle.tidy.proofs.inner.lines.put_area.Goals as goal
 
 words : (c : goal.After-put-arg-4-1) → area c.args.contour.now ≡ joined (doubled_area ∷ signed (to_z w64 (of_z w64 c.doubled_area-doubled.result)) ∷ [])
 words c =
     let is = to_z-of_z {w = w64} (sfits_of c.doubled_area-doubled.type_inv) ∙ c.doubled_area-doubled.ensures in
-    area-told c.args.contour.now c.if-contour-eq0.false ∙ ap (λ (z : ℤ). doubled_area ++ signed z) (sym is)
+    area_told c.args.contour.now c.if-contour-eq0.false ∙ ap (λ (z : ℤ). doubled_area ++ signed z) (sym is)
     ∙ two_words doubled_area (signed (to_z w64 (of_z w64 c.doubled_area-doubled.result)))
 
 words_2 : (c : goal.After-put_signed-arg-1) → area c.args.contour.now ≡ joined (doubled_area ∷ signed (to_z w64 (of_z w64 c.doubled_area-doubled.result)) ∷ [])
 words_2 c =
     let is = to_z-of_z {w = w64} (sfits_of c.doubled_area-doubled.type_inv) ∙ c.doubled_area-doubled.ensures in
-    area-told c.args.contour.now c.if-contour-eq0.false ∙ ap (λ (z : ℤ). doubled_area ++ signed z) (sym is)
+    area_told c.args.contour.now c.if-contour-eq0.false ∙ ap (λ (z : ℤ). doubled_area ++ signed z) (sym is)
     ∙ two_words doubled_area (signed (to_z w64 (of_z w64 c.doubled_area-doubled.result)))
 
 words_3 : (c : goal.After-slice_known-3-1) → area c.args.contour.now ≡ joined (doubled_area ∷ signed (to_z w64 (of_z w64 c.doubled_area-doubled.result)) ∷ [])
 words_3 c =
     let is = to_z-of_z {w = w64} (sfits_of c.doubled_area-doubled.type_inv) ∙ c.doubled_area-doubled.ensures in
-    area-told c.args.contour.now c.if-contour-eq0.false ∙ ap (λ (z : ℤ). doubled_area ++ signed z) (sym is)
+    area_told c.args.contour.now c.if-contour-eq0.false ∙ ap (λ (z : ℤ). doubled_area ++ signed z) (sym is)
     ∙ two_words doubled_area (signed (to_z w64 (of_z w64 c.doubled_area-doubled.result)))
 
 going : (c : goal.After-put-arg-4-1) →
@@ -59,15 +59,15 @@ number_due_2 c = going_more (going_3 c) c.put-behind.ensures
 
 pub put-requires : goal.put-requires
 put-requires c =
-    rw (area-none c.args.contour.now c.if-contour-eq0.true) at c.requires.contour_in_bounds
+    rw (area_none c.args.contour.now c.if-contour-eq0.true) at c.requires.contour_in_bounds
 
 pub returns-then-contour-eq0 : goal.returns-then-contour-eq0
 returns-then-contour-eq0 c =
-    rw (area-none c.args.contour.now c.if-contour-eq0.true) c.put.ensures
+    rw (area_none c.args.contour.now c.if-contour-eq0.true) c.put.ensures
 
 pub doubled_area-doubled-requires : goal.doubled_area-doubled-requires
 doubled_area-doubled-requires c =
-    area-clear c.args.contour.now c.if-contour-eq0.false c.requires.contour
+    area_clear c.args.contour.now c.if-contour-eq0.false c.requires.contour
 
 pub put-behind-requires : goal.put-behind-requires
 put-behind-requires c = going_room (going c)

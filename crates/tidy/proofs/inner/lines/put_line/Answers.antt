@@ -4,7 +4,7 @@ use Prim.Native.Nat.{ℕ}
 use Rattle.report.specs.Text.{line_end}
 use Rattle.report.proofs.PutLaws.{Going, going_none, going_room, going_more, going_all}
 use Rattle.tidy.specs.Words.{why, area, line}
-use Rattle.tidy.proofs.LineLaws.{words, line_words, none-put}
+use Rattle.tidy.proofs.LineLaws.{words, line_words, none_put}
 use Rattle.tidy.proofs.inner.lines.put_line.Goals as goal
 
 -- the words that are due, behind e in a text t, end the line that is put from s
@@ -94,7 +94,7 @@ end_due_2 : (c : goal.After-slice_known-5-1) →
 end_due_2 c = going_more (area_due_3 c) c.put_area-fourth.ensures
 
 pub returns-then-fate-eq-KEPT : goal.returns-then-fate-eq-KEPT
-returns-then-fate-eq-KEPT c = let s = c.args in none-put s.k s.fate s.contour.now c.if-fate-eq-KEPT.true s.at s.text.now
+returns-then-fate-eq-KEPT c = let s = c.args in none_put s.k s.fate s.contour.now c.if-fate-eq-KEPT.true s.at s.text.now
 
 pub put_between-second-requires : goal.put_between-second-requires
 put_between-second-requires c = going_room (going c)

@@ -10,7 +10,7 @@ use Rattle.bits.specs.Bits.{Bytes}
 use Rattle.changes.proofs.ReadLaws.{HasRead, few_points, points_in, ranges_in, shapes_in_row}
 use Rattle.jobpack.specs.Packing.{Packed, outcome}
 use Rattle.tidy.specs.Words.{tidying}
-use Rattle.tidy.proofs.TidyLaws.{read_refused, read-tidied, read-tidiable}
+use Rattle.tidy.proofs.TidyLaws.{read_refused, read_tidied, read_tidiable}
 use Rattle.tidy.proofs.inner.tidying.tidy.Goals as goal
 
 -- the rows as they are lent to the reader
@@ -83,10 +83,10 @@ slice_bounds-tidy_set-end-3 c = sym (length-take-le _ _ (shapes_in_row (done_5 c
 
 pub tidy_set-requires : goal.tidy_set-requires
 tidy_set-requires c =
-    record { tidiable = read-tidiable (done_6 c) c.if-read-ne0.false (bytes_of c); in_bounds = c.requires }
+    record { tidiable = read_tidiable (done_6 c) c.if-read-ne0.false (bytes_of c); in_bounds = c.requires }
 
 pub returns : goal.returns
 unfolding tidying
 returns c =
     let s = c.args in
-    c.tidy_set.ensures ∙ ap (λ (q : Packed). outcome q s.out.now s.text.now) (sym (read-tidied (done_7 c) c.if-read-ne0.false s.rule))
+    c.tidy_set.ensures ∙ ap (λ (q : Packed). outcome q s.out.now s.text.now) (sym (read_tidied (done_7 c) c.if-read-ne0.false s.rule))

@@ -13,7 +13,7 @@ use Rattle.report.specs.inside.Lines.{Put}
 use Rattle.vertices.specs.Vertices.{Vertex, vertices, dot_if}
 use Rattle.vertices.specs.inside.Marks.{survive}
 use Rattle.vertices.proofs.WritingLaws.{writing_none, writing_room, writing_more, writing_all}
-use Rattle.vertices.proofs.DotLaws.{vertex, marked-length, marked-at}
+use Rattle.vertices.proofs.DotLaws.{vertex, marked-length, marked_at}
 use Rattle.vertices.proofs.inner.dots.put.Goals as goal
 
 -- the vertex that is met
@@ -23,7 +23,7 @@ met : (c : goal.After-shared_slice_known-in-loop-i-1) →
     get_or (vertices (survive s.mark.now) (points s.points.now)) i (vertex origin false) ≡ vertex c.point_at-p.result (ltb (get_or s.mark.now i 0) 2)
 met c =
     let l = c.loop-i in
-    marked-at c.args.points.now c.args.mark.now c.requires.points_value.1 l.i (vertex origin false) c.loop-i-test.true
+    marked_at c.args.points.now c.args.mark.now c.requires.points_value.1 l.i (vertex origin false) c.loop-i-test.true
     ∙ ap (λ (p : Point). vertex p (ltb (get_or c.args.mark.now l.i 0) 2)) (sym c.point_at-p.ensures)
 
 -- the vertex that is met
@@ -33,7 +33,7 @@ met_2 : (c : goal.After-slice_known-in-loop-i-1) →
     get_or (vertices (survive s.mark.now) (points s.points.now)) i (vertex origin false) ≡ vertex c.point_at-p.result (ltb (get_or s.mark.now i 0) 2)
 met_2 c =
     let l = c.loop-i in
-    marked-at c.args.points.now c.args.mark.now c.requires.points_value.1 l.i (vertex origin false) c.loop-i-test.true
+    marked_at c.args.points.now c.args.mark.now c.requires.points_value.1 l.i (vertex origin false) c.loop-i-test.true
     ∙ ap (λ (p : Point). vertex p (ltb (get_or c.args.mark.now l.i 0) 2)) (sym c.point_at-p.ensures)
 
 -- it is one of those that are due

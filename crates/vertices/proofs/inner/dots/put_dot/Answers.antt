@@ -7,7 +7,7 @@ use mir.Val.{to_z, of_z}
 use mir.Facts.{to_z-of_z}
 use Rattle.grid.specs.Limits.{limit}
 use Rattle.grid.proofs.LimitLaws.{on_grid_back}
-use Rattle.grid.proofs.PointLaws.{x-on, y-on}
+use Rattle.grid.proofs.PointLaws.{x_on, y_on}
 use Rattle.report.specs.Text.{signed, space}
 use Rattle.report.proofs.PutLaws.{Going, going_none, going_room, going_more, going_all}
 use Rattle.vertices.specs.Vertices.{dot}
@@ -16,32 +16,32 @@ use Rattle.vertices.proofs.inner.dots.put_dot.Goals as goal
 
 -- the coordinates that are put are the point's
 is_x : (c : goal.After-wide) → to_z w64 (of_z w64 c.wide.result) ≡ c.args.p.x
-is_x c = to_z-of_z {w = w64} (sfits_of c.wide.type_inv) ∙ c.wide.ensures ∙ on_grid_back _ (x-on limit _ c.requires.0)
+is_x c = to_z-of_z {w = w64} (sfits_of c.wide.type_inv) ∙ c.wide.ensures ∙ on_grid_back _ (x_on limit _ c.requires.0)
 
 -- the coordinates that are put are the point's
 is_x_2 : (c : goal.After-put-arg-6-1) → to_z w64 (of_z w64 c.wide.result) ≡ c.args.p.x
-is_x_2 c = to_z-of_z {w = w64} (sfits_of c.wide.type_inv) ∙ c.wide.ensures ∙ on_grid_back _ (x-on limit _ c.requires.0)
+is_x_2 c = to_z-of_z {w = w64} (sfits_of c.wide.type_inv) ∙ c.wide.ensures ∙ on_grid_back _ (x_on limit _ c.requires.0)
 
 -- the coordinates that are put are the point's
 is_x_3 : (c : goal.After-wide-2) → to_z w64 (of_z w64 c.wide.result) ≡ c.args.p.x
-is_x_3 c = to_z-of_z {w = w64} (sfits_of c.wide.type_inv) ∙ c.wide.ensures ∙ on_grid_back _ (x-on limit _ c.requires.0)
+is_x_3 c = to_z-of_z {w = w64} (sfits_of c.wide.type_inv) ∙ c.wide.ensures ∙ on_grid_back _ (x_on limit _ c.requires.0)
 
 -- the coordinates that are put are the point's
 is_x_4 : (c : goal.After-put-arg-9-1) → to_z w64 (of_z w64 c.wide.result) ≡ c.args.p.x
-is_x_4 c = to_z-of_z {w = w64} (sfits_of c.wide.type_inv) ∙ c.wide.ensures ∙ on_grid_back _ (x-on limit _ c.requires.0)
+is_x_4 c = to_z-of_z {w = w64} (sfits_of c.wide.type_inv) ∙ c.wide.ensures ∙ on_grid_back _ (x_on limit _ c.requires.0)
 
 -- the coordinates that are put are the point's
 is_x_5 : (c : goal.After-slice_known-6-1) → to_z w64 (of_z w64 c.wide.result) ≡ c.args.p.x
-is_x_5 c = to_z-of_z {w = w64} (sfits_of c.wide.type_inv) ∙ c.wide.ensures ∙ on_grid_back _ (x-on limit _ c.requires.0)
+is_x_5 c = to_z-of_z {w = w64} (sfits_of c.wide.type_inv) ∙ c.wide.ensures ∙ on_grid_back _ (x_on limit _ c.requires.0)
 
 is_y : (c : goal.After-wide-2) → to_z w64 (of_z w64 c.wide-2.result) ≡ c.args.p.y
-is_y c = to_z-of_z {w = w64} (sfits_of c.wide-2.type_inv) ∙ c.wide-2.ensures ∙ on_grid_back _ (y-on limit _ c.requires.0)
+is_y c = to_z-of_z {w = w64} (sfits_of c.wide-2.type_inv) ∙ c.wide-2.ensures ∙ on_grid_back _ (y_on limit _ c.requires.0)
 
 is_y_2 : (c : goal.After-put-arg-9-1) → to_z w64 (of_z w64 c.wide-2.result) ≡ c.args.p.y
-is_y_2 c = to_z-of_z {w = w64} (sfits_of c.wide-2.type_inv) ∙ c.wide-2.ensures ∙ on_grid_back _ (y-on limit _ c.requires.0)
+is_y_2 c = to_z-of_z {w = w64} (sfits_of c.wide-2.type_inv) ∙ c.wide-2.ensures ∙ on_grid_back _ (y_on limit _ c.requires.0)
 
 is_y_3 : (c : goal.After-slice_known-6-1) → to_z w64 (of_z w64 c.wide-2.result) ≡ c.args.p.y
-is_y_3 c = to_z-of_z {w = w64} (sfits_of c.wide-2.type_inv) ∙ c.wide-2.ensures ∙ on_grid_back _ (y-on limit _ c.requires.0)
+is_y_3 c = to_z-of_z {w = w64} (sfits_of c.wide-2.type_inv) ∙ c.wide-2.ensures ∙ on_grid_back _ (y_on limit _ c.requires.0)
 
 -- the words are to be put
 going : (c : goal.After-put-arg-3-1) →

@@ -8,12 +8,12 @@ use Rattle.ring.specs.declared.Rule as R
 use Rattle.ring.specs.Walk.{removed}
 use Rattle.report.specs.Listing.{rule_of}
 use Rattle.vertices.specs.Vertices.{kept_of}
-use Rattle.vertices.proofs.KeptLaws.{settled-few, settled-fallen, settled-kept}
+use Rattle.vertices.proofs.KeptLaws.{settled_few, settled_fallen, settled_kept}
 use Rattle.vertices.proofs.inner.settling.settle.Goals as goal
 
 pub returns-then-mark-lt3 : goal.returns-then-mark-lt3
 returns-then-mark-lt3 c =
-    settled-few (rule_of c.args.second) c.args.contour.now _ c.requires.contour c.if-mark-lt3.true _ c.remove_all.ensures
+    settled_few (rule_of c.args.second) c.args.contour.now _ c.requires.contour c.if-mark-lt3.true _ c.remove_all.ensures
 
 pub walk-ending-requires : goal.walk-ending-requires
 walk-ending-requires c =
@@ -21,12 +21,12 @@ walk-ending-requires c =
 
 pub returns-then-not-ending : goal.returns-then-not-ending
 returns-then-not-ending c =
-    settled-fallen c.rule.result c.args.contour.now _ c.requires.contour c.walk-ending.result _ _ c.walk-ending.ensures (not-true _ c.if-not-ending.true) _
+    settled_fallen c.rule.result c.args.contour.now _ c.requires.contour c.walk-ending.result _ _ c.walk-ending.ensures (not-true _ c.if-not-ending.true) _
     (c.remove_all-then-not-ending.ensures ∙ ap (λ (k : ℕ). replicate k removed) c.walk-ending.auto.mark)
     ∙ ap (λ (r : R.Rule). kept_of r c.args.contour.now) c.rule.ensures
 
 pub returns-else-not-ending : goal.returns-else-not-ending
 returns-else-not-ending c =
-    settled-kept c.rule.result c.args.contour.now _ c.requires.contour c.walk-ending.result _ _ c.walk-ending.ensures (not-false _ c.if-not-ending.false)
+    settled_kept c.rule.result c.args.contour.now _ c.requires.contour c.walk-ending.result _ _ c.walk-ending.ensures (not-false _ c.if-not-ending.false)
     c.walk-ending.auto.mark
     ∙ ap (λ (r : R.Rule). kept_of r c.args.contour.now) c.rule.ensures

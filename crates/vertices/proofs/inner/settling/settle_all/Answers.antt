@@ -9,60 +9,60 @@ use lib.Seq.{length-take-le, length_front, take_at}
 use lib.IntN.{ℤ}
 use Rattle.grid.specs.Domain.{Contour}
 use Rattle.setfile.specs.inside.Reading.{from_bit, front_points, Whole}
-use Rattle.setfile.proofs.ContourLaws.{whole-small, whole-ends}
+use Rattle.setfile.proofs.ContourLaws.{whole_small, whole_ends}
 use Rattle.report.specs.Listing.{rule_of}
 use Rattle.vertices.specs.Vertices.{kept_of}
-use Rattle.vertices.proofs.AlongLaws.{along-there, along-ends, along-part}
-use Rattle.vertices.proofs.SettleLaws.{settling_none, settling-contour, settling-more, settling-all}
+use Rattle.vertices.proofs.AlongLaws.{along_there, along_ends, along_part}
+use Rattle.vertices.proofs.SettleLaws.{settling_none, settling_contour, settling_more, settling_all}
 use Rattle.vertices.proofs.inner.settling.settle_all.Goals as goal
 
 -- the contour that is met is all there
 there : (c : goal.In-loop-i) →
     let s = c.args in
     Whole s.second s.bytes.now c.loop-i.at
-there c = along-there c.loop-i.invariant.0.along c.loop-i-test.true
+there c = along_there c.loop-i.invariant.0.along c.loop-i-test.true
 
 -- the contour that is met is all there
 there_2 : (c : goal.After-slice_known-in-loop-i-3-1) →
     let s = c.args in
     Whole s.second s.bytes.now c.loop-i.at
-there_2 c = along-there c.loop-i.invariant.0.along c.loop-i-test.true
+there_2 c = along_there c.loop-i.invariant.0.along c.loop-i-test.true
 
 -- the contour that is met is all there
 there_3 : (c : goal.After-size-at) →
     let s = c.args in
     Whole s.second s.bytes.now c.loop-i.at
-there_3 c = along-there c.loop-i.invariant.0.along c.loop-i-test.true
+there_3 c = along_there c.loop-i.invariant.0.along c.loop-i-test.true
 
 -- the contour that is met is all there
 there_4 : (c : goal.After-header_at-h) →
     let s = c.args in
     Whole s.second s.bytes.now c.loop-i.at
-there_4 c = along-there c.loop-i.invariant.0.along c.loop-i-test.true
+there_4 c = along_there c.loop-i.invariant.0.along c.loop-i-test.true
 
 -- the contour that is met is all there
 there_5 : (c : goal.After-settle-arg-1) →
     let s = c.args in
     Whole s.second s.bytes.now c.loop-i.at
-there_5 c = along-there c.loop-i.invariant.0.along c.loop-i-test.true
+there_5 c = along_there c.loop-i.invariant.0.along c.loop-i-test.true
 
 -- the contour that is met is all there
 there_6 : (c : goal.After-settle-arg-in-loop-i-1) →
     let s = c.args in
     Whole s.second s.bytes.now c.loop-i.at
-there_6 c = along-there c.loop-i.invariant.0.along c.loop-i-test.true
+there_6 c = along_there c.loop-i.invariant.0.along c.loop-i-test.true
 
 -- the contour that is met is all there
 there_7 : (c : goal.After-settle-arg-in-loop-i-2-1) →
     let s = c.args in
     Whole s.second s.bytes.now c.loop-i.at
-there_7 c = along-there c.loop-i.invariant.0.along c.loop-i-test.true
+there_7 c = along_there c.loop-i.invariant.0.along c.loop-i-test.true
 
 -- the contour that is met is all there
 there_8 : (c : goal.After-settle-arg-in-loop-i-3-1) →
     let s = c.args in
     Whole s.second s.bytes.now c.loop-i.at
-there_8 c = along-there c.loop-i.invariant.0.along c.loop-i-test.true
+there_8 c = along_there c.loop-i.invariant.0.along c.loop-i-test.true
 
 -- and its points have marks, and scratch
 room : (c : goal.After-header_at-h) →
@@ -73,12 +73,12 @@ room : (c : goal.After-header_at-h) →
 room c =
     let l = c.loop-i in
     let m = c.requires.marked in (
-      along-ends l.invariant.0.along c.loop-i-test.true _ c.header_at-h.ensures,
+      along_ends l.invariant.0.along c.loop-i-test.true _ c.header_at-h.ensures,
       omega (arith, m.each, l.invariant.0.long),
       omega (arith, ap length c.requires.listable.1, c.requires.listable.0.few),
       omega (arith, m.in_next, l.invariant.0.long, l.invariant.1),
       omega (arith, m.in_prev, l.invariant.0.long, l.invariant.2),
-      (whole-small (there_4 c) _ c.header_at-h.ensures).0,
+      (whole_small (there_4 c) _ c.header_at-h.ensures).0,
     )
 
 -- and its points have marks, and scratch
@@ -90,12 +90,12 @@ room_2 : (c : goal.After-settle-arg-1) →
 room_2 c =
     let l = c.loop-i in
     let m = c.requires.marked in (
-      along-ends l.invariant.0.along c.loop-i-test.true _ c.header_at-h.ensures,
+      along_ends l.invariant.0.along c.loop-i-test.true _ c.header_at-h.ensures,
       omega (arith, m.each, l.invariant.0.long),
       omega (arith, ap length c.requires.listable.1, c.requires.listable.0.few),
       omega (arith, m.in_next, l.invariant.0.long, l.invariant.1),
       omega (arith, m.in_prev, l.invariant.0.long, l.invariant.2),
-      (whole-small (there_5 c) _ c.header_at-h.ensures).0,
+      (whole_small (there_5 c) _ c.header_at-h.ensures).0,
     )
 
 -- and its points have marks, and scratch
@@ -107,12 +107,12 @@ room_3 : (c : goal.After-settle-arg-in-loop-i-1) →
 room_3 c =
     let l = c.loop-i in
     let m = c.requires.marked in (
-      along-ends l.invariant.0.along c.loop-i-test.true _ c.header_at-h.ensures,
+      along_ends l.invariant.0.along c.loop-i-test.true _ c.header_at-h.ensures,
       omega (arith, m.each, l.invariant.0.long),
       omega (arith, ap length c.requires.listable.1, c.requires.listable.0.few),
       omega (arith, m.in_next, l.invariant.0.long, l.invariant.1),
       omega (arith, m.in_prev, l.invariant.0.long, l.invariant.2),
-      (whole-small (there_6 c) _ c.header_at-h.ensures).0,
+      (whole_small (there_6 c) _ c.header_at-h.ensures).0,
     )
 
 -- and its points have marks, and scratch
@@ -124,12 +124,12 @@ room_4 : (c : goal.After-settle-arg-in-loop-i-2-1) →
 room_4 c =
     let l = c.loop-i in
     let m = c.requires.marked in (
-      along-ends l.invariant.0.along c.loop-i-test.true _ c.header_at-h.ensures,
+      along_ends l.invariant.0.along c.loop-i-test.true _ c.header_at-h.ensures,
       omega (arith, m.each, l.invariant.0.long),
       omega (arith, ap length c.requires.listable.1, c.requires.listable.0.few),
       omega (arith, m.in_next, l.invariant.0.long, l.invariant.1),
       omega (arith, m.in_prev, l.invariant.0.long, l.invariant.2),
-      (whole-small (there_7 c) _ c.header_at-h.ensures).0,
+      (whole_small (there_7 c) _ c.header_at-h.ensures).0,
     )
 
 -- and its points have marks, and scratch
@@ -141,12 +141,12 @@ room_5 : (c : goal.After-settle-arg-in-loop-i-3-1) →
 room_5 c =
     let l = c.loop-i in
     let m = c.requires.marked in (
-      along-ends l.invariant.0.along c.loop-i-test.true _ c.header_at-h.ensures,
+      along_ends l.invariant.0.along c.loop-i-test.true _ c.header_at-h.ensures,
       omega (arith, m.each, l.invariant.0.long),
       omega (arith, ap length c.requires.listable.1, c.requires.listable.0.few),
       omega (arith, m.in_next, l.invariant.0.long, l.invariant.1),
       omega (arith, m.in_prev, l.invariant.0.long, l.invariant.2),
-      (whole-small (there_8 c) _ c.header_at-h.ensures).0,
+      (whole_small (there_8 c) _ c.header_at-h.ensures).0,
     )
 
 -- and its points have marks, and scratch
@@ -158,12 +158,12 @@ room_6 : (c : goal.After-size-at) →
 room_6 c =
     let l = c.loop-i in
     let m = c.requires.marked in (
-      along-ends l.invariant.0.along c.loop-i-test.true _ c.header_at-h.ensures,
+      along_ends l.invariant.0.along c.loop-i-test.true _ c.header_at-h.ensures,
       omega (arith, m.each, l.invariant.0.long),
       omega (arith, ap length c.requires.listable.1, c.requires.listable.0.few),
       omega (arith, m.in_next, l.invariant.0.long, l.invariant.1),
       omega (arith, m.in_prev, l.invariant.0.long, l.invariant.2),
-      (whole-small (there_3 c) _ c.header_at-h.ensures).0,
+      (whole_small (there_3 c) _ c.header_at-h.ensures).0,
     )
 
 -- the part of the points that is lent is that contour
@@ -175,7 +175,7 @@ part c =
     let l = c.loop-i in
     let k : 2 * (l.start + c.header_at-h.result.count) - 2 * l.start ≡ 2 * c.header_at-h.result.count = omega arith in
     ap (λ (n : ℕ). take n (drop (2 * l.start) c.args.points.now)) k
-    ∙ along-part l.invariant.0.along c.loop-i-test.true _ c.header_at-h.ensures
+    ∙ along_part l.invariant.0.along c.loop-i-test.true _ c.header_at-h.ensures
 
 -- the part of the points that is lent is that contour
 part_2 : (c : goal.After-size-at) →
@@ -186,7 +186,7 @@ part_2 c =
     let l = c.loop-i in
     let k : 2 * (l.start + c.header_at-h.result.count) - 2 * l.start ≡ 2 * c.header_at-h.result.count = omega arith in
     ap (λ (n : ℕ). take n (drop (2 * l.start) c.args.points.now)) k
-    ∙ along-part l.invariant.0.along c.loop-i-test.true _ c.header_at-h.ensures
+    ∙ along_part l.invariant.0.along c.loop-i-test.true _ c.header_at-h.ensures
 
 -- and the part of the marks has one for each of its points
 marks : (c : goal.After-settle-arg-in-loop-i-3-1) →
@@ -270,18 +270,18 @@ settle-requires c =
     record {
       contour =
           subst (λ (w : List ℤ). Contour w (length (mid_of l.start (l.start + k - l.start) l.mark))) (sym (part c))
-          (subst (Contour _) (sym m) (settling-contour l.invariant.0 c.loop-i-test.true _ c.header_at-h.ensures));
+          (subst (Contour _) (sym m) (settling_contour l.invariant.0 c.loop-i-test.true _ c.header_at-h.ensures));
       next_len = (length-take-le k l.next (omega (arith, r.0, r.1, r.3)) ∙ sym m, length-take-le k l.prev (omega (arith, r.0, r.1, r.4)) ∙ sym m);
     }
 
 pub size-at-requires : goal.size-at-requires
 size-at-requires c =
-    whole-small (there_2 c) _ c.header_at-h.ensures
+    whole_small (there_2 c) _ c.header_at-h.ensures
 
 pub overflow_add-at : goal.overflow_add-at
 overflow_add-at c =
     let w = there_3 c in
-    omega (arith, whole-ends w _ c.header_at-h.ensures _ c.size-at.ensures, w.here.short)
+    omega (arith, whole_ends w _ c.header_at-h.ensures _ c.size-at.ensures, w.here.short)
 
 pub overflow_add-i : goal.overflow_add-i
 overflow_add-i c = omega (arith, c.loop-i-test.true, c.ranges.n)
@@ -298,7 +298,7 @@ loop-i-preserved c =
     let new = c.settle.new.mark in
     let as_many = c.settle.auto.mark in
     let before = length-take-le l.start l.mark (omega (arith, r.0, r.1)) in (
-      settling-more l.invariant.0 c.loop-i-test.true _ c.header_at-h.ensures new (put_mid l.start (l.start + k - l.start) l.mark new)
+      settling_more l.invariant.0 c.loop-i-test.true _ c.header_at-h.ensures new (put_mid l.start (l.start + k - l.start) l.mark new)
           (c.settle.ensures ∙ ap (kept_of (rule_of s.second)) (part_2 c))
           (ap (take (l.start + k)) (sym (append_assoc (take l.start l.mark) new (post_of l.start (l.start + k - l.start) l.mark)))
           ∙ take_at (take l.start l.mark ++ new) _ (l.start + k) (omega (arith, length-append (take l.start l.mark) new, before, as_many, marks_2 c)))
@@ -318,4 +318,4 @@ shape_of-mark c = c.loop-i.invariant.0.long
 
 pub returns : goal.returns
 returns c =
-    settling-all c.loop-i.invariant.0 c.loop-i-test.false (omega (arith, c.requires.marked.each, c.loop-i.invariant.0.long))
+    settling_all c.loop-i.invariant.0 c.loop-i-test.false (omega (arith, c.requires.marked.each, c.loop-i.invariant.0.long))

@@ -8,7 +8,7 @@ use lib.ListN.{replicate, length-replicate}
 use lib.Seq.{length-take-le}
 use lib.IntN.{ℤ, pos}
 use Rattle.changes.proofs.ReadLaws.{HasRead, reply_is, few_points, points_in, ranges_in}
-use Rattle.week.proofs.CountingLaws.{refusal-small, refused-counted, read-sound, read-counted}
+use Rattle.week.proofs.CountingLaws.{refusal_small, refused_counted, read_sound, read_counted}
 use Rattle.week.proofs.inner.counting.add_file.Statement.{statement}
 use Rattle.week.proofs.inner.counting.add_file.Tie as tie
 
@@ -56,13 +56,13 @@ read-requires c κs = search rules
 add-refused-requires : tie.Need-add-refused-requires
 add-refused-requires c κs =
     let read = c.before.before.before.before.before in
-    omega (arith, reply_is (done read), refusal-small (start read).args.bytes.now)
+    omega (arith, reply_is (done read), refusal_small (start read).args.bytes.now)
 
 returns : tie.Need-returns
 returns c =
     let read = c.before.before.before.before.before.before in
     let s = (start read).args in
-    c.add_refused.ensures ∙ refused-counted s.bytes.now s.f _ (reply_is (done read)) c.before.if1.true
+    c.add_refused.ensures ∙ refused_counted s.bytes.now s.f _ (reply_is (done read)) c.before.if1.true
 
 mul-n : tie.Need-overflow-mul-n
 mul-n c = let else = c.before in omega (arith, few_points (done (read_of else)) else.if1.false)
@@ -80,12 +80,12 @@ slice-aggregate-add-set-2 : tie.Need-slice-aggregate-add-set-2
 slice-aggregate-add-set-2 c = let else = c.before.before.before.before in sym (length-take-le _ _ (ranges_in (done (read_of else)) else.if1.false))
 
 add-set-requires : tie.Need-add-set-requires
-add-set-requires c κs = let else = c.before.before.before.before in read-sound (done (read_of else)) else.if1.false
+add-set-requires c κs = let else = c.before.before.before.before in read_sound (done (read_of else)) else.if1.false
 
 returns-2 : tie.Need-returns-2
 returns-2 c =
     let else = c.before.before.before.before.before in
-    c.add-set.ensures ∙ read-counted (done (read_of else)) else.if1.false (start (read_of else)).args.f
+    c.add-set.ensures ∙ read_counted (done (read_of else)) else.if1.false (start (read_of else)).args.f
 
 pub add_file_spec : {M : Type 1} → statement M
 add_file_spec =

@@ -4,7 +4,7 @@ use Prim.Native.Nat.{ℕ, ◌+◌, ◌-◌, ◌≤◌}
 use native.Mathlib.Omega.{arith}
 use Rattle.setfile.specs.inside.Reading.{from_bit, At}
 use Rattle.week.specs.Files.{bit_behind}
-use Rattle.week.proofs.EndLaws.{behind_next, none-behind, more-behind, nothing_more}
+use Rattle.week.proofs.EndLaws.{behind_next, none_behind, more_behind, nothing_more}
 use Rattle.week.proofs.inner.ending.bit_behind.Statement.{statement}
 use Rattle.week.proofs.inner.ending.bit_behind.Tie as tie
 
@@ -30,7 +30,7 @@ returns c =
     let pass = sized.before.before in
     let l = pass.loop in
     let s = pass.before.before.args in
-    none-behind s.second s.bytes.now s.n l.i l.at sized.before.loop-test.true _ sized.size-at.ensures c.if1.true
+    none_behind s.second s.bytes.now s.n l.i l.at sized.before.loop-test.true _ sized.size-at.ensures c.if1.true
     ∙ sym l.invariant.2
 
 -- behind the contour that is met
@@ -61,7 +61,7 @@ loop-again c =
       past c,
       omega arith,
       l.invariant.2
-          ∙ more-behind s.second s.bytes.now s.n l.i l.at sized.before.loop-test.true _ sized.size-at.ensures c.if1.false,
+          ∙ more_behind s.second s.bytes.now s.n l.i l.at sized.before.loop-test.true _ sized.size-at.ensures c.if1.false,
     )
 
 returns-2 : tie.Need-returns-2 invariant-loop decreases-loop

@@ -7,8 +7,8 @@ use native.Mathlib.Omega.{arith}
 use lib.ListN.{length}
 use Rattle.replies.specs.Ladder.{first_of}
 use Rattle.setfile.specs.inside.Reading.{from_bit, At}
-use Rattle.setfile.proofs.FaultLaws.{either-long}
-use Rattle.setfile.proofs.JudgeLaws.{at-contours}
+use Rattle.setfile.proofs.FaultLaws.{either_long}
+use Rattle.setfile.proofs.JudgeLaws.{at_contours}
 use Rattle.setfile.proofs.ContourLaws.{from-length}
 use Rattle.week.specs.Files.{head_refusals, bit_behind, whole_bytes}
 use Rattle.week.proofs.EndLaws.{not_told, told, ends_within}
@@ -31,7 +31,7 @@ is-second-requires : tie.Need-is-second-requires
 is-second-requires c κs = search rules
 
 promised-requires : tie.Need-promised-requires
-promised-requires c κs = either-long c.before.before.before.before.args.bytes.now (headed c.before)
+promised-requires c κs = either_long c.before.before.before.before.args.bytes.now (headed c.before)
 
 -- behind the head
 begins : (c : tie.After-promised) →
@@ -39,7 +39,7 @@ begins : (c : tie.After-promised) →
     At c.before.is_second.result s.bytes.now 16
 begins c =
     let s = c.before.before.before.before.before.args in
-    at-contours c.before.is_second.result s.bytes.now c.before.is_second.ensures (headed c.before.before)
+    at_contours c.before.is_second.result s.bytes.now c.before.is_second.ensures (headed c.before.before)
 
 bit-behind-requires : tie.Need-bit-behind-requires
 bit-behind-requires c κs = begins c

@@ -14,7 +14,7 @@ use borrow.Author.Rules.{rules}
 use Rattle.report.specs.Text.{dash}
 use Rattle.figures.specs.Halves.{whole}
 use Rattle.week.specs.Table.{long_decimal, long_signed}
-use Rattle.week.proofs.AreaLaws.{area-above, area-below, below_some}
+use Rattle.week.proofs.AreaLaws.{area_above, area_below, below_some}
 use Rattle.week.proofs.inner.wide.put_area.Statement.{statement}
 use Rattle.week.proofs.inner.wide.put_area.Tie as tie
 
@@ -33,7 +33,7 @@ below : (c : tie.Then1) →
 below c =
     let start = c.before.before.before in
     let s = start.args in
-    area-below s.low start.ranges.low.fits s.high (sign c.before true c.if1.true)
+    area_below s.low start.ranges.low.fits s.high (sign c.before true c.if1.true)
     ∙ ap (λ (n : ℕ). dash ++ long_decimal (n * 2 ^ 32 - s.low)) (sym (sized c.before))
 
 above : (c : tie.Else1) →
@@ -42,7 +42,7 @@ above : (c : tie.Else1) →
 above c =
     let start = c.before.before.before in
     let s = start.args in
-    area-above s.low start.ranges.low.fits s.high (sign c.before false c.if1.false)
+    area_above s.low start.ranges.low.fits s.high (sign c.before false c.if1.false)
     ∙ ap (λ (n : ℕ). long_decimal (n * 2 ^ 32 + s.low)) (sym (sized c.before))
 
 magnitude-requires : tie.Need-magnitude-requires

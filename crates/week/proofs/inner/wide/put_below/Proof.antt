@@ -5,7 +5,7 @@ use native.Mathlib.Omega.{arith}
 use lib.ListN.{length-append}
 use borrow.Author.Rules.{rules}
 use Rattle.report.specs.Text.{dash}
-use Rattle.report.proofs.PutLaws.{room-behind, both_put}
+use Rattle.report.proofs.PutLaws.{room_behind, both_put}
 use Rattle.week.specs.Table.{long_decimal}
 use Rattle.week.proofs.AreaLaws.{none_lacking, some_lacking}
 use Rattle.week.proofs.inner.wide.put_below.Statement.{statement}
@@ -26,7 +26,7 @@ put-wide-requires c κs =
     let start = sign.before.before.before.before in
     let s = start.args in
     let e = none_lacking s.high s.low c.before.if1.true in
-    (start.requires.0.1, rw e (room-behind sign.put.ensures (long_decimal (s.high * 2 ^ 32 - s.low)) start.requires.1))
+    (start.requires.0.1, rw e (room_behind sign.put.ensures (long_decimal (s.high * 2 ^ 32 - s.low)) start.requires.1))
 
 same_length : tie.Need-same-length
 same_length c = search rules
@@ -64,7 +64,7 @@ put-wide-requires-2 c κs =
     let sign = c.before.before.before.before in
     let start = sign.before.before.before.before in
     let s = start.args in
-    (omega (arith, start.requires.0), rw (lacking c.before) (room-behind sign.put.ensures (long_decimal (s.high * 2 ^ 32 - s.low)) start.requires.1))
+    (omega (arith, start.requires.0), rw (lacking c.before) (room_behind sign.put.ensures (long_decimal (s.high * 2 ^ 32 - s.low)) start.requires.1))
 
 same-length-2 : tie.Need-same-length-2
 same-length-2 c = search rules

@@ -7,9 +7,9 @@ use lib.ListN.{length, length-append}
 use borrow.Author.Rules.{rules}
 use Rattle.io.specs.Digits.{last_digits}
 use Rattle.report.specs.Text.{decimal}
-use Rattle.report.proofs.PutLaws.{room-behind, both_put}
+use Rattle.report.proofs.PutLaws.{room_behind, both_put}
 use Rattle.report.proofs.TextLaws.{digits-length}
-use Rattle.week.proofs.AreaLaws.{front, rest, wide_short, wide-long}
+use Rattle.week.proofs.AreaLaws.{front, rest, wide_short, wide_long}
 use Rattle.week.proofs.inner.wide.put_wide.Statement.{statement}
 use Rattle.week.proofs.inner.wide.put_wide.Tie as tie
 
@@ -48,7 +48,7 @@ roomy : (c : tie.Else1) →
 roomy c =
     let start = c.before.before in
     let s = start.args in
-    rw (sym (wide-long s.high s.low c.if1.false)) start.requires.1
+    rw (sym (wide_long s.high s.low c.if1.false)) start.requires.1
 
 put-number-requires-2 : tie.Need-put-number-requires-2
 put-number-requires-2 c κs =
@@ -64,7 +64,7 @@ put-eight-requires c κs =
     let else = first.before.before in
     let s = else.before.before.args in
     let d = last_digits 10 8 (rest s.high s.low % 100000000) in
-    (omega arith, omega (arith, room-behind first.put-number2.ensures d (roomy else), digits-length 8 (rest s.high s.low % 100000000)))
+    (omega arith, omega (arith, room_behind first.put-number2.ensures d (roomy else), digits-length 8 (rest s.high s.low % 100000000)))
 
 same-length-2 : tie.Need-same-length-2
 same-length-2 c = search rules
@@ -75,7 +75,7 @@ returns-2 c =
     let first = last.before.before.before.before in
     let else = first.before.before in
     let s = else.before.before.args in
-    rw (wide-long s.high s.low else.if1.false)
+    rw (wide_long s.high s.low else.if1.false)
     (both_put first.put-number2.ensures (last_digits 10 8 (rest s.high s.low % 100000000)) (roomy else) last.put-eight.ensures)
 
 pub put_wide_spec : {M : Type 1} → statement M
