@@ -13,7 +13,7 @@ import sys
 
 ROOT = sys.argv[1] if len(sys.argv) > 1 else "."
 WORD = r"[^\s(){}.;,@\"«»\[\]\\]+"
-SIG = re.compile(r"^(\s*)((?:unfoldable |abbrev |pub )*)(" + WORD + r")\s+:\s(.*)$")
+SIG = re.compile(r"^(\s*)((?:unfoldable |abbrev |pub )*)(" + WORD + r")\s+:(?: (.*))?$")
 HEAD = re.compile(r"^\s*(?:pub )?(record|data)\s+(" + WORD + r").* : Type")
 LISTS = set("length take drop append cons map reverse sum set replicate get_or filter concat zero suc".split())
 
@@ -44,7 +44,9 @@ def declared():
             elif re.match(r"\s*(abbrev mutual|mutual|(pub )?module\b)", l):
                 context = "part"
             elif m and not l.strip().startswith("--"):
-                indent, _, name, of = m.groups()
+                indent, marks, name, of = m.groups(default="")
+                if marks.startswith(("abbrev", "unfoldable")) or "abbrev" in marks or not indent and "/specs/" in p:
+                    kinds.setdefault(name, set()).add("word")
                 if not indent:
                     context = None
                     goal = of.split(" ")[0].startswith(("tie.", "goal."))
@@ -52,7 +54,7 @@ def declared():
                 elif context:
                     goal = of.split(" ")[0].startswith(("tie.", "goal."))
                     kinds.setdefault(name, set()).add("goal" if goal else "own")
-    return {n for n, k in kinds.items() if k != {"goal"}}
+    return {n for n, k in kinds.items() if k != {"goal"}}, {n for n, k in kinds.items() if "word" in k}
 
 
 def imported():
@@ -72,12 +74,12 @@ def snake(name):
 
 
 def main():
-    own = declared()
+    own, words = declared()
     kit = imported()
     turned = {}
     for n in sorted(own):
         parts = n.split("-")
-        if n in kit or len(parts) == 2 and parts[1] in LISTS and parts[0] in own | LISTS:
+        if n in kit or len(parts) == 2 and n not in words and parts[1] in LISTS and parts[0] in own | LISTS:
             continue
         s = snake(n)
         if s != n:

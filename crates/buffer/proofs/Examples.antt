@@ -38,7 +38,7 @@ unfolding sound_from
 sound_rows = (refl, refl, refl)
 
 -- a gap, an overlap, a range that runs backward, a row too short, too long, started late, and none with points
-unsound-rows :
+unsound_rows :
     (sound (spans (0 to 1 ∷ 2 to 4 ∷ [])) 4 ≡ false)
     × (sound (spans (0 to 3 ∷ 2 to 4 ∷ [])) 4 ≡ false)
     × (sound (spans (0 to 3 ∷ 3 to 2 ∷ 2 to 4 ∷ [])) 4 ≡ false)
@@ -47,7 +47,7 @@ unsound-rows :
     × (sound (spans (1 to 4 ∷ [])) 4 ≡ false)
     × (sound [] 4 ≡ false)
 unfolding sound_from
-unsound-rows = (refl, refl, refl, refl, refl, refl, refl)
+unsound_rows = (refl, refl, refl, refl, refl, refl, refl)
 
 unpacked : contours four (spans three) ≡ triangle ∷ [] ∷ point ∷ []
 unpacked = refl

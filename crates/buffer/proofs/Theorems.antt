@@ -286,9 +286,9 @@ module _ (o : Outcome) (ok : o.answer.reply ≡ 0) where
         (sound_first (length cs) (length all_contours) (moved (length cs) (every mcs)) [] (omega arith) (omega arith) (sound_nothing (length mcs + length cs) (length all_contours) (omega arith))) in
         rw (a, b)
 
-    pub the-counts-of-an-added-shape-add-up :
+    pub the_counts_of_an_added_shape_add_up :
         (o.answer.points ≡ count p + count more) × (o.answer.contours ≡ length cs + length mcs) × (o.answer.shapes ≡ length ss + 1)
-    the-counts-of-an-added-shape-add-up = (
+    the_counts_of_an_added_shape_add_up = (
       ap (λ (a : Packed). a.points) shape_added.answer ∙ sym (count-append p more shape_taken.even),
       ap (λ (a : Packed). a.contours) shape_added.answer ∙ sym (added-length cs mcs (count p)),
       ap (λ (a : Packed). a.shapes) shape_added.answer ∙ sym (added-length ss ((0 ∷ length mcs ∷ []) ∷ []) (length cs)),

@@ -80,22 +80,22 @@ unfolding stored first_of asked brought items item first_fault of_bits finite on
 off = (refl, refl, refl)
 
 -- a Line or a Close with nothing open: at the row's start, and after a Close; a kind that is no kind
-nothing-open :
+nothing_open :
     (imported (1 ∷ []) (one ∷ one ∷ []) ≡ refused 13)
     × (imported (2 ∷ []) [] ≡ refused 13)
     × (imported (0 ∷ 2 ∷ 1 ∷ []) (one ∷ one ∷ one ∷ one ∷ []) ≡ refused 13)
     × (imported (0 ∷ 2 ∷ 2 ∷ []) (one ∷ one ∷ []) ≡ refused 13)
     × (imported (0 ∷ 3 ∷ []) (one ∷ one ∷ []) ≡ refused 13)
 unfolding stored first_of asked brought items item first_fault of_bits finite on_grid size near narrow
-nothing-open = (refl, refl, refl, refl, refl)
+nothing_open = (refl, refl, refl, refl, refl)
 
 -- the first faulty command counts, and of a command its kind first
-first-counts :
+first_counts :
     (imported (0 ∷ 7 ∷ []) (far ∷ one ∷ []) ≡ refused 3)
     × (imported (7 ∷ 0 ∷ []) (far ∷ one ∷ []) ≡ refused 13)
     × (imported (0 ∷ 2 ∷ 1 ∷ []) (one ∷ one ∷ not_a_number ∷ one ∷ []) ≡ refused 13)
 unfolding stored first_of asked brought items item first_fault of_bits finite on_grid size near narrow
-first-counts = (refl, refl, refl)
+first_counts = (refl, refl, refl)
 
 -- a Move after a Move leaves a contour of one point, and what is open at the row's end is ended
 moves : imported (0 ∷ 0 ∷ 1 ∷ []) (one ∷ naught ∷ one_half ∷ less_two ∷ naught ∷ one ∷ [])
@@ -142,17 +142,17 @@ unfolding E.outcome first_of most sound_from G.on_grid G.all_on_grid narrow E.ou
 drawn = refl
 
 -- empty contours alone, and no contours
-no-commands :
+no_commands :
     (exported [] ((0 ∷ 0 ∷ []) ∷ (0 ∷ 0 ∷ []) ∷ []) ≡ E.leaving (record { reply = 0; commands = 0; floats = 0 }) kind_row float_row)
     × (exported [] [] ≡ E.leaving (record { reply = 0; commands = 0; floats = 0 }) kind_row float_row)
 unfolding E.outcome first_of most sound_from G.all_on_grid E.outline joined points
-no-commands = (refl, refl)
+no_commands = (refl, refl)
 
 -- 1: half a point; 6: points without ranges; 3: off the grid; 5: four points
-not-exported :
+not_exported :
     (exported (pos 0 ∷ []) ((0 ∷ 7 ∷ []) ∷ []) ≡ not_drawn 1)
     × (exported (pos 536870913 ∷ pos 0 ∷ []) [] ≡ not_drawn 6)
     × (exported (pos 536870913 ∷ pos 0 ∷ []) ((0 ∷ 1 ∷ []) ∷ []) ≡ not_drawn 3)
     × (exported (row (0 ∷ 0 ∷ 1 ∷ 0 ∷ 1 ∷ 1 ∷ 0 ∷ 1 ∷ [])) ((0 ∷ 4 ∷ []) ∷ []) ≡ not_drawn 5)
 unfolding E.outcome first_of most sound_from G.on_grid G.all_on_grid narrow E.outline joined points
-not-exported = (refl, refl, refl, refl)
+not_exported = (refl, refl, refl, refl)

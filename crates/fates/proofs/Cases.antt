@@ -24,11 +24,11 @@ use Rattle.fates.specs.Outcome.{lent, leaving, fates_outcome}
 abbrev each_alone : List (List (List ℤ))
 each_alone = (W1 ∷ []) ∷ (W2 ∷ []) ∷ (W3 ∷ []) ∷ (W4 ∷ []) ∷ (W6 ∷ []) ∷ (W7 ∷ []) ∷ (W8 ∷ []) ∷ (W9 ∷ []) ∷ (W10 ∷ []) ∷ (W11 ∷ []) ∷ (W12 ∷ []) ∷ []
 
-the-scope's-cases :
+the_scope's_cases :
     (fates Collinear each_alone ≡ 1 ∷ 1 ∷ 0 ∷ 0 ∷ 0 ∷ 0 ∷ 0 ∷ 0 ∷ 0 ∷ 0 ∷ 1 ∷ [])
     × (fates Spike each_alone ≡ 1 ∷ 1 ∷ 0 ∷ 0 ∷ 0 ∷ 0 ∷ 0 ∷ 0 ∷ 0 ∷ 0 ∷ 1 ∷ [])
 unfolding survivors_from others successor predecessor occurrences unmark unmark_about remove decide look looks walk goes_at points cross dot limit most on_grid all_on_grid first_of last differing distinct_neighbours corners_from corners some is_simple spike_free_distinct no_spikes chosen fate shape_fates fates
-the-scope's-cases = (refl, refl)
+the_scope's_cases = (refl, refl)
 
 -- a hole that collapses goes alone; behind an outline that does every hole goes, of which none is walked; an empty shape has no contour to tell of
 holes :
@@ -49,9 +49,9 @@ unfolding survivors_from others successor predecessor occurrences unmark unmark_
 in_rows = refl
 
 -- the empty set; and an empty outline, in a row for no fate and in one for one
-nothing-told :
+nothing_told :
     (fates_outcome Spike [] [] [] (lent [] [] [] []) ≡ leaving (counted 0 0) (lent [] [] [] []))
     × (fates_outcome Spike [] ((0 ∷ 0 ∷ []) ∷ []) ((0 ∷ 1 ∷ []) ∷ []) (lent [] [] [] []) ≡ leaving (counted 5 0) (lent [] [] [] []))
     × (fates_outcome Spike [] ((0 ∷ 0 ∷ []) ∷ []) ((0 ∷ 1 ∷ []) ∷ []) (lent [] [] [] (7 ∷ [])) ≡ leaving (counted 0 0) (lent [] [] [] (1 ∷ [])))
 unfolding survivors_from others successor predecessor occurrences unmark unmark_about remove decide look looks walk goes_at points cross dot limit most on_grid all_on_grid first_of last differing distinct_neighbours corners_from corners some is_simple spike_free_distinct no_spikes chosen fate shape_fates fates sound_from fates_outcome
-nothing-told = (refl, refl, refl)
+nothing_told = (refl, refl, refl)

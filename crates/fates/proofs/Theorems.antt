@@ -161,9 +161,9 @@ module _ (rule : Rule) (p : List ℤ) (cs ss : List (List ℕ)) (l : Lent) (o : 
           ∙ sym (ap (λ (w : Cleaning.Outcome). w.answer.contours) (shapes_answered rule p cs ss k u cleans y).1)
 
       -- and those that are told as kept stand in front of its output, in their order, each cleaned
-      pub what-is-told-as-kept-is-what-the-cleaning-writes :
+      pub what_is_told_as_kept_is_what_the_cleaning_writes :
           u.rows.points ≡ front (joined (map (cleaned rule) (those_kept (take (length cs) o.rows.fates) (contours p (spans cs))))) k.points
-      what-is-told-as-kept-is-what-the-cleaning-writes =
+      what_is_told_as_kept_is_what_the_cleaning_writes =
           ap (λ (w : Cleaning.Outcome). w.rows.points) (shapes_answered rule p cs ss k u cleans y).1
           ∙ ap (λ (cs : List (List ℤ)). front (joined cs) k.points)
           (sym (the_cleaned_contours_are_those_told_as_kept rule (shapes p (spans cs) (spans ss)))

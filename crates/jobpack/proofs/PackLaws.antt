@@ -26,7 +26,7 @@ module _ (p : List ℤ) (cs ss : List (List ℕ)) (row : List ℕ) where
   held : (s : Bool) → (first_of (write_refusals s p cs ss) ≡ 0 → ⊥) → write_outcome s p cs ss row ≡ W.written (first_of (write_refusals s p cs ss)) (edition_file s p cs ss) row
   unfolding W.outcome W2.outcome Format.file
   held true n = ap (λ (k : ℕ). W.written k (edition_file true p cs ss) row) (below_held (W2.refusals p cs ss) (room (leb (length (W2.file_of p cs ss)) (length row))) n)
-  held false n = ap (λ (k : ℕ). W.written k (edition_file false p cs ss) row) (below_held (W.refusals p cs ss) (room (leb (Format.file-length (length cs) (count p)) (length row))) n)
+  held false n = ap (λ (k : ℕ). W.written k (edition_file false p cs ss) row) (below_held (W.refusals p cs ss) (room (leb (Format.file_length (length cs) (count p)) (length row))) n)
 
   pub writer_told : (s : Bool) → 65536 ≤ length row → write_outcome s p cs ss row ≡ W.written (first_of (write_refusals s p cs ss)) (edition_file s p cs ss) row
   writer_told s h = go (first_of (write_refusals s p cs ss)) refl

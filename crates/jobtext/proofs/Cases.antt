@@ -11,7 +11,7 @@ use Rattle.bits.specs.Signs.{all_fit}
 use Rattle.bits.specs.Signs as Signs
 use Rattle.bits.specs.Widths.{smallest}
 use Rattle.setfile.specs.Entries.{entry}
-use Rattle.setfile.specs.Layouts.{some-set, contours_in}
+use Rattle.setfile.specs.Layouts.{some_set, contours_in}
 use Rattle.setfile.specs.Editions.{parsed}
 use Rattle.report.specs.Text.{places, decimal}
 use Rattle.jobtext.specs.Text.{shape, hole, head, numbers, line, lines, dumped}
@@ -31,16 +31,16 @@ refused_10 = refl
 
 -- edition 1
 none : dumped (16 ∷ 0 ∷ []) ≡ 101 ∷ 100 ∷ 105 ∷ 116 ∷ 105 ∷ 111 ∷ 110 ∷ 32 ∷ 49 ∷ 10 ∷ []
-unfolding dumped parsed bits field value first_of decimal places contours_in some-set lines all_on_grid joined
+unfolding dumped parsed bits field value first_of decimal places contours_in some_set lines all_on_grid joined
 none = refl
 
 -- edition 1, and shape 0 0 4 2
 two_points : dumped (16 ∷ 1 ∷ 128 ∷ 2 ∷ 0 ∷ 0 ∷ 0 ∷ 0 ∷ 0 ∷ 0 ∷ 0 ∷ 0 ∷ 0 ∷ 0 ∷ 0 ∷ 4 ∷ 0 ∷ 0 ∷ 0 ∷ 2 ∷ [])
     ≡ head false ++ shape ++ 32 ∷ 48 ∷ 32 ∷ 48 ∷ 32 ∷ 52 ∷ 32 ∷ 50 ∷ 10 ∷ []
-unfolding dumped parsed bits field value first_of decimal places contours_in Signs.numbers some-set numbers lines narrow on_grid all_on_grid joined
+unfolding dumped parsed bits field value first_of decimal places contours_in Signs.numbers some_set numbers lines narrow on_grid all_on_grid joined
 two_points = refl
 
 -- edition 2, and an empty shape: its width is 1
 empty_second : dumped (32 ∷ 1 ∷ 128 ∷ 0 ∷ 4 ∷ []) ≡ 101 ∷ 100 ∷ 105 ∷ 116 ∷ 105 ∷ 111 ∷ 110 ∷ 32 ∷ 50 ∷ 10 ∷ shape ++ 10 ∷ []
-unfolding dumped parsed bits field value first_of decimal places contours_in Signs.numbers some-set most smallest all_fit numbers lines all_on_grid joined
+unfolding dumped parsed bits field value first_of decimal places contours_in Signs.numbers some_set most smallest all_fit numbers lines all_on_grid joined
 empty_second = refl

@@ -17,10 +17,10 @@ module _ (s : Bool) (m : ℕ) (e : ℤ) where
   unfolding units size
   the_units_have_the_float's_sign = refl
 
-  pub never-more-than-half-a-unit-off :
+  pub never_more_than_half_a_unit_off :
       (2 * (size (fin s m e) * down e) ≤ 2 * (scale * (m * up e)) + down e) × (2 * (scale * (m * up e)) ≤ 2 * (size (fin s m e) * down e) + down e)
   unfolding size
-  never-more-than-half-a-unit-off =
+  never_more_than_half_a_unit_off =
       let h = near_is (scale * (m * up e)) (down e) (down_pos e) in
       (h.0, omega (arith, h.1))
 

@@ -24,20 +24,20 @@ the_despiker_may_decide_less_from_another_start = (refl, refl)
 abbrev four : List ℤ
 four = row (0 ∷ 0 ∷ 0 ∷ 0 ∷ 0 ∷ 1 ∷ 1 ∷ 0 ∷ [])
 
-pub the-collinear-walk-may-decide-more-from-another-start :
+pub the_collinear_walk_may_decide_more_from_another_start :
     (walked Collinear four ≡ ending (kept (1 ∷ 2 ∷ 3 ∷ [])) (tally 4 4)) × (walked Collinear (started_at 2 four) ≡ ending (kept (0 ∷ 1 ∷ 3 ∷ [])) (tally 6 6))
 unfolding survivors_from others successor predecessor occurrences unmark unmark_about remove decide look looks walk goes_at cross dot
-the-collinear-walk-may-decide-more-from-another-start = (refl, refl)
+the_collinear_walk_may_decide_more_from_another_start = (refl, refl)
 
 -- five points, despiked from each start: four are kept, or three
 abbrev from : ℕ → Walked
 from k = walked Spike (started_at k (row (0 ∷ 0 ∷ 0 ∷ 1 ∷ 2 ∷ 0 ∷ 0 ∷ 0 ∷ 1 ∷ 0 ∷ [])))
 
-pub the-despiker-may-keep-fewer-from-another-start :
+pub the_despiker_may_keep_fewer_from_another_start :
     (from 0 ≡ ending (kept (0 ∷ 1 ∷ 2 ∷ 4 ∷ [])) (tally 7 8))
     × (from 1 ≡ ending (kept (0 ∷ 1 ∷ 3 ∷ 4 ∷ [])) (tally 7 7))
     × (from 2 ≡ ending (kept (0 ∷ 2 ∷ 3 ∷ 4 ∷ [])) (tally 6 6))
     × (from 3 ≡ ending (kept (1 ∷ 2 ∷ 3 ∷ 4 ∷ [])) (tally 5 5))
     × (from 4 ≡ ending (kept (1 ∷ 2 ∷ 3 ∷ [])) (tally 5 5))
 unfolding survivors_from others successor predecessor occurrences unmark unmark_about remove decide look looks walk goes_at cross dot
-the-despiker-may-keep-fewer-from-another-start = (refl, refl, refl, refl, refl)
+the_despiker_may_keep_fewer_from_another_start = (refl, refl, refl, refl, refl)

@@ -39,7 +39,7 @@ use Rattle.buffer.specs.Contours as C
 use Rattle.buffer.specs.Shapes as S
 use Rattle.sets.specs.Verdicts.{every, all_pass, verdict_by}
 use Rattle.sets.specs.Verdicts as SetVerdicts
-use Rattle.sets.specs.Area.{filled, reported-sum, area_refusals, doubled_by, half_by}
+use Rattle.sets.specs.Area.{filled, reported_sum, area_refusals, doubled_by, half_by}
 use Rattle.sets.specs.Area as SetArea
 use Rattle.sets.specs.Contains.{has, in_shape, shape_refusals as asked_refusals}
 use Rattle.sets.specs.Outcome as Sets
@@ -129,8 +129,8 @@ module _ (d : Edge) (p : List ℤ) (on : StillOn d p) (cs : List (List ℕ)) whe
   abbrev now : List (List ℤ)
   now = contours (shifted d p) (spans cs)
 
-  sum_stays : reported-sum now ≡ reported-sum set
-  sum_stays = ap reported-sum (contours_shifted d p (spans cs)) ∙ ap wrapped (sum_shifted d set)
+  sum_stays : reported_sum now ≡ reported_sum set
+  sum_stays = ap reported_sum (contours_shifted d p (spans cs)) ∙ ap wrapped (sum_shifted d set)
 
   -- what is told of a set by its refusals and its contours, where the refusals are the same
   module _ (before after : List Rung) (same : after ≡ before) where

@@ -28,18 +28,18 @@ answers r [] = []
 answers r (q ∷ asked) = (located r (pos q.0) (pos q.1)).place ∷ answers r asked
 
 -- a square: all its sides alike, the closing one included; its corners; its middle; on the line of a side, but beyond it
-square-located :
+square_located :
     (answers W9 ((0, 2) ∷ (2, 0) ∷ (4, 2) ∷ (2, 4) ∷ []) ≡ 1 ∷ 1 ∷ 1 ∷ 1 ∷ [])
     × (answers W9 ((0, 0) ∷ (4, 0) ∷ (4, 4) ∷ (0, 4) ∷ []) ≡ 1 ∷ 1 ∷ 1 ∷ 1 ∷ [])
     × (answers W9 ((2, 2) ∷ (1, 3) ∷ (5, 2) ∷ (5, 0) ∷ (5, 4) ∷ (0, 5) ∷ []) ≡ 2 ∷ 2 ∷ 0 ∷ 0 ∷ 0 ∷ 0 ∷ [])
 unfolding xor limit most on_grid all_on_grid first_of points cross last crosses odd contained on_edge touched on_boundary location located
-square-located = (refl, refl, refl)
+square_located = (refl, refl, refl)
 
 -- where the edges of a bow tie cross, and on either side; a level line there and back; one point; one point, said twice
-others-located :
+others_located :
     (answers W10 ((2, 2) ∷ (3, 2) ∷ (2, 1) ∷ []) ≡ 1 ∷ 2 ∷ 0 ∷ [])
     × (answers W2 ((0, 0) ∷ (1, 0) ∷ (2, 0) ∷ (3, 0) ∷ (1, 1) ∷ []) ≡ 1 ∷ 1 ∷ 1 ∷ 0 ∷ 0 ∷ [])
     × (answers (row (3 ∷ 4 ∷ [])) ((3, 4) ∷ (3, 5) ∷ (2, 4) ∷ []) ≡ 1 ∷ 0 ∷ 0 ∷ [])
     × (answers (row (3 ∷ 4 ∷ 3 ∷ 4 ∷ [])) ((3, 4) ∷ (4, 4) ∷ []) ≡ 1 ∷ 0 ∷ [])
 unfolding xor limit most on_grid all_on_grid first_of points cross last crosses odd contained on_edge touched on_boundary location located
-others-located = (refl, refl, refl, refl)
+others_located = (refl, refl, refl, refl)

@@ -11,7 +11,7 @@ use Rattle.buffer.specs.Sets.{joined}
 use Rattle.bits.specs.Bits.{value, field, bits}
 use Rattle.bits.specs.Signs.{numbers}
 use Rattle.setfile.specs.Entries.{gathered}
-use Rattle.setfile.specs.Layouts.{some-set, contours_in}
+use Rattle.setfile.specs.Layouts.{some_set, contours_in}
 use Rattle.setfile.specs.Editions.{parsed}
 use Rattle.report.specs.Text.{places, decimal}
 use Rattle.vertices.specs.Vertices.{told, vertices}
@@ -47,7 +47,7 @@ none : picture (16 ∷ 0 ∷ [])
     ∷ 115 ∷ 115 ∷ 61 ∷ 34 ∷ 115 ∷ 99 ∷ 97 ∷ 108 ∷ 101 ∷ 34 ∷ 32 ∷ 100 ∷ 61 ∷ 34 ∷ 77 ∷ 48 ∷ 32 ∷ 48 ∷ 104 ∷ 49 ∷ 34 ∷ 47 ∷ 62 ∷ 10 ∷ 60 ∷ 116 ∷ 101 ∷ 120 ∷ 116 ∷ 32 ∷ 121 ∷ 61
     ∷ 34 ∷ 49 ∷ 46 ∷ 52 ∷ 101 ∷ 109 ∷ 34 ∷ 62 ∷ 48 ∷ 46 ∷ 48 ∷ 48 ∷ 49 ∷ 32 ∷ 109 ∷ 109 ∷ 60 ∷ 47 ∷ 116 ∷ 101 ∷ 120 ∷ 116 ∷ 62 ∷ 10 ∷ 60 ∷ 47 ∷ 103 ∷ 62 ∷ 10 ∷ 60 ∷ 47 ∷ 115
     ∷ 118 ∷ 103 ∷ 62 ∷ 10 ∷ []
-unfolding picture parsed bits field value first_of decimal places contours_in numbers some-set narrow on_grid all_on_grid joined gathered points extent widened_by bar_from label outline told vertices
+unfolding picture parsed bits field value first_of decimal places contours_in numbers some_set narrow on_grid all_on_grid joined gathered points extent widened_by bar_from label outline told vertices
     survivors_from others successor predecessor occurrences unmark unmark_about remove decide look looks walk goes_at cross
     svg style g path text xmlns view_box transform font_size class d y namespace from_zero translate flipped closed in_micrometres removed kept scale from_here below tenth hundredth thousandth mm N.look
 none = refl
@@ -75,7 +75,7 @@ triangle : picture (16 ∷ 1 ∷ 128 ∷ 3 ∷ 0 ∷ 0 ∷ 0 ∷ 0 ∷ 0 ∷ 0 �
     ∷ 101 ∷ 61 ∷ 34 ∷ 49 ∷ 34 ∷ 62 ∷ 10 ∷ 60 ∷ 112 ∷ 97 ∷ 116 ∷ 104 ∷ 32 ∷ 99 ∷ 108 ∷ 97 ∷ 115 ∷ 115 ∷ 61 ∷ 34 ∷ 115 ∷ 99 ∷ 97 ∷ 108 ∷ 101 ∷ 34 ∷ 32 ∷ 100 ∷ 61 ∷ 34 ∷ 77 ∷ 48
     ∷ 32 ∷ 48 ∷ 104 ∷ 49 ∷ 34 ∷ 47 ∷ 62 ∷ 10 ∷ 60 ∷ 116 ∷ 101 ∷ 120 ∷ 116 ∷ 32 ∷ 121 ∷ 61 ∷ 34 ∷ 49 ∷ 46 ∷ 52 ∷ 101 ∷ 109 ∷ 34 ∷ 62 ∷ 48 ∷ 46 ∷ 48 ∷ 48 ∷ 49 ∷ 32 ∷ 109 ∷ 109
     ∷ 60 ∷ 47 ∷ 116 ∷ 101 ∷ 120 ∷ 116 ∷ 62 ∷ 10 ∷ 60 ∷ 47 ∷ 103 ∷ 62 ∷ 10 ∷ 60 ∷ 47 ∷ 115 ∷ 118 ∷ 103 ∷ 62 ∷ 10 ∷ []
-unfolding picture parsed bits field value first_of decimal places contours_in numbers some-set narrow on_grid all_on_grid joined gathered points extent widened_by bar_from label outline told vertices
+unfolding picture parsed bits field value first_of decimal places contours_in numbers some_set narrow on_grid all_on_grid joined gathered points extent widened_by bar_from label outline told vertices
     survivors_from others successor predecessor occurrences unmark unmark_about remove decide look looks walk goes_at cross
     svg style g path text xmlns view_box transform font_size class d y namespace from_zero translate flipped closed in_micrometres removed kept scale from_here below tenth hundredth thousandth mm N.look
 triangle = refl

@@ -15,7 +15,7 @@ use Rattle.grid.specs.Domain.{count, domain}
 use Rattle.pool.specs.Lists.{Entry, entry, capacity, reserve, holding, held, if_so, own, other, free, Fair}
 use Rattle.pool.specs.Calls.{none, refusals, Call, told, done, unless, after}
 use Rattle.pool.specs.Calls.Call.{add, remove}
-use Rattle.pool.specs.Promises.{Made, ByTwo, run, heard, Seen, seen, told_free, alone, own-set}
+use Rattle.pool.specs.Promises.{Made, ByTwo, run, heard, Seen, seen, told_free, alone, own_set}
 use Rattle.pool.proofs.ListLaws.{own_added, own_removed, removed_others, held_both}
 use Rattle.pool.proofs.FairLaws.{held_all, fair_after, unless_either}
 
@@ -75,11 +75,11 @@ module _ (enough : Bool) (p : ℕ) (m : Made) (l : List Entry) (b : p ≤ 1) (f 
   heard_more x s ih true e = ap₂ (λ (r : ℕ) (k : List ℕ). r ∷ k) (told_by_free enough p m.call l b f) (ih ∙ ap (alone enough p s) (of_its_own e))
   heard_more x s ih false e = ih ∙ ap (alone enough p s) (of_the_other e)
 
-  own_more : (x : List Entry) (s : List Seen) → x ≡ own-set enough p s next → (t : Bool) → eqb p m.press ≡ t
-      → x ≡ own-set enough p (if_so t (record { call = m.call; free = free l }) s) (own p l)
-  unfolding own-set
-  own_more x s ih true e = ih ∙ ap (own-set enough p s) (of_its_own e)
-  own_more x s ih false e = ih ∙ ap (own-set enough p s) (of_the_other e)
+  own_more : (x : List Entry) (s : List Seen) → x ≡ own_set enough p s next → (t : Bool) → eqb p m.press ≡ t
+      → x ≡ own_set enough p (if_so t (record { call = m.call; free = free l }) s) (own p l)
+  unfolding own_set
+  own_more x s ih true e = ih ∙ ap (own_set enough p s) (of_its_own e)
+  own_more x s ih false e = ih ∙ ap (own_set enough p s) (of_the_other e)
 
 -- in a whole history a press is told by its own calls and the free counts that it found
 pub heard_alone : (enough : Bool) (p : ℕ) (h : List Made) (l : List Entry) → p ≤ 1 → ByTwo h → Fair l
@@ -93,8 +93,8 @@ heard_alone enough p (m ∷ h) l b two f =
 
 -- and it has, contour for contour, what the same calls leave in a set of its own
 pub owned_alone : (enough : Bool) (p : ℕ) (h : List Made) (l : List Entry) → p ≤ 1 → ByTwo h → Fair l
-    → own p (run enough h l) ≡ own-set enough p (seen enough p h l) (own p l)
-unfolding run seen own-set
+    → own p (run enough h l) ≡ own_set enough p (seen enough p h l) (own p l)
+unfolding run seen own_set
 owned_alone enough p [] l b two f = refl
 owned_alone enough p (m ∷ h) l b two f =
     own_more enough p m l b f _ _

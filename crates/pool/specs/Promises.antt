@@ -73,8 +73,8 @@ alone enough p (s ∷ h) mine =
     r ∷ alone enough p h (unless r (done p s.call mine) mine)
 
 -- the contours that a press has by its own calls and the free counts alone: those of a set of its own
-unfoldable pub own-set : Bool → ℕ → List Seen → List Entry → List Entry
-own-set enough p [] mine = mine
-own-set enough p (s ∷ h) mine =
+unfoldable pub own_set : Bool → ℕ → List Seen → List Entry → List Entry
+own_set enough p [] mine = mine
+own_set enough p (s ∷ h) mine =
     let r = told_free enough mine s.free s.call in
-    own-set enough p h (unless r (done p s.call mine) mine)
+    own_set enough p h (unless r (done p s.call mine) mine)

@@ -117,7 +117,7 @@ module _ (rule : Rule) (p : List ℤ) (cs : List (List ℕ)) (l : SetCleaning.Le
   pub shape_collapsed : o.answer.reply ≡ 7 → ShapeOnlyZeroed (count p) l o.rows
   shape_collapsed seven =
       let u = sets.a_collapsed_shape_leaves_every_output_row_as_it_was rule p cs l o is seven in
-      let z = sets.a-collapsed-shape-leaves-the-scratch-zeroed rule p cs l o is seven in
+      let z = sets.a_collapsed_shape_leaves_the_scratch_zeroed rule p cs l o is seven in
       record { points_untouched = u.0; contours_untouched = u.1; next_zeroed = z.0; prev_zeroed = z.1; mark_zeroed = z.2 }
 
 -- Shapes that are cleaned.

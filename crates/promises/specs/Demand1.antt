@@ -21,7 +21,7 @@ use Rattle.sets.specs.Contains as SetContains
 use Rattle.sets.specs.Outcome as SetCleaning
 use Rattle.fates.specs.Outcome as Fates
 use Rattle.setfile.specs.Entries.{contours_of, shapes_of, damage, read_contours}
-use Rattle.setfile.specs.Format.{file-length}
+use Rattle.setfile.specs.Format.{file_length}
 use Rattle.setfile.specs.Editions.{parsed}
 use Rattle.setfile.specs.Reading as Reading
 use Rattle.setfile.specs.Writing as Writing
@@ -160,7 +160,7 @@ import_refusals kinds floats out records =
 -- the refusals of a file that is written to a row
 abbrev pub write_refusals : List ℤ → List (List ℕ) → List (List ℕ) → List ℕ → List Rung
 write_refusals points contours shapes bytes =
-    Writing.refusals points contours shapes ++ room (leb (file-length (length contours) (count points)) (length bytes))
+    Writing.refusals points contours shapes ++ room (leb (file_length (length contours) (count points)) (length bytes))
 
 -- and of one of edition 2
 abbrev pub write_2_refusals : List ℤ → List (List ℕ) → List (List ℕ) → List ℕ → List Rung

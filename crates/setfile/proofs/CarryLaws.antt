@@ -19,7 +19,7 @@ use Rattle.buffer.proofs.RowLaws.{spans-length}
 use Rattle.buffer.proofs.PartLaws.{names_of, part_contour, contours_at}
 use Rattle.buffer.proofs.Theorems.{a_sound_set's_contours_laid_end_to_end_are_its_points, and_its_ranges_are_theirs, a_sound_set's_shapes_laid_end_to_end_are_its_contours, the_counts_add_up}
 use Rattle.setfile.specs.Entries.{Entry, contours_of, entries, Gathered, shapes_of}
-use Rattle.setfile.specs.Format.{file-length}
+use Rattle.setfile.specs.Format.{file_length}
 use Rattle.setfile.specs.Reading.{most_bytes}
 use Rattle.setfile.specs.Writing.{most_contours, most_points, some_over, some_empty, refusals}
 use Rattle.setfile.specs.Promises.{Each, Short, Filled, Started, Carriable, Regular}
@@ -115,7 +115,7 @@ module _ (p : List ℤ) (cs ss : List (List ℕ)) where
       let u = or_left (many || some_over most_points (spans cs)) (some_empty (spans ss)) t in
       record {
         even = omega (arith, eqb-false (length p % 2) 1 c.0);
-        fits = ltb-false most_bytes (file-length (length cs) (count p)) c.1.1.0;
+        fits = ltb-false most_bytes (file_length (length cs) (count p)) c.1.1.0;
         contours = and_left (sound (spans cs) (count p)) _ s;
         shapes = and_right (sound (spans cs) (count p)) _ s;
         on = not-false (all_on_grid narrow p) c.1.1.1.1.0;
@@ -131,7 +131,7 @@ module _ (p : List ℤ) (cs ss : List (List ℕ)) where
       (first_is _ 0
       (past (ne_eqb (length p % 2) 1 (λ z. omega (arith, h.even)))
       (past (le-ltb most (count p) (omega (arith, h.fits)))
-      (past (le-ltb most_bytes (file-length (length cs) (count p)) h.fits)
+      (past (le-ltb most_bytes (file_length (length cs) (count p)) h.fits)
       (past (rw (h.contours, h.shapes))
       (past (ap not h.on)
       (past (rw (le-ltb most_contours (length (spans cs)) (omega (arith, h.few, spans-length cs)), over_none most_points (spans cs) h.short, empty_none (spans ss) h.filled))

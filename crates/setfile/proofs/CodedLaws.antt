@@ -18,7 +18,7 @@ use Rattle.buffer.proofs.PartLaws.{contours_at}
 use Rattle.rows.proofs.PlacedLaws.{placed_long}
 use Rattle.setfile.specs.Entries.{Entry, entry, contours_of, shape_entries, entries}
 use Rattle.setfile.specs.Layouts.{Layout, all_coded, file_bits}
-use Rattle.setfile.specs.Format.{contour_bits, edition_1, file-length, file}
+use Rattle.setfile.specs.Format.{contour_bits, edition_1, file_length, file}
 use Rattle.setfile.specs.Edition2 as C2
 use Rattle.setfile.specs.Writing.{most_contours, most_points}
 use Rattle.setfile.specs.inside.Bytes.{coded_coordinates, coded_contour, coded_contours, coded}
@@ -109,7 +109,7 @@ contours-length (e ∷ l) h =
     ap length (coded_next e l) ∙ length-append (coded_contour e) (coded_contours l)
     ∙ omega (arith, h.0, padded-length (2 + 4 * length e.points) (contour_bits e) [] (whole_bytes e), contours-length l h.1)
 
-pub coded-length : (l : List Entry) → Even (contours_of l) → length (coded l) ≡ file-length (length l) (total (map count (contours_of l)))
+pub coded-length : (l : List Entry) → Even (contours_of l) → length (coded l) ≡ file_length (length l) (total (map count (contours_of l)))
 coded-length l h =
     length-append (spelled 2 (4096 + length l)) (coded_contours l) ∙ omega (arith, spelled-length 2 (4096 + length l), contours-length l h)
 

@@ -14,7 +14,7 @@ use Rattle.buffer.specs.Sets.{contour, contours}
 use Rattle.buffer.specs.Refusals.{set}
 use Rattle.buffer.proofs.RowLaws.{spans-length}
 use Rattle.buffer.proofs.SetLaws.{sizes_are}
-use Rattle.setfile.specs.Format.{file-length}
+use Rattle.setfile.specs.Format.{file_length}
 use Rattle.setfile.specs.Reading.{most_bytes, long}
 use Rattle.setfile.specs.Writing.{most_points, some_over, leaving}
 use Rattle.setfile.specs.Writing2.{file_of, set_refusals, refusals}
@@ -67,10 +67,10 @@ module _ (p : List ℤ) (cs ss : List (List ℕ)) (h : Regular limit p cs ss) wh
   number : length (contours p (spans cs)) ≡ length cs
   number = length-map (spans cs) (contour p) ∙ spans-length cs
 
-  pub six_bits_a_contour_at_the_most : length (file_of p cs ss) ≤ file-length (length cs) (count p) + (6 * length cs + 7) / 8
+  pub six_bits_a_contour_at_the_most : length (file_of p cs ss) ≤ file_length (length cs) (count p) + (6 * length cs + 7) / 8
   six_bits_a_contour_at_the_most = omega (arith, set_long p cs ss h, all_within (contours p (spans cs)), number, regular_total limit p cs ss h)
 
-  pub and_just_these_where_no_contour_has_two_points : Each (λ (s : Span). size s ≤ 1) (spans cs) → length (file_of p cs ss) ≡ file-length (length cs) (count p) + (6 * length cs + 7) / 8
+  pub and_just_these_where_no_contour_has_two_points : Each (λ (s : Span). size s ≤ 1) (spans cs) → length (file_of p cs ss) ≡ file_length (length cs) (count p) + (6 * length cs + 7) / 8
   and_just_these_where_no_contour_has_two_points lone =
       let e = each_like count size (λ (n : ℕ). n ≤ 1) (spans cs) (contours p (spans cs)) (sym (sizes_are p 0 (spans cs) h.even h.contours)) lone in
       omega (arith, set_long p cs ss h, all_points (contours p (spans cs)) e, number, regular_total limit p cs ss h)

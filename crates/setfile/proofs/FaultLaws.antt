@@ -8,7 +8,7 @@ use Rattle.grid.specs.Limits.{most}
 use Rattle.bits.specs.Bits.{value}
 use Rattle.bits.specs.Widths.{width_of}
 use Rattle.steps.specs.Bodies.{steps_in}
-use Rattle.setfile.specs.Layouts.{some-set, end_damage, edition_of}
+use Rattle.setfile.specs.Layouts.{some_set, end_damage, edition_of}
 use Rattle.setfile.specs.Format.{begins, points_in}
 use Rattle.setfile.specs.Edition2.{width_in}
 use Rattle.setfile.specs.Editions.{layout, is_second}
@@ -48,14 +48,14 @@ module _ (first : Bool) (n : ℕ) (l : List Bool) where
         first_is _ _ (past (le-ltb _ _ h) (past begun (past m (past (le-ltb _ _ e) (found ((not w, 15) ∷ []) r q)))))
 
 -- behind the last contour
-set_means : (l : List Bool) → some-set l ≡ false → value l ≡ 0
-unfolding some-set value
+set_means : (l : List Bool) → some_set l ≡ false → value l ≡ 0
+unfolding some_set value
 set_means [] e = refl
 set_means (true ∷ l) e = let o : ◌≡◌ {A = ℕ} 0 1 = cc in absurd (omega arith)
 set_means (false ∷ l) e = omega (arith, set_means l e)
 
-means_set : (l : List Bool) → value l ≡ 0 → some-set l ≡ false
-unfolding some-set value
+means_set : (l : List Bool) → value l ≡ 0 → some_set l ≡ false
+unfolding some_set value
 means_set [] e = refl
 means_set (true ∷ l) e = absurd (omega (arith, pow_pos (length l)))
 means_set (false ∷ l) e = means_set l (omega arith)
@@ -77,9 +77,9 @@ module _ (l : List Bool) where
 
   module _ (h : length l < 8) where
     pub fill-set : (value l ≡ 0 → ⊥) → 16 ≡ end_damage l
-    fill-set z = go (some-set l) refl
+    fill-set z = go (some_set l) refl
       where
-        go : (b : Bool) → some-set l ≡ b → 16 ≡ end_damage l
+        go : (b : Bool) → some_set l ≡ b → 16 ≡ end_damage l
         go true e = first_is _ _ (past (lt-leb 8 (length l) h) (here e))
         go false e = absurd (z (set_means l e))
 

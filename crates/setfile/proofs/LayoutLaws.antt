@@ -11,21 +11,21 @@ use Rattle.bits.specs.Bits.{value, field, Bytes, bits, fill}
 use Rattle.bits.proofs.BitLaws.{field-length, front_value, front_gone, field_back, taken_below, bits-length, bits_padded, padded_filled}
 use Rattle.setfile.specs.Entries.{Entry, Parsed, and_then, read_contours}
 use Rattle.setfile.specs.Entries.Parsed.{carries, damaged}
-use Rattle.setfile.specs.Layouts.{Layout, all_coded, file_bits, file_in, some-set, end_damage, contours_in, edition_of, promised, read_in}
+use Rattle.setfile.specs.Layouts.{Layout, all_coded, file_bits, file_in, some_set, end_damage, contours_in, edition_of, promised, read_in}
 
 -- the fill
 unset_bit : (w : ℕ) → eqb (0 / 2 ^ w % 2) 1 ≡ false
 unset_bit w = ne_eqb (0 / 2 ^ w % 2) 1 (λ e. omega (arith, shr_le 0 w, e))
 
-fill_unset : (z : ℕ) → some-set (field z 0) ≡ false
-unfolding some-set field
+fill_unset : (z : ℕ) → some_set (field z 0) ≡ false
+unfolding some_set field
 fill_unset zero = refl
 fill_unset (suc z) = rw (unset_bit z) (fill_unset z)
 
-unset_fill : (l : List Bool) → some-set l ≡ false → l ≡ field (length l) 0
-unfolding some-set field
+unset_fill : (l : List Bool) → some_set l ≡ false → l ≡ field (length l) 0
+unfolding some_set field
 unset_fill [] e = refl
-unset_fill (b ∷ l) e = ap₂ (λ (a : Bool) (m : List Bool). a ∷ m) (or_left b (some-set l) e ∙ sym (unset_bit (length l))) (unset_fill l (or_right b (some-set l) e))
+unset_fill (b ∷ l) e = ap₂ (λ (a : Bool) (m : List Bool). a ∷ m) (or_left b (some_set l) e ∙ sym (unset_bit (length l))) (unset_fill l (or_right b (some_set l) e))
 
 filled : (z : ℕ) → z < 8 → end_damage (field z 0) ≡ 0
 filled z h = sym (first_is _ 0 (past (lt-leb 8 (length (field z 0)) (omega (arith, field-length z 0))) (past (fill_unset z) foot)))
@@ -36,7 +36,7 @@ pub record Ends (l : List Bool) : Type 0 where
   pub unset : l ≡ field (length l) 0
 
 pub nothing_behind : (l : List Bool) → end_damage l ≡ 0 → Ends l
-nothing_behind l e = let c = clear ((leb 8 (length l), 10) ∷ (some-set l, 16) ∷ []) tt e in record { few = leb-false 8 (length l) c.0; unset = unset_fill l c.1.0 }
+nothing_behind l e = let c = clear ((leb 8 (length l), 10) ∷ (some_set l, 16) ∷ []) tt e in record { few = leb-false 8 (length l) c.0; unset = unset_fill l c.1.0 }
 
 -- contours are read one by one
 module _ (y : Layout) (first : Bool) (n : ℕ) (l : List Bool) where

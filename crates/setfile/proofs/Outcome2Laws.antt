@@ -28,8 +28,8 @@ module _ (p : List ℤ) (cs ss : List (List ℕ)) where
 
   -- what is asked of every set, and then 12
   module _ (r : ℕ) (e : r ≡ first_of (set limit p both_sound)) where
-    pub refused-set : (r ≡ 0 → ⊥) → r ≡ first_of (set_refusals p cs ss)
-    refused-set z = first_is _ r (stopped (set limit p both_sound) (uncarried (spans cs) (spans ss)) r e z)
+    pub refused_set : (r ≡ 0 → ⊥) → r ≡ first_of (set_refusals p cs ss)
+    refused_set z = first_is _ r (stopped (set limit p both_sound) (uncarried (spans cs) (spans ss)) r e z)
 
     module _ (z : r ≡ 0) (over empty : Bool) (f : over ≡ some_over most_points (spans cs)) (g : empty ≡ some_empty (spans ss)) where
       last : (k : ℕ) → First (uncarried (spans cs) (spans ss)) k → k ≡ first_of (set_refusals p cs ss)

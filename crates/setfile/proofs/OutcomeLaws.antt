@@ -11,7 +11,7 @@ use Rattle.replies.proofs.LadderLaws.First.{here, past, foot}
 use Rattle.buffer.specs.Spans.{spans, total}
 use Rattle.buffer.specs.Sets.{shapes}
 use Rattle.setfile.specs.Entries.{Entry, entries}
-use Rattle.setfile.specs.Format.{file-length, file}
+use Rattle.setfile.specs.Format.{file_length, file}
 use Rattle.setfile.specs.inside.Writing.{file_with, Ripe}
 use Rattle.setfile.specs.Writing.{refusals, Outcome, leaving, written, outcome}
 use Rattle.setfile.specs.Promises.{Regular, file_of}
@@ -40,27 +40,27 @@ module _ (l : List Rung) (n : ℕ) (f row : List ℕ) where
         ∙ by_number 0 (onward l (room (leb n (length row))) 0 told free (past (ap not (le-leb n (length row) h)) foot))
 
 -- the file of a set in edition 1
-pub file_long : (bound : ℕ) (p : List ℤ) (cs ss : List (List ℕ)) → Regular bound p cs ss → length (file_of p cs ss) ≡ file-length (length cs) (count p)
+pub file_long : (bound : ℕ) (p : List ℤ) (cs ss : List (List ℕ)) → Regular bound p cs ss → length (file_of p cs ss) ≡ file_length (length cs) (count p)
 file_long bound p cs ss h =
     let l : List Entry = entries (shapes p (spans cs) (spans ss)) in
     let n : length l ≡ length cs = regular_count bound p cs ss h in
     ap length (file_is_coded l (omega (arith, h.few)))
     ∙ coded-length l (rw (regular_contours bound p cs ss h) (regular_even bound p cs ss h))
-    ∙ ap₂ file-length n (ap (λ (m : List (List ℤ)). total (map count m)) (regular_contours bound p cs ss h) ∙ regular_total bound p cs ss h)
+    ∙ ap₂ file_length n (ap (λ (m : List (List ℤ)). total (map count m)) (regular_contours bound p cs ss h) ∙ regular_total bound p cs ss h)
 
 module _ (p : List ℤ) (cs ss : List (List ℕ)) (row : List ℕ) where
   pub write_refused : (r : ℕ) → r ≡ first_of (refusals p cs ss) → (r ≡ 0 → ⊥) → leaving r 0 row ≡ outcome p cs ss row
   unfolding outcome
-  write_refused r e z = result_refused (refusals p cs ss) (file-length (length cs) (count p)) (file_of p cs ss) row r e z
+  write_refused r e z = result_refused (refusals p cs ss) (file_length (length cs) (count p)) (file_of p cs ss) row r e z
 
   -- a set of which nothing is refused, and the m bytes of its file
-  module _ (free : first_of (refusals p cs ss) ≡ 0) (m : ℕ) (long : m ≡ file-length (length cs) (count p)) where
+  module _ (free : first_of (refusals p cs ss) ≡ 0) (m : ℕ) (long : m ≡ file_length (length cs) (count p)) where
     pub write_full : length row < m → leaving 5 0 row ≡ outcome p cs ss row
     unfolding outcome
-    write_full h = result_full (refusals p cs ss) (file-length (length cs) (count p)) (file_of p cs ss) row tt free (omega (arith, long))
+    write_full h = result_full (refusals p cs ss) (file_length (length cs) (count p)) (file_of p cs ss) row tt free (omega (arith, long))
 
     module _ (h : m ≤ length row) where
-      fits : file-length (length cs) (count p) ≤ length row
+      fits : file_length (length cs) (count p) ≤ length row
       fits = omega (arith, long)
 
       pub ripe : Ripe false p cs ss row
@@ -78,4 +78,4 @@ module _ (p : List ℤ) (cs ss : List (List ℕ)) (row : List ℕ) where
 
       pub write_done : (n : ℕ) (exit : List ℕ) → exit ≡ front (file_with false p cs ss) row → n ≡ length (file_with false p cs ss) → leaving 0 n exit ≡ outcome p cs ss row
       unfolding outcome file
-      write_done n exit g e = result_done (refusals p cs ss) (file-length (length cs) (count p)) (file_of p cs ss) row tt free fits n exit e g
+      write_done n exit g e = result_done (refusals p cs ss) (file_length (length cs) (count p)) (file_of p cs ss) row tt free fits n exit e g

@@ -11,7 +11,7 @@ use Rattle.bits.proofs.BitLaws.{bits-length, bits_dropped}
 use Rattle.bits.proofs.SignLaws.{numbers-length}
 use Rattle.setfile.specs.Entries.{Entry, and_then}
 use Rattle.setfile.specs.Entries.Parsed.{carries, damaged}
-use Rattle.setfile.specs.Layouts.{some-set, contours_in, edition_of, promised, read_in}
+use Rattle.setfile.specs.Layouts.{some_set, contours_in, edition_of, promised, read_in}
 use Rattle.setfile.specs.Format.{contour_size, contour_in, contour_damage, edition_1, head_damage, parsed}
 use Rattle.setfile.specs.inside.Bytes.{decoded, held, fault, walk, front_entry}
 use Rattle.setfile.proofs.LayoutLaws.{contours_on, contours_stop, contours_end, contours_past, Numbered, contours_numbered}
@@ -97,7 +97,7 @@ unfolding contours_in
 walk_ends k first f e = rw e
 
 pub walk_all : (f : List ℕ) → length f ≡ 0 → walk 0 false f ≡ carries []
-unfolding bits some-set first_of
+unfolding bits some_set first_of
 walk_all [] e = contours_end edition_1 false 0 [] refl
 walk_all (b ∷ f) e = absurd (omega arith)
 

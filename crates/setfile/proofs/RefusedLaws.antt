@@ -10,7 +10,7 @@ use Rattle.buffer.specs.Spans.{spans, sound}
 use Rattle.buffer.specs.Refusals.{unsound, set}
 use Rattle.buffer.proofs.RefusalLaws.{accepted}
 use Rattle.buffer.proofs.RowLaws.{spans-length}
-use Rattle.setfile.specs.Format.{file-length}
+use Rattle.setfile.specs.Format.{file_length}
 use Rattle.setfile.specs.Reading.{most_bytes}
 use Rattle.setfile.specs.Writing.{most_contours, most_points, some_over, some_empty, uncarried, refusals}
 use Rattle.setfile.proofs.CarryLaws.{over_in}
@@ -27,14 +27,14 @@ module _ (p : List ℤ) (cs ss : List (List ℕ)) where
     not_odd : eqb (length p % 2) 1 ≡ false
     not_odd = ne_eqb (length p % 2) 1 n
 
-    pub refused_long : (m : ℕ) → m ≡ file-length (length cs) (count p) → most_bytes < m → 2 ≡ first_of (refusals p cs ss)
+    pub refused_long : (m : ℕ) → m ≡ file_length (length cs) (count p) → most_bytes < m → 2 ≡ first_of (refusals p cs ss)
     refused_long m g h = go (ltb most (count p)) refl
       where
         go : (b : Bool) → ltb most (count p) ≡ b → 2 ≡ first_of (refusals p cs ss)
         go true e = first_is _ _ (past not_odd (here e))
-        go false e = first_is _ _ (past not_odd (past e (here (lt-ltb most_bytes (file-length (length cs) (count p)) (omega (arith, g))))))
+        go false e = first_is _ _ (past not_odd (past e (here (lt-ltb most_bytes (file_length (length cs) (count p)) (omega (arith, g))))))
 
-    module _ (m : ℕ) (g : m ≡ file-length (length cs) (count p)) (s : m ≤ most_bytes) where
+    module _ (m : ℕ) (g : m ≡ file_length (length cs) (count p)) (s : m ≤ most_bytes) where
       few : ltb most (count p) ≡ false
       unfolding most
       few = le-ltb most (count p) (omega (arith, g))
@@ -48,14 +48,14 @@ module _ (p : List ℤ) (cs ss : List (List ℕ)) where
       rest = unsound (sound (spans cs) (count p) && sound (spans ss) (length cs)) ++ off narrow p
 
       beyond : (r : ℕ) → First (rest ++ uncarried (spans cs) (spans ss)) r → r ≡ first_of (refusals p cs ss)
-      beyond r f = first_is (refusals p cs ss) r (past not_odd (past few (past (le-ltb most_bytes (file-length (length cs) (count p)) (omega (arith, g))) f)))
+      beyond r f = first_is (refusals p cs ss) r (past not_odd (past few (past (le-ltb most_bytes (file_length (length cs) (count p)) (omega (arith, g))) f)))
 
       module _ (r : ℕ) (e : r ≡ first_of set_rungs) where
         as_rest : r ≡ first_of rest
         as_rest = e ∙ sym (first_is set_rungs (first_of rest) (past not_odd (past few (found rest (first_of rest) refl))))
 
-        pub refused-set : (r ≡ 0 → ⊥) → r ≡ first_of (refusals p cs ss)
-        refused-set z = beyond r (stopped rest (uncarried (spans cs) (spans ss)) r as_rest z)
+        pub refused_set : (r ≡ 0 → ⊥) → r ≡ first_of (refusals p cs ss)
+        refused_set z = beyond r (stopped rest (uncarried (spans cs) (spans ss)) r as_rest z)
 
         module _ (z : r ≡ 0) where
           none_over : some_over most_points (spans cs) ≡ false

@@ -20,7 +20,7 @@ use Rattle.buffer.proofs.SetLaws.{laid-length}
 use Rattle.buffer.proofs.Theorems.{packing_then_unpacking_gives_back_every_shape, points_total, the_counts_add_up, what_is_packed_is_sound, packed_shapes_are_sound}
 use Rattle.setfile.specs.Entries.{Entry, contours_of, entries, shapes_of, Parsed, damage, read_contours}
 use Rattle.setfile.specs.Entries.Parsed.{carries, damaged}
-use Rattle.setfile.specs.Format.{file-length}
+use Rattle.setfile.specs.Format.{file_length}
 use Rattle.setfile.specs.Format as Format
 use Rattle.setfile.specs.Editions.{bound, is_second, parsed}
 use Rattle.setfile.specs.Reading as R
@@ -45,10 +45,10 @@ pub a_long_contour_makes_the_file_too_long : (p : List ℤ) (cs ss : List (List 
 a_long_contour_makes_the_file_too_long p cs ss even ok over =
     let n : 0 + W.most_points < count p = over_in W.most_points 0 (count p) (spans cs) over ok in
     let odd : eqb (length p % 2) 1 ≡ false = ne_eqb (length p % 2) 1 (λ z. omega arith) in
-    let long : ltb R.most_bytes (file-length (length cs) (count p)) ≡ true = lt-ltb R.most_bytes (file-length (length cs) (count p)) (omega arith) in
+    let long : ltb R.most_bytes (file_length (length cs) (count p)) ≡ true = lt-ltb R.most_bytes (file_length (length cs) (count p)) (omega arith) in
     go (ltb most (count p)) refl odd long
   where
-    go : (b : Bool) → ltb most (count p) ≡ b → eqb (length p % 2) 1 ≡ false → ltb R.most_bytes (file-length (length cs) (count p)) ≡ true → first_of (W.refusals p cs ss) ≡ 2
+    go : (b : Bool) → ltb most (count p) ≡ b → eqb (length p % 2) 1 ≡ false → ltb R.most_bytes (file_length (length cs) (count p)) ≡ true → first_of (W.refusals p cs ss) ≡ 2
     go true g odd long = sym (first_is (W.refusals p cs ss) 2 (past odd (here g)))
     go false g odd long = sym (first_is (W.refusals p cs ss) 2 (past odd (past g (here long))))
 
@@ -81,7 +81,7 @@ module _ (p : List ℤ) (cs ss : List (List ℕ)) where
       (λ ok. record { regular = (e.0 ok).0; not_long = (e.0 ok).1 }, λ f. e.1 (f.regular, f.not_long))
   an_edition_can_carry false = (λ ok. first_fit (carriable p cs ss ok), λ f. not_refused p cs ss (fit_first f))
 
-  pub the_file_of_a_set_is_as_long_as_its_counts_say : first_of (W.refusals p cs ss) ≡ 0 → length (edition_file false p cs ss) ≡ file-length (length cs) (count p)
+  pub the_file_of_a_set_is_as_long_as_its_counts_say : first_of (W.refusals p cs ss) ≡ 0 → length (edition_file false p cs ss) ≡ file_length (length cs) (count p)
   unfolding Format.file
   the_file_of_a_set_is_as_long_as_its_counts_say ok = file_long narrow p cs ss (regular p cs ss (carriable p cs ss ok))
 
@@ -159,7 +159,7 @@ done_by l b f row o e done = go (first_of (l ++ room b)) refl e
 done_in : (s : Bool) (p : List ℤ) (cs ss : List (List ℕ)) (row : List ℕ) (o : W.Outcome) → o ≡ write_outcome s p cs ss row → o.answer.reply ≡ 0 → Done (write_refusals s p cs ss) (edition_file s p cs ss) o
 unfolding W.outcome W2.outcome Format.file
 done_in true p cs ss row o e done = done_by (W2.refusals p cs ss) (leb (length (edition_file true p cs ss)) (length row)) (edition_file true p cs ss) row o e done
-done_in false p cs ss row o e done = done_by (W.refusals p cs ss) (leb (file-length (length cs) (count p)) (length row)) (edition_file false p cs ss) row o e done
+done_in false p cs ss row o e done = done_by (W.refusals p cs ss) (leb (file_length (length cs) (count p)) (length row)) (edition_file false p cs ss) row o e done
 
 module _ (s : Bool) (p : List ℤ) (cs ss : List (List ℕ)) (row : List ℕ) (o : W.Outcome) (e : o ≡ write_outcome s p cs ss row) (done : o.answer.reply ≡ 0) where
   pub what_is_written_fits : Fit s p cs ss

@@ -38,8 +38,8 @@ abbrev pub edition_1 : Layout
 edition_1 = record { coded = contour_bits; wrong = λ (first : Bool) (n : ℕ) (l : List Bool). contour_damage first l; size = contour_size; read = contour_in }
 
 -- how many bytes a file has, by its counts of contours and points
-abbrev pub file-length : ℕ → ℕ → ℕ
-file-length contours points = 2 + 2 * contours + 8 * points
+abbrev pub file_length : ℕ → ℕ → ℕ
+file_length contours points = 2 + 2 * contours + 8 * points
 
 -- the file that carries these contours
 unfoldable pub file : List Entry → List ℕ

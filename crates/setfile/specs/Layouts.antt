@@ -27,13 +27,13 @@ abbrev pub file_in : ℕ → Layout → List Entry → List ℕ
 file_in edition y l = padded (file_bits edition y l)
 
 -- one of the bits is set
-unfoldable pub some-set : List Bool → Bool
-some-set [] = false
-some-set (b ∷ l) = b || some-set l
+unfoldable pub some_set : List Bool → Bool
+some_set [] = false
+some_set (b ∷ l) = b || some_set l
 
 -- what is wrong with the bits behind the last contour: 10 a whole byte, 16 a fill bit that is set
 abbrev pub end_damage : List Bool → ℕ
-end_damage l = first_of ((nat_le 8 (length l), 10) ∷ (some-set l, 16) ∷ [])
+end_damage l = first_of ((nat_le 8 (length l), 10) ∷ (some_set l, 16) ∷ [])
 
 -- k contours behind n points, and behind them only the fill
 unfoldable pub contours_in : Layout → ℕ → Bool → ℕ → List Bool → Parsed

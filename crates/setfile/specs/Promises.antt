@@ -9,7 +9,7 @@ use Rattle.buffer.specs.Spans.{spans, rows, sound, size}
 use Rattle.buffer.specs.Sets.{joined, shapes, contour_spans, shape_spans, Even}
 use Rattle.setfile.specs.Entries.{Entry, contours_of, entries, shapes_of, read_contours}
 use Rattle.setfile.specs.Layouts.{file_in}
-use Rattle.setfile.specs.Format.{file-length, file}
+use Rattle.setfile.specs.Format.{file_length, file}
 use Rattle.setfile.specs.Editions.{number, layout, bound, parsed}
 use Rattle.setfile.specs.Reading.{most_bytes}
 use Rattle.setfile.specs.Writing.{most_contours, most_points, Outcome}
@@ -49,7 +49,7 @@ pub record Carried (l : List Entry) : Type 0 where
 -- a flat set that a file can carry
 pub record Carriable (p : List ℤ) (cs ss : List (List ℕ)) : Type 0 where
   pub even : length p ≡ 2 * count p
-  pub fits : file-length (length cs) (count p) ≤ most_bytes
+  pub fits : file_length (length cs) (count p) ≤ most_bytes
   pub contours : sound (spans cs) (count p) ≡ true
   pub shapes : sound (spans ss) (length cs) ≡ true
   pub on : all_on_grid narrow p ≡ true

@@ -10,7 +10,7 @@ use Rattle.buffer.specs.Sets.{shapes}
 use Rattle.buffer.specs.Refusals.{unsound}
 use Rattle.setfile.specs.declared.answer.Written.{Written}
 use Rattle.setfile.specs.Entries.{entries}
-use Rattle.setfile.specs.Format.{file, file-length}
+use Rattle.setfile.specs.Format.{file, file_length}
 use Rattle.setfile.specs.Reading.{long}
 
 -- the most contours of a file
@@ -38,7 +38,7 @@ uncarried cs ss = (nat_lt most_contours (length cs) || some_over most_points cs 
 -- what is refused of a set, in order: 1, 2 for its points and for its file's length, 6, 3, 12
 abbrev pub refusals : List ℤ → List (List ℕ) → List (List ℕ) → List Rung
 refusals p cs ss =
-    size p ++ long (file-length (length cs) (count p))
+    size p ++ long (file_length (length cs) (count p))
     ++ unsound (sound (spans cs) (count p) && sound (spans ss) (length cs))
     ++ off narrow p ++ uncarried (spans cs) (spans ss)
 
@@ -59,5 +59,5 @@ written zero f row = leaving 0 (length f) (front f row)
 unfoldable pub outcome : List ℤ → List (List ℕ) → List (List ℕ) → List ℕ → Outcome
 outcome p cs ss row =
     written
-    (first_of (refusals p cs ss ++ room (nat_le (file-length (length cs) (count p)) (length row))))
+    (first_of (refusals p cs ss ++ room (nat_le (file_length (length cs) (count p)) (length row))))
     (file (entries (shapes p (spans cs) (spans ss)))) row

@@ -2,7 +2,7 @@
 ghost use Rattle.std.specs.Prelude.{◌≡◌, length};
 ghost use Rattle.replies.specs.Ladder.{first_of};
 ghost use Rattle.grid.specs.Domain.{count};
-ghost use Rattle.setfile.specs.Format.{file-length};
+ghost use Rattle.setfile.specs.Format.{file_length};
 ghost use Rattle.setfile.specs.Writing.{refusals, leaving, outcome};
 
 use crate::answer::Written;
@@ -11,7 +11,7 @@ use crate::{MOST_BYTES, MOST_CONTOURS};
 
 // How many bytes the file of a set has.
 fn file_length(points: &[i32], contours: &[[usize; 2]]) -> usize
-    ensures { result ≡ file-length (length contours.now) (count points.now) }
+    ensures { result ≡ file_length (length contours.now) (count points.now) }
 {
     2 + 2 * contours.len() + 8 * (points.len() / 2)
 }

@@ -13,7 +13,7 @@ use Rattle.area.proofs.AnswerLaws.{answer_refused, answer_half}
 use Rattle.buffer.specs.Spans.{span, spans}
 use Rattle.buffer.specs.Sets.{contour, contours}
 use Rattle.sets.specs.Verdicts.{every}
-use Rattle.sets.specs.Area.{filled, empty, sum, reported-sum, area_refusals, doubled_by, half_by, half_of}
+use Rattle.sets.specs.Area.{filled, empty, sum, reported_sum, area_refusals, doubled_by, half_by, half_of}
 use Rattle.sets.proofs.PartLaws.{next_part, no_part, Rest, one_passes}
 
 -- a number's residue goes onto a sum
@@ -28,7 +28,7 @@ module _ (set : List (List ℤ)) where
   unfolding doubled_by first_of
   set_empty e = rw e
 
-  pub set_filled : (v : ℤ) → every filled set ≡ true → v ≡ reported-sum set → record { reply = 0; value = v } ≡ doubled_by [] set
+  pub set_filled : (v : ℤ) → every filled set ≡ true → v ≡ reported_sum set → record { reply = 0; value = v } ≡ doubled_by [] set
   unfolding doubled_by first_of
   set_filled v e f = rw (f, e)
 
@@ -44,11 +44,11 @@ module _ (set : List (List ℤ)) where
 
     pub set_doubled : (refusals : List Rung) → T (numbered refusals) → k ≡ first_of refusals → doubled_by (so_far k) set ≡ doubled_by refusals set
     unfolding doubled_by
-    set_doubled refusals t e = ap (λ (r : ℕ). A.answer r (reported-sum set)) (so_far_then refusals (empty set) t k _ e refl)
+    set_doubled refusals t e = ap (λ (r : ℕ). A.answer r (reported_sum set)) (so_far_then refusals (empty set) t k _ e refl)
 
   pub set_half : (refusals : List Rung) → half_of (doubled_by refusals set) ≡ half_by refusals set
   unfolding doubled_by half_by
-  set_half refusals = answer_half (first_of (area_refusals refusals set)) (reported-sum set)
+  set_half refusals = answer_half (first_of (area_refusals refusals set)) (reported_sum set)
 
 -- a loop's sum, before it adds contour number i
 module _ (p : List ℤ) (cs : List (List ℕ)) where
@@ -74,7 +74,7 @@ module _ (p : List ℤ) (cs : List (List ℕ)) where
       is = g.is ∙ ap (λ (l : List (List ℤ)). mod64 (pos s +ℤ sum l)) (next_part p cs i h) ∙ added s b r (reported (points (contour p (span (get_or cs i []))))) (sum (drop (i + 1) set)) e f;
     }
 
-    pub gathered_all : length cs ≤ i → to_z w64 s ≡ reported-sum set
+    pub gathered_all : length cs ≤ i → to_z w64 s ≡ reported_sum set
     unfolding sum wrapped mod64
     gathered_all h =
         let k : mod64 (sum set) ≡ s = g.is ∙ ap (λ (l : List (List ℤ)). mod64 (pos s +ℤ sum l)) (no_part p cs i h) ∙ ap mod64 (+ℤ_idr (pos s)) ∙ omega (arith, g.small) in

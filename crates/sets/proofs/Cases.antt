@@ -122,9 +122,9 @@ unfolding xor limit most on_grid all_on_grid points cross last first_of sound_fr
 on_the_outline = (refl, refl)
 
 -- off the grid; an empty shape has nothing, nor has one whose first contour is empty
-nothing-had :
+nothing_had :
     (asks square 1073741824 4 ≡ refused 3)
     × (in_shape [] [] (pos 0) (pos 0) ≡ answered false)
     × (in_shape W3 (0 to 0 ∷ 0 to 3 ∷ []) (pos 0) (pos 0) ≡ answered false)
 unfolding xor limit most on_grid all_on_grid points cross last first_of sound_from crosses odd contained on_edge touched on_boundary location every has in_shape
-nothing-had = (refl, refl, refl)
+nothing_had = (refl, refl, refl)

@@ -68,9 +68,9 @@ module _ (rule : Rule) (p : List ℤ) (cs : List (List ℕ)) (l : Lent) (o : Out
     a_collapsed_shape_leaves_every_output_row_as_it_was = rw collapsed_rows (refl, refl, refl)
 
     -- and the scratch zeroed, as far as the set has points
-    pub a-collapsed-shape-leaves-the-scratch-zeroed :
+    pub a_collapsed_shape_leaves_the_scratch_zeroed :
         Zeroed (count p) l.next o.rows.next × Zeroed (count p) l.prev o.rows.prev × Zeroed (count p) l.mark o.rows.mark
-    a-collapsed-shape-leaves-the-scratch-zeroed = rw collapsed_rows (zeroed_is (count p) l.next, zeroed_is (count p) l.prev, zeroed_is (count p) l.mark)
+    a_collapsed_shape_leaves_the_scratch_zeroed = rw collapsed_rows (zeroed_is (count p) l.next, zeroed_is (count p) l.prev, zeroed_is (count p) l.mark)
 
 -- Shapes, whatever the call; o is what the contract allows.
 module _ (rule : Rule) (p : List ℤ) (cs ss : List (List ℕ)) (l : Lent) (o : Outcome) (is : o ≡ shapes_outcome rule p cs ss l) where

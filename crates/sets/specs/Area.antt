@@ -26,8 +26,8 @@ sum [] = pos 0
 sum (c ∷ set) = reported (points c) +ℤ sum set
 
 -- the reported doubled area of a set
-abbrev pub reported-sum : List (List ℤ) → ℤ
-reported-sum set = wrapped (sum set)
+abbrev pub reported_sum : List (List ℤ) → ℤ
+reported_sum set = wrapped (sum set)
 
 -- the refusals of an area: a set's, and 8
 abbrev pub area_refusals : List Rung → List (List ℤ) → List Rung
@@ -35,11 +35,11 @@ area_refusals refusals set = refusals ++ empty set
 
 -- the doubled area, as it is answered of a set with these refusals and these contours
 unfoldable pub doubled_by : List Rung → List (List ℤ) → Area
-doubled_by refusals set = answer (first_of (area_refusals refusals set)) (reported-sum set)
+doubled_by refusals set = answer (first_of (area_refusals refusals set)) (reported_sum set)
 
 -- the halved area, as it is answered
 unfoldable pub half_by : List Rung → List (List ℤ) → Area
-half_by refusals set = answer (first_of (area_refusals refusals set)) (halved (reported-sum set))
+half_by refusals set = answer (first_of (area_refusals refusals set)) (halved (reported_sum set))
 
 -- an area that was answered, halved
 abbrev pub half_of : Area → Area

@@ -2,7 +2,7 @@
 use Rattle.std.proofs.Common.{rules}
 use Rattle.grid.specs.Limits.{limit, narrow}
 use Rattle.setfile.proofs.MeasureLaws.{some_unfilled}
-use Rattle.setfile.proofs.RefusedLaws.{refused_odd, refused_long, refused-set, refused_carry, refused_none}
+use Rattle.setfile.proofs.RefusedLaws.{refused_odd, refused_long, refused_set, refused_carry, refused_none}
 use Rattle.setfile.proofs.writing.refused.Goals as goal
 
 pub returns-then-points-eq1 : goal.returns-then-points-eq1
@@ -24,7 +24,7 @@ pub returns-then-set-ne0 : goal.returns-then-set-ne0
 unfolding narrow
 returns-then-set-ne0 c =
     let s = c.args in
-    refused-set s.points.now s.contours.now s.shapes.now
+    refused_set s.points.now s.contours.now s.shapes.now
     c.if-points-eq1.false _ c.file_length.ensures c.if-file_length-gt-MOST_BYTES.false _ c.shapes-set.ensures c.if-set-ne0.true
 
 pub returns-then-contours-filled : goal.returns-then-contours-filled

@@ -2,7 +2,7 @@
 use Rattle.std.proofs.Common.{rules}
 use Rattle.grid.specs.Limits.{limit}
 use Rattle.setfile.proofs.MeasureLaws.{some_long, some_unfilled}
-use Rattle.setfile.proofs.Outcome2Laws.{refused-set, refused_carry, refused_none}
+use Rattle.setfile.proofs.Outcome2Laws.{refused_set, refused_carry, refused_none}
 use Rattle.setfile.proofs.writing_2.refused.Goals as goal
 
 pub shapes-set-requires : goal.shapes-set-requires
@@ -13,7 +13,7 @@ pub returns-then-set-ne0 : goal.returns-then-set-ne0
 unfolding limit
 returns-then-set-ne0 c =
     let s = c.args in
-    refused-set s.points.now s.contours.now s.shapes.now _ c.shapes-set.ensures c.if-set-ne0.true
+    refused_set s.points.now s.contours.now s.shapes.now _ c.shapes-set.ensures c.if-set-ne0.true
 
 pub returns-then-contours-long : goal.returns-then-contours-long
 unfolding limit

@@ -1,2 +1,0 @@
--- What the inner functions say to each other.
-pub mod Adding

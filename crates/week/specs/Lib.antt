@@ -1,4 +1,0 @@
-pub mod Files
-pub mod Counting
-pub mod Words
-pub mod Table
