@@ -1,0 +1,11 @@
+pub mod Cases
+pub mod HalvesLaws
+pub mod BatchLaws
+pub mod TotalLaws
+pub mod PossibleLaws
+pub mod SumLaws
+pub mod EntryLaws
+pub mod LimitLaws
+pub mod CountingLaws
+pub mod OutcomeLaws
+pub mod Theorems

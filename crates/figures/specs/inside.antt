@@ -1,0 +1,2 @@
+-- What the inner functions say to each other.
+pub mod Adding
