@@ -54,7 +54,7 @@ def declared():
                 elif context:
                     goal = of.split(" ")[0].startswith(("tie.", "goal."))
                     kinds.setdefault(name, set()).add("goal" if goal else "own")
-    return {n for n, k in kinds.items() if k != {"goal"}}, {n for n, k in kinds.items() if "word" in k}
+    return {n for n, k in kinds.items() if k & {"own", "type"}}, {n for n, k in kinds.items() if "word" in k}
 
 
 def imported():

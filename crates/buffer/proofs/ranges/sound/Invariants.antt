@@ -5,9 +5,9 @@ use lib.ListN.{length, drop}
 use Rattle.buffer.specs.Spans.{spans, sound, sound_from}
 use Rattle.buffer.proofs.ranges.sound.Given as goal
 
-abbrev pub invariant_loop_i : goal.invariant-loop-i
-invariant_loop_i l =
+abbrev pub invariant-loop-i : goal.invariant-loop-i
+invariant-loop-i l =
     (l.i ≤ length l.ranges) × (sound (spans l.ranges) l.count ≡ (l.all && sound_from l.at (spans (drop l.i l.ranges)) l.count))
 
-abbrev pub decreases_loop_i : goal.decreases-loop-i
-decreases_loop_i l = length l.ranges - l.i
+abbrev pub decreases-loop-i : goal.decreases-loop-i
+decreases-loop-i l = length l.ranges - l.i

@@ -1,8 +1,8 @@
 use Rattle.std.proofs.Common.{◌≡◌, ◌-◌, length}
 use Rattle.cases.proofs.floats.put.Given as goal
 
-abbrev pub invariant_loop : goal.invariant-loop
-invariant_loop l = length l.row ≡ length l.initial.row
+abbrev pub invariant-loop : goal.invariant-loop
+invariant-loop l = length l.row ≡ length l.initial.row
 
-abbrev pub decreases_loop : goal.decreases-loop
-decreases_loop l = l.times - l.counter
+abbrev pub decreases-loop : goal.decreases-loop
+decreases-loop l = l.times - l.counter

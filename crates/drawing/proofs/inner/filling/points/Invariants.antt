@@ -6,8 +6,8 @@ use Rattle.rows.proofs.RowLaws.{Copied}
 use Rattle.millimetres.specs.Scale.{units}
 use Rattle.drawing.proofs.inner.filling.points.Given as goal
 
-abbrev pub invariant_loop_at : goal.invariant-loop-at
-invariant_loop_at l = (l.at % 2 ≡ 0) × Copied l.initial.out 0 (map units l.floats) l.out l.at
+abbrev pub invariant-loop-at : goal.invariant-loop-at
+invariant-loop-at l = (l.at % 2 ≡ 0) × Copied l.initial.out 0 (map units l.floats) l.out l.at
 
-abbrev pub decreases_loop_at : goal.decreases-loop-at
-decreases_loop_at l = length l.floats - l.at
+abbrev pub decreases-loop-at : goal.decreases-loop-at
+decreases-loop-at l = length l.floats - l.at

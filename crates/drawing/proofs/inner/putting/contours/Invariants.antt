@@ -6,10 +6,10 @@ use Rattle.buffer.specs.Spans.{spans}
 use Rattle.drawing.specs.inside.Rows.{set_kinds}
 use Rattle.drawing.proofs.inner.putting.contours.Given as goal
 
-abbrev pub invariant_loop_i : goal.invariant-loop-i
-invariant_loop_i l =
+abbrev pub invariant-loop-i : goal.invariant-loop-i
+invariant-loop-i l =
     (l.i ≤ length l.ranges) × (length l.kinds ≡ length l.initial.kinds) × (l.at ≡ length (set_kinds (take l.i (spans l.ranges))))
     × (l.kinds ≡ front (set_kinds (take l.i (spans l.ranges))) l.initial.kinds)
 
-abbrev pub decreases_loop_i : goal.decreases-loop-i
-decreases_loop_i l = length l.ranges - l.i
+abbrev pub decreases-loop-i : goal.decreases-loop-i
+decreases-loop-i l = length l.ranges - l.i

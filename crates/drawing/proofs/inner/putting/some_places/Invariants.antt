@@ -5,9 +5,9 @@ use Rattle.millimetres.specs.Scale.{millimetres}
 use Rattle.rows.proofs.RowLaws.{Copied}
 use Rattle.drawing.proofs.inner.putting.some_places.Given as goal
 
-abbrev pub invariant_loop_i : goal.invariant-loop-i
-invariant_loop_i l =
+abbrev pub invariant-loop-i : goal.invariant-loop-i
+invariant-loop-i l =
     (l.i ≤ l.n) × Copied l.initial.floats (2 * l.from) (map millimetres (take (2 * l.n) (drop (2 * l.from) l.points))) l.floats (2 * l.i)
 
-abbrev pub decreases_loop_i : goal.decreases-loop-i
-decreases_loop_i l = l.n - l.i
+abbrev pub decreases-loop-i : goal.decreases-loop-i
+decreases-loop-i l = l.n - l.i

@@ -5,10 +5,10 @@ use Rattle.fates.specs.Fates.{later}
 use Rattle.fates.proofs.FilledLaws.{Filled}
 use Rattle.fates.proofs.inner.shape.others.Given as goal
 
-abbrev pub invariant_loop_i : goal.invariant-loop-i
-invariant_loop_i l =
+abbrev pub invariant-loop-i : goal.invariant-loop-i
+invariant-loop-i l =
     Filled (later l.rule l.outline) l.points l.ranges l.initial.fates l.fates l.i
     × (length l.next ≡ length l.initial.next) × (length l.prev ≡ length l.initial.prev) × (length l.mark ≡ length l.initial.mark)
 
-abbrev pub decreases_loop_i : goal.decreases-loop-i
-decreases_loop_i l = length l.ranges - l.i
+abbrev pub decreases-loop-i : goal.decreases-loop-i
+decreases-loop-i l = length l.ranges - l.i

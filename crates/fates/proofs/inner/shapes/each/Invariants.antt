@@ -4,10 +4,10 @@ use lib.ListN.{length}
 use Rattle.fates.proofs.EachLaws.{Telling}
 use Rattle.fates.proofs.inner.shapes.each.Given as goal
 
-abbrev pub invariant_loop_i : goal.invariant-loop-i
-invariant_loop_i l =
+abbrev pub invariant-loop-i : goal.invariant-loop-i
+invariant-loop-i l =
     Telling l.rule l.points l.contours l.shapes l.initial.fates l.at l.fates l.i
     × (length l.next ≡ length l.initial.next) × (length l.prev ≡ length l.initial.prev) × (length l.mark ≡ length l.initial.mark)
 
-abbrev pub decreases_loop_i : goal.decreases-loop-i
-decreases_loop_i l = length l.shapes - l.i
+abbrev pub decreases-loop-i : goal.decreases-loop-i
+decreases-loop-i l = length l.shapes - l.i

@@ -5,9 +5,9 @@ use Rattle.jobread.specs.Reading.{run, nothing}
 use Rattle.jobread.specs.inside.Rows.{state_of, Rooms}
 use Rattle.jobread.proofs.inner.reading.read.Given as goal
 
-abbrev pub invariant_loop_i : goal.invariant-loop-i
-invariant_loop_i l =
+abbrev pub invariant-loop-i : goal.invariant-loop-i
+invariant-loop-i l =
     (run (state_of l.reader l.points l.contours l.shapes) (drop l.i l.text) ≡ run nothing l.text) × Rooms l.points l.contours l.shapes
 
-abbrev pub decreases_loop_i : goal.decreases-loop-i
-decreases_loop_i l = length l.text - l.i
+abbrev pub decreases-loop-i : goal.decreases-loop-i
+decreases-loop-i l = length l.text - l.i

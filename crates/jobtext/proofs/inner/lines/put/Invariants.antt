@@ -4,9 +4,9 @@ use lib.ListN.{length}
 use Rattle.jobtext.proofs.LineLaws.{Lining}
 use Rattle.jobtext.proofs.inner.lines.put.Given as goal
 
-abbrev pub invariant_loop_i : goal.invariant-loop-i
-invariant_loop_i l =
+abbrev pub invariant-loop-i : goal.invariant-loop-i
+invariant-loop-i l =
     Lining l.second l.bytes l.n l.from l.initial.text l.behind l.text l.i l.at × (length l.points ≡ length l.initial.points)
 
-abbrev pub decreases_loop_i : goal.decreases-loop-i
-decreases_loop_i l = l.n - l.i
+abbrev pub decreases-loop-i : goal.decreases-loop-i
+decreases-loop-i l = l.n - l.i

@@ -5,8 +5,8 @@ use Rattle.rows.proofs.RowLaws.{Copied}
 use Rattle.pool.specs.inside.Records.{lowered}
 use Rattle.pool.proofs.inner.moving.records.Given as goal
 
-abbrev pub invariant_loop_i : goal.invariant-loop-i
-invariant_loop_i l = Copied l.initial.row l.at (map (lowered l.d) (take l.n (drop (l.at + 1) l.initial.row))) l.row l.i
+abbrev pub invariant-loop-i : goal.invariant-loop-i
+invariant-loop-i l = Copied l.initial.row l.at (map (lowered l.d) (take l.n (drop (l.at + 1) l.initial.row))) l.row l.i
 
-abbrev pub decreases_loop_i : goal.decreases-loop-i
-decreases_loop_i l = l.n - l.i
+abbrev pub decreases-loop-i : goal.decreases-loop-i
+decreases-loop-i l = l.n - l.i

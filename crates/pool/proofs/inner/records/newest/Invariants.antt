@@ -3,8 +3,8 @@ use Prim.Native.Nat.{ℕ, ◌≤◌, ◌<◌}
 use Rattle.pool.specs.inside.Records.{press_at}
 use Rattle.pool.proofs.inner.records.newest.Given as goal
 
-abbrev pub invariant_loop_i : goal.invariant-loop-i
-invariant_loop_i l = (l.i ≤ l.n) × ((j : ℕ) → l.i ≤ j → j < l.n → press_at l.records j ≡ l.press → ⊥)
+abbrev pub invariant-loop-i : goal.invariant-loop-i
+invariant-loop-i l = (l.i ≤ l.n) × ((j : ℕ) → l.i ≤ j → j < l.n → press_at l.records j ≡ l.press → ⊥)
 
-abbrev pub decreases_loop_i : goal.decreases-loop-i
-decreases_loop_i l = l.i
+abbrev pub decreases-loop-i : goal.decreases-loop-i
+decreases-loop-i l = l.i

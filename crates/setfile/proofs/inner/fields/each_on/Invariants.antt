@@ -3,9 +3,9 @@ use Rattle.grid.specs.Limits.{narrow, all_on_grid}
 use Rattle.setfile.specs.inside.Bytes.{decoded}
 use Rattle.setfile.proofs.inner.fields.each_on.Given as goal
 
-abbrev pub invariant_loop_i : goal.invariant-loop-i
-invariant_loop_i l =
+abbrev pub invariant-loop-i : goal.invariant-loop-i
+invariant-loop-i l =
     (l.i ≤ l.k) × (all_on_grid narrow (decoded l.k (drop l.at l.bytes)) ≡ (l.all && all_on_grid narrow (decoded (l.k - l.i) (drop (l.at + 4 * l.i) l.bytes))))
 
-abbrev pub decreases_loop_i : goal.decreases-loop-i
-decreases_loop_i l = l.k - l.i
+abbrev pub decreases-loop-i : goal.decreases-loop-i
+decreases-loop-i l = l.k - l.i

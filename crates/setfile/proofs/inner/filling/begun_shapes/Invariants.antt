@@ -8,11 +8,11 @@ use Rattle.setfile.proofs.FillLaws.{Filling}
 use Rattle.setfile.proofs.ShapeFillLaws.{shapes_made}
 use Rattle.setfile.proofs.inner.filling.begun_shapes.Given as goal
 
-abbrev pub invariant_loop_i : goal.invariant-loop-i
-invariant_loop_i l =
+abbrev pub invariant-loop-i : goal.invariant-loop-i
+invariant-loop-i l =
     (l.i ≤ l.n) × (l.shape.from ≤ l.i)
     × Filling l.second l.bytes l.n l.initial.groups (front (rows (shape_spans (shapes_of (contained l.bytes)))) l.initial.groups)
     (shapes_made l.shape.from l.i) l.i l.at l.shape.number l.groups
 
-abbrev pub decreases_loop_i : goal.decreases-loop-i
-decreases_loop_i l = l.n - l.i
+abbrev pub decreases-loop-i : goal.decreases-loop-i
+decreases-loop-i l = l.n - l.i

@@ -6,11 +6,11 @@ use Rattle.setfile.proofs.WriteLaws.{Inking}
 use Rattle.setfile.proofs.CodedLaws.{marked}
 use Rattle.setfile.proofs.inner.putting.put_shape.Given as goal
 
-abbrev pub invariant_loop_k : goal.invariant-loop-k
-invariant_loop_k l =
+abbrev pub invariant-loop-k : goal.invariant-loop-k
+invariant-loop-k l =
     Inking l.initial.behind (shape_bits l.second l.points l.ranges l.from l.to) l.initial.bytes l.behind (all_coded (layout l.second) (marked (eqb l.k l.from) (between l.points l.ranges l.k l.to))) l.bytes
     × (l.behind.width ≤ most_kept l.second)
     × (l.from ≤ l.k)
 
-abbrev pub decreases_loop_k : goal.decreases-loop-k
-decreases_loop_k l = l.to - l.k
+abbrev pub decreases-loop-k : goal.decreases-loop-k
+decreases-loop-k l = l.to - l.k

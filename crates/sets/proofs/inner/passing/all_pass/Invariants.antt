@@ -4,8 +4,8 @@ use Rattle.grid.specs.Points.{points}
 use Rattle.sets.proofs.PartLaws.{Rest}
 use Rattle.sets.proofs.inner.passing.all_pass.Given as goal
 
-abbrev pub invariant_loop_i : goal.invariant-loop-i
-invariant_loop_i l = Rest (λ (row : List ℤ). passes l.rule (points row)) l.points l.ranges 0 l.i
+abbrev pub invariant-loop-i : goal.invariant-loop-i
+invariant-loop-i l = Rest (λ (row : List ℤ). passes l.rule (points row)) l.points l.ranges 0 l.i
 
-abbrev pub decreases_loop_i : goal.decreases-loop-i
-decreases_loop_i l = length l.ranges - l.i
+abbrev pub decreases-loop-i : goal.decreases-loop-i
+decreases-loop-i l = length l.ranges - l.i

@@ -8,11 +8,11 @@ use Rattle.steps.specs.Steps.{sums}
 use Rattle.steps.proofs.ReadLaws.{rest}
 use Rattle.steps.proofs.inner.reading.write_points.Given as goal
 
-abbrev pub invariant_loop_i : goal.invariant-loop-i
-invariant_loop_i l =
+abbrev pub invariant-loop-i : goal.invariant-loop-i
+invariant-loop-i l =
     Copied l.initial.out l.to (sums l.x l.y (numbers l.width (2 * l.n) (drop l.at (bits l.bytes)))) l.out (2 * l.i)
     × (drop (2 * l.i) (sums l.x l.y (numbers l.width (2 * l.n) (drop l.at (bits l.bytes)))) ≡ sums l.a l.b (rest l.bytes l.at l.width (2 * l.n) (2 * l.i)))
     × (l.i ≤ l.n)
 
-abbrev pub decreases_loop_i : goal.decreases-loop-i
-decreases_loop_i l = l.n - l.i
+abbrev pub decreases-loop-i : goal.decreases-loop-i
+decreases-loop-i l = l.n - l.i

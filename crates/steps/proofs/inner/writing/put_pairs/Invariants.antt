@@ -7,13 +7,13 @@ use Rattle.steps.specs.inside.Asked.{joined}
 use Rattle.steps.proofs.WriteLaws.{Writing}
 use Rattle.steps.proofs.inner.writing.put_pairs.Given as goal
 
-abbrev pub invariant_loop_k : goal.invariant-loop-k
-invariant_loop_k l =
+abbrev pub invariant-loop-k : goal.invariant-loop-k
+invariant-loop-k l =
     Writing (narrowed l.initial.b) l.initial.bytes l.contour l.width l.k (narrowed l.b) l.bytes
     × Fronted l.b
     × (l.k % 2 ≡ 0)
     × (l.k + 2 ≤ length l.contour)
     × (l.from ≡ joined (pos (2 ^ l.width)) l.contour l.k)
 
-abbrev pub decreases_loop_k : goal.decreases-loop-k
-decreases_loop_k l = length l.contour - l.k
+abbrev pub decreases-loop-k : goal.decreases-loop-k
+decreases-loop-k l = length l.contour - l.k

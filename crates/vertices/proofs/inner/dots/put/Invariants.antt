@@ -6,8 +6,8 @@ use Rattle.vertices.specs.inside.Marks.{survive}
 use Rattle.vertices.proofs.WritingLaws.{Writing}
 use Rattle.vertices.proofs.inner.dots.put.Given as goal
 
-abbrev pub invariant_loop_i : goal.invariant-loop-i
-invariant_loop_i l = Writing (dot_if l.kept) (vertices (survive l.mark) (points l.points)) l.from l.initial.text l.behind l.text l.i
+abbrev pub invariant-loop-i : goal.invariant-loop-i
+invariant-loop-i l = Writing (dot_if l.kept) (vertices (survive l.mark) (points l.points)) l.from l.initial.text l.behind l.text l.i
 
-abbrev pub decreases_loop_i : goal.decreases-loop-i
-decreases_loop_i l = length l.mark - l.i
+abbrev pub decreases-loop-i : goal.decreases-loop-i
+decreases-loop-i l = length l.mark - l.i
