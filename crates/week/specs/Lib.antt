@@ -1,0 +1,4 @@
+pub mod Files
+pub mod Counting
+pub mod Words
+pub mod Table

@@ -1,0 +1,5 @@
+pub mod counting;
+pub mod ending;
+pub mod saying;
+pub mod table;
+pub mod wide;

@@ -1,0 +1,92 @@
+// An area of more than 64 bits, as text.
+ghost use Rattle.std.specs.Prelude.{◌++◌, ◌+◌, ◌-◌, ◌*◌, ◌≤◌, ◌<◌, ◌^◌, length};
+ghost use Rattle.integers.specs.Bound.{In};
+ghost use Rattle.io.specs.Digits.{last_digits};
+ghost use Rattle.report.specs.Text.{dash, line_end};
+ghost use Rattle.report.specs.inside.Lines.{Put};
+ghost use Rattle.figures.specs.Halves.{whole};
+ghost use Rattle.week.specs.Words.{area_kept};
+ghost use Rattle.week.specs.Table.{long_decimal, long_signed};
+
+use report::inner::text;
+
+// Puts a number as two digits.
+fn put_two(text: &mut [u8], at: usize, n: u32) -> usize
+    requires { (n < 100) × (at + 2 ≤ length text.old) }
+    ensures { Put at (last_digits 10 2 n) text.old result text.new }
+{
+    let behind = text::put_one(text, at, n / 10);
+    text::put_one(text, behind, n % 10)
+}
+
+// Puts a number as four digits.
+fn put_four(text: &mut [u8], at: usize, n: u32) -> usize
+    requires { (n < 10000) × (at + 4 ≤ length text.old) }
+    ensures { Put at (last_digits 10 4 n) text.old result text.new }
+{
+    let behind = put_two(text, at, n / 100);
+    put_two(text, behind, n % 100)
+}
+
+// Puts a number as eight digits.
+fn put_eight(text: &mut [u8], at: usize, n: u32) -> usize
+    requires { (n < 100000000) × (at + 8 ≤ length text.old) }
+    ensures { Put at (last_digits 10 8 n) text.old result text.new }
+{
+    let behind = put_four(text, at, n / 10_000);
+    put_four(text, behind, n % 10_000)
+}
+
+// Puts the number high * 2^32 + low: what stands before its last eight digits has at most 64 bits again.
+fn put_wide(text: &mut [u8], at: usize, high: u64, low: u32) -> usize
+    requires high_bound { high < 2 ^ 48 }
+    requires low_in_bounds { at + length (long_decimal (high * 2 ^ 32 + low)) ≤ length text.old }
+    ensures { Put at (long_decimal (high * 2 ^ 32 + low)) text.old result text.new }
+{
+    let rest = high % 100_000_000 * 4_294_967_296 + low as u64;
+    let front = high / 100_000_000 * 4_294_967_296 + rest / 100_000_000;
+    let last = rest % 100_000_000;
+    if front == 0 {
+        return text::put_number(text, at, last);
+    }
+    let behind = text::put_number(text, at, front);
+    put_eight(text, behind, last as u32)
+}
+
+// Puts the number low - high * 2^32, which is below 0.
+fn put_below(text: &mut [u8], at: usize, high: u64, low: u32) -> usize
+    requires high_nonzero { (0 < high) × (high < 2 ^ 48) }
+    requires low_in_bounds { at + length (dash ++ long_decimal (high * 2 ^ 32 - low)) ≤ length text.old }
+    ensures { Put at (dash ++ long_decimal (high * 2 ^ 32 - low)) text.old result text.new }
+{
+    let behind = text::put(text, at, b"-");
+    if low == 0 {
+        return put_wide(text, behind, high, 0);
+    }
+    put_wide(text, behind, high - 1, 4_294_967_295 - low + 1)
+}
+
+// Puts an area.
+fn put_area(text: &mut [u8], at: usize, high: i64, low: u32) -> usize
+    requires fact { In 140735340871680 high }
+    requires low_in_bounds { at + length (long_signed (whole high low)) ≤ length text.old }
+    ensures { Put at (long_signed (whole high low)) text.old result text.new }
+{
+    let size = integers::magnitude(high);
+    if high < 0 {
+        return put_below(text, at, size, low);
+    }
+    put_wide(text, at, size, low)
+}
+
+// Puts the line of an area.
+pub fn put_line(text: &mut [u8], at: usize, high: i64, low: u32) -> usize
+    requires fact { In 140735340871680 high }
+    requires line_end_in_bounds { at + length (area_kept ++ long_signed (whole high low) ++ line_end) ≤ length text.old }
+    ensures { Put at (area_kept ++ long_signed (whole high low) ++ line_end)
+        text.old result text.new }
+{
+    let second = text::put(text, at, b"doubled area kept: ");
+    let third = put_area(text, second, high, low);
+    text::put(text, third, b"\n")
+}
