@@ -3,7 +3,7 @@ ghost use Rattle.std.specs.Prelude.{◌≡◌};
 ghost use Rattle.rows.specs.Parts.{part};
 ghost use Rattle.difference.specs.Walking.{handed};
 
-#[derive(Drop)]
+#[derive(Clone, Copy)]
 pub struct Walker<'a> {
     pub points: &'a [i32],
     pub place: usize,

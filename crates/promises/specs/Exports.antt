@@ -1,4 +1,4 @@
--- What C and Rust call. Each function hands its arguments on to one of the library, and allows no outcome that that one does not; so what the demands say of that one holds of it too.
+-- What `ukmerelt_c` exports for C and Rust, which is held to these functions in turn (its proofs/Exports). Each hands its arguments on to one of the library, and allows no outcome that that one does not; so what the demands say of that one holds of it too.
 use Rattle.area.proofs as area
 use Rattle.path.proofs as path
 use Rattle.clean.proofs as clean

@@ -1,0 +1,2 @@
+-- What is said of the exports.
+pub mod Exports
