@@ -70,7 +70,7 @@ def imported():
 
 def snake(name):
     name = re.sub(r"(?<=[a-z0-9])([A-Z])", lambda m: "_" + m.group(1).lower(), name) if re.match(r"[a-z]", name) else name
-    return re.sub(r"(?<=\w)-(?=\w)", "_", name)
+    return re.sub(r"(?<=[\w'])-(?=\w)", "_", name)
 
 
 def main():

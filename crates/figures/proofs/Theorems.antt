@@ -54,10 +54,10 @@ module _ (a b : List Found) (r : Real a) (s : Real b) where
   many = the_totals_add_up_to_the_contours_and_refused_sets b s
 
   -- joined, their figures are those of both together
-  pub two_batches'-figures_joined_are_the_figures_of_both_together :
+  pub two_batches'_figures_joined_are_the_figures_of_both_together :
       contours_and_refused_sets a + contours_and_refused_sets b ≤ most_counted → joined_figures (batch_figures a) (batch_figures b) ≡ added 0 (batch_figures (a ++ b))
   unfolding joined_figures
-  two_batches'-figures_joined_are_the_figures_of_both_together h =
+  two_batches'_figures_joined_are_the_figures_of_both_together h =
       let t : (fits (batch_figures a) (in_all (batch_figures b)) && possible (batch_figures b)) ≡ true =
       rw (fit a r (in_all (batch_figures b)) (omega (arith, many)), real_figures_are_never_told_damaged b s (omega arith)) in
       rw (over_not _ t) (ap (added 0) (batches_add_up a b))

@@ -195,11 +195,11 @@ module _ (d : Edge) (p : List ℤ) (on : StillOn d p) (cs : List (List ℕ)) whe
     pub a_shift_keeps_shapes_without_spikes : SetVerdicts.shapes_spike_free (shifted d p) cs ss ≡ SetVerdicts.shapes_spike_free p cs ss
     a_shift_keeps_shapes_without_spikes = verdict_stays (S.refusals p cs ss) (S.refusals (shifted d p) cs ss) same_shapes Spike
 
-    pub a_shift_keeps_the_shapes'-doubled_area : SetArea.shapes_doubled (shifted d p) cs ss ≡ SetArea.shapes_doubled p cs ss
-    a_shift_keeps_the_shapes'-doubled_area = doubled_stays (S.refusals p cs ss) (S.refusals (shifted d p) cs ss) same_shapes
+    pub a_shift_keeps_the_shapes'_doubled_area : SetArea.shapes_doubled (shifted d p) cs ss ≡ SetArea.shapes_doubled p cs ss
+    a_shift_keeps_the_shapes'_doubled_area = doubled_stays (S.refusals p cs ss) (S.refusals (shifted d p) cs ss) same_shapes
 
-    pub a_shift_keeps_the_shapes'-half : SetArea.shapes_half (shifted d p) cs ss ≡ SetArea.shapes_half p cs ss
-    a_shift_keeps_the_shapes'-half = half_stays (S.refusals p cs ss) (S.refusals (shifted d p) cs ss) same_shapes
+    pub a_shift_keeps_the_shapes'_half : SetArea.shapes_half (shifted d p) cs ss ≡ SetArea.shapes_half p cs ss
+    a_shift_keeps_the_shapes'_half = half_stays (S.refusals p cs ss) (S.refusals (shifted d p) cs ss) same_shapes
 
     pub a_shift_keeps_whether_shapes_are_empty : S.is_empty (shifted d p) cs ss ≡ S.is_empty p cs ss
     unfolding S.is_empty
