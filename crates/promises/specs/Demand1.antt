@@ -6,7 +6,7 @@ use Rattle.replies.specs.Ladder.{Rung, first_of, room}
 use Rattle.grid.specs.Domain.{count, domain}
 use Rattle.replies.proofs.OneOutcome.{three, four, five, six, eight}
 use Rattle.area.specs.Answers as Areas
-use Rattle.path.specs.Contains as Contains
+use Rattle.path.specs.Contains as PathContains
 use Rattle.clean.specs.Outcome as Cleaning
 use Rattle.buffer.specs.declared.ranges.Span.{Span}
 use Rattle.buffer.specs.Spans.{spans, sound, moved}
@@ -184,7 +184,7 @@ order ladder = map (λ (rung : Rung). rung.1) ladder
 pub record TheOrderOfTheNumbers : Type 0 where
   pub a_contour : (points : List ℤ) → order (domain limit points) ≡ 1 ∷ 2 ∷ 3 ∷ []
   pub the_area_of_a_contour : (points : List ℤ) → order (Areas.refusals points) ≡ 1 ∷ 2 ∷ 3 ∷ 8 ∷ []
-  pub a_point_in_a_contour : (asked : Point) (points : List ℤ) → order (Contains.refusals asked points) ≡ 1 ∷ 2 ∷ 3 ∷ 3 ∷ []
+  pub a_point_in_a_contour : (asked : Point) (points : List ℤ) → order (PathContains.refusals asked points) ≡ 1 ∷ 2 ∷ 3 ∷ 3 ∷ []
   pub a_contour_to_be_cleaned : (points : List ℤ) (l : Cleaning.Lent) → order (cleaning_refusals points l) ≡ 1 ∷ 2 ∷ 3 ∷ 4 ∷ 4 ∷ 4 ∷ 5 ∷ []
   pub a-set : (points : List ℤ) (ranges : List (List ℕ)) → order (Contours.refusals points ranges) ≡ 1 ∷ 2 ∷ 6 ∷ 3 ∷ []
   pub the_area_of_a_set : (points : List ℤ) (ranges : List (List ℕ)) → order (set_area_refusals points ranges) ≡ 1 ∷ 2 ∷ 6 ∷ 3 ∷ 8 ∷ []
@@ -220,7 +220,7 @@ pub record EveryBadInputGetsItsNumber : Type 0 where
   pub clean·simple·is_simple : Refuses verdicts clean.simple.is_simple.Reads.Learnt (of_contour (domain limit))
   pub clean·despike·has_no_spikes : Refuses verdicts clean.despike.has_no_spikes.Reads.Learnt (of_contour (domain limit))
   pub path·is_convex : Refuses verdicts path.is_convex.Reads.Learnt (of_contour (domain limit))
-  pub path·contains_point : Refuses verdicts path.contains_point.Reads.Learnt λ a. three a λ points x y. Contains.refusals (record { x = x; y = y }) points.now
+  pub path·contains_point : Refuses verdicts path.contains_point.Reads.Learnt λ a. three a λ points x y. PathContains.refusals (record { x = x; y = y }) points.now
   pub sets·simple·is_simple : Refuses verdicts sets.simple.is_simple.Reads.Learnt (of_set Contours.refusals)
   pub sets·despike·has_no_spikes : Refuses verdicts sets.despike.has_no_spikes.Reads.Learnt (of_set Contours.refusals)
   pub sets·shapes·is_simple : Refuses verdicts sets.shapes.is_simple.Reads.Learnt (of_shapes Shapes.refusals)
@@ -281,7 +281,7 @@ pub record EveryBadInputGetsItsNumber : Type 0 where
   pub setfile·write : Refuses writings setfile.write.Reads.Learnt λ a. four a λ points contours shapes bytes. write_refusals points.now contours.now shapes.now bytes.now
   pub setfile·write_2 : Refuses writings setfile.write_2.Reads.Learnt λ a. four a λ points contours shapes bytes. write_2_refusals points.now contours.now shapes.now bytes.now
   -- Beyond 01: where a point lies, and whether a shape has it; what becomes of each contour, salvage of a file, drawings in millimetres, two sets compared, and a pool that two presses share.
-  pub path·locate : Refuses locations path.locate.Reads.Learnt λ a. three a λ points x y. Contains.refusals (record { x = x; y = y }) points.now
+  pub path·locate : Refuses locations path.locate.Reads.Learnt λ a. three a λ points x y. PathContains.refusals (record { x = x; y = y }) points.now
   pub sets·in_shape : Refuses verdicts sets.in_shape.Reads.Learnt λ a. four a λ points ranges x y. SetContains.shape_refusals (record { x = x; y = y }) points.now ranges.now
   pub fates·simplified : Refuses counts fates.simplified.Reads.Learnt λ a. of_shapes fates_refusals a (fates_lent a)
   pub fates·despiked : Refuses counts fates.despiked.Reads.Learnt λ a. of_shapes fates_refusals a (fates_lent a)
