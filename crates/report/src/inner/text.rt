@@ -41,7 +41,7 @@ fn put_four(text: &mut [u8], at: usize, n: u32) -> usize
 }
 
 // Puts a number as eight digits.
-fn put_eight(text: &mut [u8], at: usize, n: u32) -> usize
+pub fn put_eight(text: &mut [u8], at: usize, n: u32) -> usize
     requires { (n < 100000000) × (at + 8 ≤ length text.old) }
     ensures { Put at (last_digits 10 8 n) text.old result text.new }
 {

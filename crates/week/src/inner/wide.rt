@@ -1,7 +1,6 @@
 // An area of more than 64 bits, as text.
 ghost use Rattle.std.specs.Prelude.{◌++◌, ◌+◌, ◌-◌, ◌*◌, ◌≤◌, ◌<◌, ◌^◌, length};
 ghost use Rattle.integers.specs.Bound.{In};
-ghost use Rattle.io.specs.Digits.{last_digits};
 ghost use Rattle.report.specs.Text.{dash, line_end};
 ghost use Rattle.report.specs.inside.Lines.{Put};
 ghost use Rattle.figures.specs.Halves.{whole};
@@ -9,33 +8,6 @@ ghost use Rattle.week.specs.Words.{area_kept};
 ghost use Rattle.week.specs.Table.{long_decimal, long_signed};
 
 use report::inner::text;
-
-// Puts a number as two digits.
-fn put_two(text: &mut [u8], at: usize, n: u32) -> usize
-    requires { (n < 100) × (at + 2 ≤ length text.old) }
-    ensures { Put at (last_digits 10 2 n) text.old result text.new }
-{
-    let behind = text::put_one(text, at, n / 10);
-    text::put_one(text, behind, n % 10)
-}
-
-// Puts a number as four digits.
-fn put_four(text: &mut [u8], at: usize, n: u32) -> usize
-    requires { (n < 10000) × (at + 4 ≤ length text.old) }
-    ensures { Put at (last_digits 10 4 n) text.old result text.new }
-{
-    let behind = put_two(text, at, n / 100);
-    put_two(text, behind, n % 100)
-}
-
-// Puts a number as eight digits.
-fn put_eight(text: &mut [u8], at: usize, n: u32) -> usize
-    requires { (n < 100000000) × (at + 8 ≤ length text.old) }
-    ensures { Put at (last_digits 10 8 n) text.old result text.new }
-{
-    let behind = put_four(text, at, n / 10_000);
-    put_four(text, behind, n % 10_000)
-}
 
 // Puts the number high * 2^32 + low: what stands before its last eight digits has at most 64 bits again.
 fn put_wide(text: &mut [u8], at: usize, high: u64, low: u32) -> usize
@@ -50,7 +22,7 @@ fn put_wide(text: &mut [u8], at: usize, high: u64, low: u32) -> usize
         return text::put_number(text, at, last);
     }
     let behind = text::put_number(text, at, front);
-    put_eight(text, behind, last as u32)
+    text::put_eight(text, behind, last as u32)
 }
 
 // Puts the number low - high * 2^32, which is below 0.
