@@ -34,11 +34,12 @@ pub fn status(outcome: &Outcome) -> Result<(), String> {
 }
 
 /// A program that reads set files refuses those that the reader in `requests` does, with its number; salvage writes what
-/// the one there writes.
+/// the one there writes; and one that reads any files refuses none.
 pub fn answer(program: &Program, file: &[u8], outcome: &Outcome) -> Result<(), String> {
     let refused = || outcome.err.lines().find_map(|line| refusal(line, ": "));
     match program.reads {
         Reads::Other => Ok(()),
+        Reads::Any => same(None, refused()),
         Reads::Sound => match edition::read(file) {
             Err(number) => same(Some(number), refused()),
             Ok((_, shapes)) if shapes.concat().concat().len() <= ROOM => same(None, refused()),

@@ -11,6 +11,8 @@ pub enum Reads {
     Sound,
     /// Set files of edition 1, of which it writes what is sound.
     Damaged,
+    /// Any files one behind the other, sound or not, of which it tells in words what they came to.
+    Any,
     /// Something else, which no set file is.
     Other,
 }
@@ -63,6 +65,7 @@ fn try_out(program: &mut Program, runs: &Runs) -> Result<bool, String> {
     let [whole, cut] = [&sound[..], cut].map(|file| runs.run(program, 0, file, run::BUILDING));
     program.reads = match (whole.status, cut.status) {
         (Some(0), Some(1)) => Reads::Sound,
+        (Some(0), Some(0)) if cut.out.first().is_some_and(u8::is_ascii_lowercase) => Reads::Any,
         (Some(0), Some(0)) => Reads::Damaged,
         (Some(1), Some(1)) => Reads::Other,
         statuses => return Err(format!("{} does not run: {statuses:?}", program.name)),
