@@ -1,5 +1,4 @@
 pub mod AnswerLaws
-pub mod ShareLaws
 pub mod Sums
 pub mod Theorems
 pub mod Removal
