@@ -22,19 +22,7 @@ pub fn contours(
         ≡ stored (so_far refusal) points.now (spans ranges.now) []
         out.old records.old [] }
 {
-    let room = (points.len() <= out.len()) & (ranges.len() <= records.len());
-    let first = replies::or_room(refusal, room);
-    if first != 0 {
-        return answer::refused(first);
-    }
-    rows::inner::copy(points, out, 0);
-    joining::records(ranges, records, 0, 0);
-    Packed {
-        reply: replies::DONE,
-        points: points.len() / 2,
-        contours: ranges.len(),
-        shapes: 0,
-    }
+    shapes(refusal, points, ranges, &[], out, records, &mut [])
 }
 
 // Packs shapes, unless they are refused.
