@@ -1,6 +1,8 @@
 -- How long ranges are, and how long files of edition 2.
-use Rattle.std.proofs.Common.{◌≡◌, ℕ, zero, suc, ◌+◌, ◌-◌, ◌*◌, ◌/◌, ◌<◌, ◌≤◌, Bool, true, false, ◌||◌, eqb, ltb, List, [], ◌∷◌, map, length, get_or, drop, set, ℤ, sym, refl, ap, ◌∙◌, ap₂, mul-le-mul_right, add-one, arith, length-append, drop_of_length-le, drop-cons, get_or-set_other, get_or-set_same, below_more, ltb-false, ltb-true, le-ltb, lt-ltb}
+use Rattle.std.proofs.Common.{◌≡◌, ℕ, zero, suc, ◌+◌, ◌-◌, ◌*◌, ◌/◌, ◌<◌, ◌≤◌, Bool, true, false, ◌||◌, cond, eqb, ltb, List, [], ◌∷◌, map, length, get_or, drop, set, ℤ, sym, refl, ap, ◌∙◌, ap₂, mul-le-mul_right, add-one, arith, length-append, drop_of_length-le, drop-cons, get_or-set_other, get_or-set_same, below_more, ltb-false, ltb-true, le-ltb, lt-ltb}
 use lib.Dec.{eqb-suc-zero}
+use Rattle.std.specs.List.{count_by}
+use Rattle.std.proofs.lemmas.List.Recursion.{is_count_by}
 use Rattle.grid.specs.Domain.{count}
 use Rattle.bits.specs.Bits.{digit, field}
 use Rattle.bits.proofs.BitLaws.{digit_below, field-length, bytes-length}
@@ -56,14 +58,16 @@ some_long rows n m e = ap (ltb 0) e ∙ longer_some n (spans rows)
 pub some_unfilled : (rows : List (List ℕ)) (m : ℕ) → m ≡ longer 0 (spans rows) → ltb m (length rows) ≡ some_empty (spans rows)
 some_unfilled rows m e = ap₂ ltb e (sym (spans-length rows)) ∙ longer_all (spans rows)
 
-module _ (rows : List (List ℕ)) (n i : ℕ) where
-  pub longer_more : i < length rows → longer n (spans (drop i rows)) ≡ digit (ltb n (get_or (get_or rows i []) 1 0 - get_or (get_or rows i []) 0 0)) + longer n (spans (drop (i + 1) rows))
-  unfolding longer
-  longer_more h = rw (drop-cons rows i [] h, add-one i)
-
-  pub longer_done : length rows ≤ i → longer n (spans (drop i rows)) ≡ 0
-  unfolding longer
-  longer_done h = rw (drop_of_length-le rows {i = i} h)
+-- ranges that are longer, counted
+pub longer_is : (n : ℕ) (rows : List (List ℕ)) → longer n (spans rows) ≡ count_by (λ (r : List ℕ). ltb n (get_or r 1 0 - get_or r 0 0)) rows
+unfolding longer
+longer_is n rows =
+    is_count_by (λ (rows : List (List ℕ)). longer n (spans rows)) (λ (r : List ℕ). ltb n (get_or r 1 0 - get_or r 0 0)) refl
+    (λ r rows. go (ltb n (get_or r 1 0 - get_or r 0 0)) (longer n (spans rows))) rows
+  where
+    go : (b : Bool) (m : ℕ) → digit b + m ≡ cond b (1 + m) m
+    go true m = refl
+    go false m = omega arith
 
 -- a contour's bits, by its points and its width
 pub body_within : (n w : ℕ) → w ≤ 32 → body_size n w ≤ 64 * n

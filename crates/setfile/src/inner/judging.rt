@@ -146,15 +146,13 @@ fn contours(second: bool, bytes: &[u8], n: usize) -> Judged
         shapes: 0,
         on: true,
     };
-    let mut i: usize = 0;
-    while i < n {
+    for i in 0..n {
         let at = m.at;
         let wrong = contour_fault(second, bytes, at, i == 0, m.points);
         if wrong != 0 {
             return refused(wrong);
         }
         m = met_more(second, bytes, m);
-        i += 1;
     }
     finished(second, bytes, m, n)
 }

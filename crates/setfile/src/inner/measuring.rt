@@ -6,25 +6,14 @@ ghost use Rattle.setfile.specs.inside.Writing.{Named, Widths, longer as longer_o
 
 use crate::inner::headers;
 
-// How long a range is: nothing where it runs backward.
-fn size(start: usize, end: usize) -> usize
-    ensures { result ≡ end - start }
-{
-    if start < end { end - start } else { 0 }
-}
-
-// How many of the ranges are longer than n.
+// How many of the ranges are longer than n; one that runs backward has no length.
 pub fn longer(ranges: &[[usize; 2]], n: usize) -> usize
     ensures { result ≡ longer_of n (spans ranges.now) }
 {
-    let mut some: usize = 0;
-    let mut i: usize = 0;
-    while i < ranges.len() {
-        let size = size(ranges[i][0], ranges[i][1]);
-        some += (n < size) as usize;
-        i += 1;
-    }
-    some
+    ranges
+        .iter()
+        .filter(|r| n < r[1].saturating_sub(r[0]))
+        .count()
 }
 
 // How many bytes the file of a set has; the width of each contour is kept.
@@ -37,13 +26,11 @@ pub fn file_length(points: &[i32], contours: &[[usize; 2]], widths: &mut [u8]) -
         widths.new }
 {
     let mut bits: usize = 16;
-    let mut k: usize = 0;
-    while k < contours.len() {
+    for k in 0..contours.len() {
         let contour = buffer::inner::parts::named(points, contours, k);
         let width = steps::inner::writing::width(contour);
         widths[k] = width as u8;
         bits += headers::second_size(contour.len() / 2, width);
-        k += 1;
     }
     (bits + 7) / 8
 }

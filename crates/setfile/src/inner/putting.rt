@@ -42,10 +42,8 @@ fn put_coordinates(contour: &[i32], bytes: &mut [u8], at: usize) -> usize
     ensures { Put at (coded_coordinates contour.now) bytes.old result bytes.new }
 {
     let mut behind = at;
-    let mut i: usize = 0;
-    while i < contour.len() {
-        behind = put_quad(integers::bits_32(contour[i]), bytes, behind);
-        i += 1;
+    for x in contour {
+        behind = put_quad(x.cast_unsigned(), bytes, behind);
     }
     behind
 }
@@ -130,12 +128,10 @@ fn put_shape(
         bytes.old result bytes.new }
 {
     let mut behind = pen;
-    let mut k = from;
-    while k < to {
+    for k in from..to {
         let contour = buffer::inner::parts::named(points, ranges, k);
         let width = width_at(second, widths, k);
         behind = put_contour(second, k == from, contour, width, bytes, behind);
-        k += 1;
     }
     behind
 }
@@ -159,12 +155,8 @@ fn put_shapes(
         bytes.old result bytes.new }
 {
     let mut behind = pen;
-    let mut i: usize = 0;
-    while i < shapes.len() {
-        let from = shapes[i][0];
-        let to = shapes[i][1];
-        behind = put_shape(second, points, contours, widths, from, to, bytes, behind);
-        i += 1;
+    for [from, to] in shapes {
+        behind = put_shape(second, points, contours, widths, *from, *to, bytes, behind);
     }
     behind
 }

@@ -8,55 +8,55 @@ use Rattle.setfile.proofs.FillLaws.{filling_all, filling_done, points_made, comi
 use Rattle.setfile.proofs.inner.filling.points.Goals as goal
 
 -- the contour that is met is all there
-there : (c : goal.In-loop-i) →
+there : (c : goal.In-loop) →
     let s = c.args in
-    Whole s.second s.bytes.now c.loop-i.at
-there c = contour_there c.loop-i.invariant.1 c.loop-i-test.true
+    Whole s.second s.bytes.now c.loop.at
+there c = contour_there c.loop.invariant c.loop-test.true
 
 -- the contour that is met is all there
 there_2 : (c : goal.After-put-arg-1) →
     let s = c.args in
-    Whole s.second s.bytes.now c.loop-i.at
-there_2 c = contour_there c.loop-i.invariant.1 c.loop-i-test.true
+    Whole s.second s.bytes.now c.loop.at
+there_2 c = contour_there c.loop.invariant c.loop-test.true
 
 -- the contour that is met is all there
 there_3 : (c : goal.After-out-1) →
     let s = c.args in
-    Whole s.second s.bytes.now c.loop-i.at
-there_3 c = contour_there c.loop-i.invariant.1 c.loop-i-test.true
+    Whole s.second s.bytes.now c.loop.at
+there_3 c = contour_there c.loop.invariant c.loop-test.true
 
 -- the contour that is met is all there
 there_4 : (c : goal.After-size-at) →
     let s = c.args in
-    Whole s.second s.bytes.now c.loop-i.at
-there_4 c = contour_there c.loop-i.invariant.1 c.loop-i-test.true
+    Whole s.second s.bytes.now c.loop.at
+there_4 c = contour_there c.loop.invariant c.loop-test.true
 
 -- the contour that is met is all there
 there_5 : (c : goal.After-struct_known-1) →
     let s = c.args in
-    Whole s.second s.bytes.now c.loop-i.at
-there_5 c = contour_there c.loop-i.invariant.1 c.loop-i-test.true
+    Whole s.second s.bytes.now c.loop.at
+there_5 c = contour_there c.loop.invariant c.loop-test.true
 
 -- and its points have room
-roomy : (c : goal.After-put-arg-1) → let l = c.loop-i in l.to + 2 * c.header_at-h.result.count ≤ length l.out
+roomy : (c : goal.After-put-arg-1) → let l = c.loop in l.to + 2 * c.header_at-h.result.count ≤ length l.out
 roomy c =
-    omega (arith, points_room c.loop-i.invariant.1 c.loop-i-test.true, ap (λ (h : Header). h.count) c.header_at-h.ensures)
+    omega (arith, points_room c.loop.invariant c.loop-test.true, ap (λ (h : Header). h.count) c.header_at-h.ensures)
 
 -- and its points have room
-roomy_2 : (c : goal.After-struct_known-1) → let l = c.loop-i in l.to + 2 * c.header_at-h.result.count ≤ length l.out
+roomy_2 : (c : goal.After-struct_known-1) → let l = c.loop in l.to + 2 * c.header_at-h.result.count ≤ length l.out
 roomy_2 c =
-    omega (arith, points_room c.loop-i.invariant.1 c.loop-i-test.true, ap (λ (h : Header). h.count) c.header_at-h.ensures)
+    omega (arith, points_room c.loop.invariant c.loop-test.true, ap (λ (h : Header). h.count) c.header_at-h.ensures)
 
-pub loop-i-init : goal.loop-i-init
-loop-i-init c =
-    (omega arith, filling_all points_made c.args.second c.args.bytes.now c.args.n c.args.out.now c.requires.0 c.requires.1)
+pub loop-init : goal.loop-init
+loop-init c =
+    filling_all points_made c.args.second c.args.bytes.now c.args.n c.args.out.now c.requires.0 c.requires.1
 
 pub header_at-h-requires : goal.header_at-h-requires
 header_at-h-requires c = ((there c).here, (there c).headed)
 
 pub put-requires : goal.put-requires
 put-requires c =
-    (there_2 c, c.header_at-h.ensures, (coming c.loop-i.invariant.1 c.loop-i-test.true).on, roomy c)
+    (there_2 c, c.header_at-h.ensures, (coming c.loop.invariant c.loop-test.true).on, roomy c)
 
 pub size-at-requires : goal.size-at-requires
 size-at-requires c =
@@ -73,26 +73,17 @@ overflow_mul-to c =
 
 pub overflow_add-to : goal.overflow_add-to
 overflow_add-to c =
-    omega (arith, roomy_2 c, c.loop-i.invariant.1.ahead.long, c.well_formed)
+    omega (arith, roomy_2 c, c.loop.invariant.ahead.long, c.well_formed)
 
-pub overflow_add-i : goal.overflow_add-i
-overflow_add-i c =
-    omega (arith, c.loop-i-test.true, c.ranges.n)
-
-pub loop-i-smaller : goal.loop-i-smaller
-loop-i-smaller c = omega (arith, c.loop-i-test.true)
-
-pub loop-i-preserved : goal.loop-i-preserved
-loop-i-preserved c = (
-  omega (arith, c.loop-i-test.true),
-  points_more c.loop-i.invariant.1 c.loop-i-test.true _ c.header_at-h.ensures _ c.size-at.ensures _ c.put.ensures,
-)
+pub loop-preserved : goal.loop-preserved
+loop-preserved c =
+    points_more c.loop.invariant c.loop-test.true _ c.header_at-h.ensures _ c.size-at.ensures _ c.put.ensures
 
 pub shape_of-out : goal.shape_of-out
-shape_of-out c = c.loop-i.invariant.1.ahead.long
+shape_of-out c = c.loop.invariant.ahead.long
 
 pub returns : goal.returns
 unfolding joined
 returns c =
-    let done : c.loop-i.i ≡ c.args.n = omega arith in
-    filling_done points_made c.loop-i.invariant.1 done refl
+    let done : c.loop.counter ≡ c.args.n = omega arith in
+    filling_done points_made c.loop.invariant done refl

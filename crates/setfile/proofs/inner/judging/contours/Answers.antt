@@ -42,7 +42,6 @@ loop-i-init c =
     let s = c.args in
     let e : s.n ≡ s.n - 0 = omega arith in (
       record { here = c.requires; points_few = omega arith; shapes_few = omega arith },
-      omega arith,
       ap (λ (k : ℕ). summed s.second none_met 0 (contours_in (layout s.second) k true 0 (from_bit s.bytes.now 16))) e,
     )
 
@@ -56,16 +55,10 @@ returns-then-wrong-ne0 c =
     c.refused.ensures
     ∙ judged_faulty s.second s.bytes.now s.n l.i l.m (eqb l.i 0) c.loop-i-test.true
     _ c.contour_fault-wrong.ensures c.if-wrong-ne0.true
-    ∙ sym l.invariant.2
+    ∙ sym l.invariant.1
 
 pub met_more-m-requires : goal.met_more-m-requires
 met_more-m-requires c = (c.loop-i.invariant.0, there c)
-
-pub overflow_add-i : goal.overflow_add-i
-overflow_add-i c = omega arith
-
-pub loop-i-smaller : goal.loop-i-smaller
-loop-i-smaller c = omega arith
 
 pub loop-i-preserved : goal.loop-i-preserved
 loop-i-preserved c =
@@ -76,13 +69,12 @@ loop-i-preserved c =
     let r = right b (eqb l.i 0) l.m.points (from_bit f l.m.at) (sound c) in
     subst
     (λ (m : Met).
-    Within b f m × (l.i + 1 ≤ s.n)
+    Within b f m
     × (summed b none_met 0 (contours_in (layout b) s.n true 0 (from_bit f 16))
     ≡ summed b m (l.i + 1) (contours_in (layout b) (s.n - (l.i + 1)) (eqb (l.i + 1) 0) m.points (from_bit f m.at))))
     (sym c.met_more-m.ensures) (
       within_more b f s.n l.i l.m l.invariant.0 (there_2 c) r.counted r.some,
-      omega arith,
-      l.invariant.2 ∙ judged_more b f s.n l.i l.m (eqb l.i 0) c.loop-i-test.true (sound c),
+      l.invariant.1 ∙ judged_more b f s.n l.i l.m (eqb l.i 0) c.loop-i-test.true (sound c),
     )
 
 pub finished-requires : goal.finished-requires
@@ -95,6 +87,6 @@ returns c =
     let done : s.n ≡ l.i = omega arith in
     c.finished.ensures
     ∙ sym
-    (l.invariant.2
+    (l.invariant.1
     ∙ ap₂ (λ (k : ℕ) (w : Parsed). summed s.second l.m k w) (sym done)
     (none_left s.second (s.n - l.i) (eqb l.i 0) l.m.points (from_bit s.bytes.now l.m.at) (omega arith)))

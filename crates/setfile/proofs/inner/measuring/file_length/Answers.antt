@@ -47,7 +47,7 @@ short c =
     rw (sized c) (omega (arith, (countable_3 c).short, size_within (part s.points.now s.contours.now c.loop-k.k)))
 
 pub loop-k-init : goal.loop-k-init
-loop-k-init c = (omega arith, omega arith, refl, λ j l. absurd (omega arith), refl)
+loop-k-init c = (omega arith, refl, λ j l. absurd (omega arith), refl)
 
 pub named-contour-requires : goal.named-contour-requires
 named-contour-requires c = (c.requires.0 _ c.loop-k-test.true).0
@@ -60,14 +60,14 @@ overflow_cast-widths c = Fits-of_lt (omega (arith, narrow c))
 
 pub bounds-widths-k : goal.bounds-widths-k
 bounds-widths-k c =
-    omega (arith, c.loop-k.invariant.4, c.requires.2, c.loop-k-test.true)
+    omega (arith, c.loop-k.invariant.3, c.requires.2, c.loop-k-test.true)
 
 pub second_size-bits-requires : goal.second_size-bits-requires
 second_size-bits-requires c = (rw (same_numbers c.named-contour.ensures) (countable_2 c).short, omega (arith, narrow c))
 
 pub overflow_add-bits : goal.overflow_add-bits
 overflow_add-bits c =
-    omega (arith, short c, c.loop-k.invariant.1, c.requires.1, c.loop-k-test.true)
+    omega (arith, short c, c.loop-k.invariant.0, c.requires.1, c.loop-k-test.true)
 
 pub loop-k-preserved : goal.loop-k-preserved
 loop-k-preserved c =
@@ -75,22 +75,21 @@ loop-k-preserved c =
     let h = c.loop-k-test.true in
     let p = c.args.points.now in
     let cs = c.args.contours.now in (
-      omega (arith, h),
-      omega (arith, short c, v.1),
-      omega (arith, v.2, sized c, size_more p cs c.loop-k.k h (part p cs c.loop-k.k) refl),
-      widths_more (λ (j : ℕ). contour_width (part p cs j)) c.loop-k.widths c.loop-k.k c.width-width.result (omega (arith, v.4, c.requires.2, h)) v.3 (width_is c),
-      simp length-set v.4,
+      omega (arith, short c, v.0),
+      omega (arith, v.1, sized c, size_more p cs c.loop-k.k h (part p cs c.loop-k.k) refl),
+      widths_more (λ (j : ℕ). contour_width (part p cs j)) c.loop-k.widths c.loop-k.k c.width-width.result (omega (arith, v.3, c.requires.2, h)) v.2 (width_is c),
+      simp length-set v.3,
     )
 
 pub overflow_add-result : goal.overflow_add-result
 overflow_add-result c = omega (arith, c.requires.1)
 
 pub shape_of-widths : goal.shape_of-widths
-shape_of-widths c = c.loop-k.invariant.4
+shape_of-widths c = c.loop-k.invariant.3
 
 pub returns : goal.returns
 returns c =
     let l = c.loop-k in (
-      omega (arith, l.invariant.2, size_done c.args.points.now c.args.contours.now l.k (omega arith)),
-      record { all = omega (arith, l.invariant.4, c.requires.2); is = λ j h. l.invariant.3 j (omega arith) },
+      omega (arith, l.invariant.1, size_done c.args.points.now c.args.contours.now l.k (omega arith)),
+      record { all = omega (arith, l.invariant.3, c.requires.2); is = λ j h. l.invariant.2 j (omega arith) },
     )

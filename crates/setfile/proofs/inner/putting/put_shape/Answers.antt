@@ -11,7 +11,7 @@ pub loop-k-init : goal.loop-k-init
 loop-k-init c =
     let s = c.args in
     let pre = c.requires.2 in
-    (rw (first_contour (layout s.second) s.points.now s.ranges.now s.from s.to) (none_inked _ _ _ pre.small pre.room), pre.few, omega arith)
+    (rw (first_contour (layout s.second) s.points.now s.ranges.now s.from s.to) (none_inked _ _ _ pre.small pre.room), pre.few)
 
 pub named-contour-requires : goal.named-contour-requires
 named-contour-requires c = (c.requires.0 _ c.loop-k-test.true).0
@@ -31,7 +31,7 @@ put_contour-behind-requires c =
         small = v.0.wrote.small;
         few = v.1;
         room = bits_room v.0
-            (next_contour (layout c.args.second) c.args.points.now c.args.ranges.now c.args.from c.loop-k.k c.args.to v.2 h
+            (next_contour (layout c.args.second) c.args.points.now c.args.ranges.now c.args.from c.loop-k.k c.args.to c.loop-k.auto.k h
             (c.requires.0 _ h).0.there _ part);
       },
     )
@@ -41,11 +41,10 @@ loop-k-preserved c =
     let v = c.loop-k.invariant in
     let h = c.loop-k-test.true in (
       bits_inked v.0
-          (next_contour (layout c.args.second) c.args.points.now c.args.ranges.now c.args.from c.loop-k.k c.args.to v.2 h
+          (next_contour (layout c.args.second) c.args.points.now c.args.ranges.now c.args.from c.loop-k.k c.args.to c.loop-k.auto.k h
           (c.requires.0 _ h).0.there _ (same_numbers c.named-contour.ensures))
           c.put_contour-behind.ensures.wrote,
       c.put_contour-behind.ensures.few,
-      omega (arith, v.2),
     )
 
 pub shape_of-bytes : goal.shape_of-bytes

@@ -10,7 +10,3 @@ abbrev pub invariant-loop-k : goal.invariant-loop-k
 invariant-loop-k l =
     Inking l.initial.behind (shape_bits l.second l.points l.ranges l.from l.to) l.initial.bytes l.behind (all_coded (layout l.second) (marked (eqb l.k l.from) (between l.points l.ranges l.k l.to))) l.bytes
     × (l.behind.width ≤ most_kept l.second)
-    × (l.from ≤ l.k)
-
-abbrev pub decreases-loop-k : goal.decreases-loop-k
-decreases-loop-k l = l.to - l.k
