@@ -8,7 +8,7 @@ fn eight(bytes: &[u8], at: usize) -> u64
     requires { at + 8 ≤ length bytes.now }
     ensures { result ≡ word_of 8 (drop at bytes.now) }
 {
-    u64::from_be_bytes(*bytes[at..].first_chunk().unwrap())
+    u64::from_be_bytes(*bytes[at..at + 8].first_chunk().unwrap())
 }
 
 // The number in the `width` bits from bit `at` on, of a row of eight bytes or more: near its end it is cut out of the last eight.
