@@ -55,10 +55,11 @@ fn sift(bytes: &[u8], s: Sifted, i: usize, out: &mut [u8], list: &mut [[usize; 2
     let wrong = reason(on, begins | s.keeping);
     let behind = at + (2 + 8 * n);
     if wrong == 0 {
-        rows::inner::copy_bytes(&bytes[at..behind], out, s.to);
+        let to = s.to + (2 + 8 * n);
+        out[s.to..to].copy_from_slice(&bytes[at..behind]);
         return Sifted {
             at: behind,
-            to: s.to + (2 + 8 * n),
+            to,
             dropped: s.dropped,
             keeping: true,
         };
@@ -85,8 +86,7 @@ pub fn contours(bytes: &[u8], n: usize, out: &mut [u8], list: &mut [[usize; 2]])
         dropped: 0,
         keeping: false,
     };
-    let mut i: usize = 0;
-    while i < n {
+    for i in 0..n {
         let at = s.at;
         if !complete(bytes, at) {
             return Salvaged {
@@ -98,7 +98,6 @@ pub fn contours(bytes: &[u8], n: usize, out: &mut [u8], list: &mut [[usize; 2]])
             };
         }
         s = sift(bytes, s, i, out, list);
-        i += 1;
     }
     Salvaged {
         reply: replies::DONE,

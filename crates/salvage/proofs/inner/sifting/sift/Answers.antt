@@ -1,37 +1,22 @@
 -- `salvage::inner::sifting::sift` meets its contract.
-use mathlib.Core.Path.{◌≡◌}
-use lib.ListN.{drop}
+use Rattle.std.proofs.Common.{◌≡◌, ℕ, ◌+◌, ◌-◌, ◌*◌, List, ◌++◌, length, take, drop, sym, ap, ◌∙◌, ap₂, append_assoc, arith, length-take, length-drop, drop-drop}
 use Rattle.salvage.proofs.SiftLaws.{reason_is, sifts_kept, sifts_noted}
-use Rattle.setfile.specs.inside.Bytes.{front_entry}
-use Rattle.salvage.specs.Fates.{reason}
 use Rattle.salvage.proofs.inner.sifting.sift.Goals as goal
-
--- the contour that begins here is judged
-judged : (c : goal.After-struct_known-then-wrong-eq0-1) →
-    let s = c.args in
-    c.reason-wrong.result ≡ reason s.s.keeping (front_entry (drop s.s.at s.bytes.now))
-judged c =
-    let s = c.args in
-    reason_is s.bytes.now s.s.at _ _ _ s.s.keeping _
-    c.held-n.ensures c.starts-begins.ensures c.all_on-on.ensures c.reason-wrong.ensures
-
--- the contour that begins here is judged
-judged_2 : (c : goal.After-struct_known-2-1) →
-    let s = c.args in
-    c.reason-wrong.result ≡ reason s.s.keeping (front_entry (drop s.s.at s.bytes.now))
-judged_2 c =
-    let s = c.args in
-    reason_is s.bytes.now s.s.at _ _ _ s.s.keeping _
-    c.held-n.ensures c.starts-begins.ensures c.all_on-on.ensures c.reason-wrong.ensures
 
 pub returns-then-wrong-eq0 : goal.returns-then-wrong-eq0
 returns-then-wrong-eq0 c =
     let s = c.args in
-    sifts_kept s.bytes.now s.s s.i s.out.now s.list.now _ c.held-n.ensures _
-    (judged c) c.if-wrong-eq0.true c.copy_bytes.ensures
+    let judged = reason_is s.bytes.now s.s.at _ _ _ s.s.keeping _ c.held-n.ensures c.starts-begins.ensures c.all_on-on.ensures c.reason-wrong.ensures in
+    let part : List ℕ = take (s.s.at + (2 + 8 * c.held-n.result) - s.s.at) (drop s.s.at s.bytes.now) in
+    let n : s.s.to + (2 + 8 * c.held-n.result) - s.s.to ≡ length part =
+    omega (arith, length-take (s.s.at + (2 + 8 * c.held-n.result) - s.s.at) (drop s.s.at s.bytes.now), length-drop s.s.at s.bytes.now, c.requires.within, c.held-n.ensures) in
+    sifts_kept s.bytes.now s.s s.i s.out.now s.list.now _ c.held-n.ensures _ judged c.if-wrong-eq0.true
+    (ap₂ (λ (l : List ℕ) (m : ℕ). take s.s.to s.out.now ++ (l ++ drop m (drop s.s.to s.out.now))) c.copy_from_slice.ensures.after n
+    ∙ ap (λ (r : List ℕ). take s.s.to s.out.now ++ (part ++ r)) (drop-drop (length part) s.s.to s.out.now)
+    ∙ sym (append_assoc (take s.s.to s.out.now) part (drop (s.s.to + length part) s.out.now)))
 
 pub returns : goal.returns
 returns c =
     let s = c.args in
-    sifts_noted s.bytes.now s.s s.i s.out.now s.list.now _ c.held-n.ensures _
-    (judged_2 c) c.if-wrong-eq0.false _ c.starts-begins.ensures
+    let judged = reason_is s.bytes.now s.s.at _ _ _ s.s.keeping _ c.held-n.ensures c.starts-begins.ensures c.all_on-on.ensures c.reason-wrong.ensures in
+    sifts_noted s.bytes.now s.s s.i s.out.now s.list.now _ c.held-n.ensures _ judged c.if-wrong-eq0.false _ c.starts-begins.ensures
