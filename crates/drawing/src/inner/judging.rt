@@ -51,10 +51,8 @@ fn first_fault(kinds: &[u8], floats: &[f64]) -> u32
     ensures { result ≡ first_fault_of false (items kinds.now floats.now) }
 {
     let mut opened = false;
-    let mut at: usize = 0;
-    let mut i: usize = 0;
-    while i < kinds.len() {
-        let kind = kinds[i];
+    let mut at = 0;
+    for &kind in kinds {
         if command::CLOSE < kind {
             return replies::NO_DRAWING;
         }
@@ -64,7 +62,6 @@ fn first_fault(kinds: &[u8], floats: &[f64]) -> u32
         }
         opened = kind < command::CLOSE;
         at += command::brought(kind);
-        i += 1;
     }
     replies::DONE
 }
@@ -73,11 +70,9 @@ fn first_fault(kinds: &[u8], floats: &[f64]) -> u32
 fn places(kinds: &[u8]) -> usize
     ensures { 2 * result ≡ asked kinds.now }
 {
-    let mut n: usize = 0;
-    let mut i: usize = 0;
-    while i < kinds.len() {
-        n += (kinds[i] < command::CLOSE) as usize;
-        i += 1;
+    let mut n = 0;
+    for &kind in kinds {
+        n += usize::from(kind < command::CLOSE);
     }
     n
 }
