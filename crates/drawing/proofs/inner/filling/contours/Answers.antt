@@ -7,9 +7,6 @@ use Rattle.drawing.proofs.CommandLaws.{at_most_one}
 use Rattle.drawing.proofs.FillLaws.{sizes_counted, sizes_done}
 use Rattle.drawing.proofs.inner.filling.contours.Goals as goal
 
-pub overflow_add-n : goal.overflow_add-n
-overflow_add-n c = omega (arith, c.from-n.ensures, at_most_one (eqb (get_or c.args.kinds.now c.loop-kind.kind-index 0) 0))
-
 pub loop-kind-preserved : goal.loop-kind-preserved
 loop-kind-preserved c =
     let kinds = c.args.kinds.now in

@@ -1,10 +1,9 @@
 -- `drawing::inner::filling::points` meets its contract: what is written so far grows by a point.
-use mathlib.Core.Path.{◌≡◌, sym, ap, ap₂, ◌∙◌}
-use mathlib.Core.Bool.{Bool, ◌&&◌}
-use mathlib.Core.List.{List, map}
+use mathlib.Core.Path.{◌≡◌, sym, ap, ◌∙◌}
+use mathlib.Core.List.{List}
 use Prim.Native.Nat.{ℕ, ◌+◌, ◌*◌}
 use native.Mathlib.Omega.{arith}
-use lib.ListN.{length, get_or, drop, length-map}
+use lib.ListN.{get_or, drop, length-map}
 use lib.Seq.{get_or-drop}
 use lib.IntN.{pos}
 use lib.Ieee.{Float, nan}
@@ -12,11 +11,10 @@ use mir.Syntax.{w32}
 use mir.Val.{to_z, of_z}
 use borrow.Author.Rules.{rules}
 use Rattle.grid.specs.declared.Point.{Point}
-use Rattle.rows.proofs.RowLaws.{copied_all, placed_front}
 use Rattle.buffer.proofs.ListLaws.{map_at}
-use Rattle.millimetres.specs.Scale.{units, on_grid}
+use Rattle.millimetres.specs.Scale.{units}
 use Rattle.drawing.specs.Commands.{place_of}
-use Rattle.drawing.specs.inside.Rows.{on as on_place, point}
+use Rattle.drawing.specs.inside.Rows.{point}
 use Rattle.drawing.proofs.FillLaws.{copied_two}
 use Rattle.drawing.proofs.inner.filling.points.Goals as goal
 
@@ -26,15 +24,6 @@ first floats at = let z : at + 0 ≡ at = omega arith in get_or-drop at floats 0
 
 second : (floats : List Float) (at : ℕ) → get_or (drop at floats) 1 nan ≡ get_or floats (at + 1) nan
 second floats at = get_or-drop at floats 1 nan
-
-pub point_of-p-requires : goal.point_of-p-requires
-point_of-p-requires c =
-    let on = c.requires.0.on_grid in
-    let floats = c.args.floats.now in
-    let at = 2 * c.loop-i.i in
-    ap on_place c.place_from.ensures
-    ∙ ap₂ (λ (x y : Float). on_grid x && on_grid y) (first floats at) (second floats at)
-    ∙ ap₂ (λ (a b : Bool). a && b) (on at (omega arith)) (on (at + 1) (omega arith))
 
 pub loop-i-preserved : goal.loop-i-preserved
 loop-i-preserved c =
@@ -48,9 +37,3 @@ loop-i-preserved c =
     copied_two c.loop-i.invariant (omega (arith, c.requires.1)) (omega arith) (pos 0) _ _ at _ (omega arith) (omega arith)
     (x-back ∙ ap (λ (q : Point). q.x) is ∙ ap units (first floats at) ∙ sym (map_at units floats at (pos 0) nan (omega arith)))
     (y-back ∙ ap (λ (q : Point). q.y) is ∙ ap units (second floats at) ∙ sym (map_at units floats (at + 1) (pos 0) nan (omega arith)))
-
-pub returns : goal.returns
-returns c =
-    let s = c.args in
-    let done : 2 * c.loop-i.i ≡ length (map units s.floats.now) = omega (arith, length-map s.floats.now units, c.requires.0.even) in
-    copied_all _ _ _ c.loop-i.invariant done ∙ placed_front s.out.now (map units s.floats.now)

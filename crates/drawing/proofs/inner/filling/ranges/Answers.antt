@@ -1,9 +1,9 @@
 -- `drawing::inner::filling::ranges` meets its contract: the rest of the kinds makes what is still to be written.
-use mathlib.Core.Path.{◌≡◌, ap, ◌∙◌}
+use mathlib.Core.Path.{ap}
 use mathlib.Core.List.{List}
-use Prim.Native.Nat.{ℕ, suc, ◌+◌, ◌≤◌}
+use Prim.Native.Nat.{ℕ, ◌+◌, ◌≤◌}
 use native.Mathlib.Omega.{arith}
-use lib.ListN.{length, drop, length-map}
+use lib.ListN.{length, length-map}
 use Rattle.std.proofs.lemmas.Slice.{between_to_end}
 use Rattle.buffer.specs.Spans.{row, rows, laid}
 use Rattle.buffer.proofs.SetLaws.{laid-length}

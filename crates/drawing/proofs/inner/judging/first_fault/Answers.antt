@@ -1,11 +1,7 @@
 -- `drawing::inner::judging::first_fault` meets its contract: the first fault of the rest is that of the whole.
-use mathlib.Core.Path.{refl}
 use native.Mathlib.Omega.{arith}
 use Rattle.drawing.proofs.FaultLaws.{all_judged, judged_room, judged_no_kind, judged_wrong, judged_past}
 use Rattle.drawing.proofs.inner.judging.first_fault.Goals as goal
-
-pub loop-kind-init : goal.loop-kind-init
-loop-kind-init c = record { few = omega arith; told = refl }
 
 pub returns-then-kind-gt-CLOSE : goal.returns-then-kind-gt-CLOSE
 returns-then-kind-gt-CLOSE c = judged_no_kind c.loop-kind.invariant c.loop-kind-test.true c.if-kind-gt-CLOSE.true

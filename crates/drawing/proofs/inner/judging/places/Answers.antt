@@ -5,9 +5,6 @@ use lib.ListN.{get_or}
 use Rattle.drawing.proofs.CommandLaws.{brought_counted, at_most_one, asked_more, asked_done}
 use Rattle.drawing.proofs.inner.judging.places.Goals as goal
 
-pub overflow_add-n : goal.overflow_add-n
-overflow_add-n c = omega (arith, c.from-n.ensures, at_most_one (ltb (get_or c.args.kinds.now c.loop-kind.kind-index 0) 2))
-
 pub loop-kind-preserved : goal.loop-kind-preserved
 loop-kind-preserved c =
     let kinds = c.args.kinds.now in

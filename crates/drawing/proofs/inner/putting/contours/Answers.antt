@@ -1,15 +1,10 @@
 -- `drawing::inner::putting::contours` meets its contract: the kinds of the contours so far stand in front of the row.
-use mathlib.Core.Path.{◌≡◌, refl, ap, ◌∙◌}
-use mathlib.Core.List.{List, []}
-use Prim.Native.Nat.{◌+◌}
+use mathlib.Core.Path.{refl, ap, ◌∙◌}
+use mathlib.Core.List.{[]}
 use native.Mathlib.Omega.{arith}
 use lib.ListN.{length, get_or, take, length-append}
-use lib.Seq.{take_all}
-use Rattle.rows.specs.Rows.{front}
-use Rattle.buffer.specs.declared.ranges.Span.{Span}
 use Rattle.buffer.specs.Spans.{span, spans, size}
 use Rattle.buffer.specs.Sets.{joined}
-use Rattle.buffer.proofs.RowLaws.{spans-length}
 use Rattle.drawing.specs.inside.Rows.{contour_kinds, set_kinds}
 use Rattle.drawing.proofs.PutLaws.{kinds_more, kinds_within, kinds_put}
 use Rattle.drawing.proofs.inner.putting.contours.Goals as goal
@@ -34,9 +29,3 @@ loop-r-preserved c =
           ∙ kinds_put ranges i c.loop-r-test.true s.kinds.now c.loop-r.kinds c.loop-r.at
           c.loop-r.invariant.1 c.loop-r.invariant.0,
     )
-
-pub returns : goal.returns
-returns c =
-    let ranges = c.args.ranges.now in
-    let all : take c.loop-r.r-index (spans ranges) ≡ spans ranges = take_all c.loop-r.r-index (spans ranges) (omega (arith, spans-length ranges)) in
-    c.loop-r.invariant.1 ∙ ap (λ (l : List Span). front (set_kinds l) c.args.kinds.now) all

@@ -2,14 +2,12 @@
 use mathlib.Core.Path.{◌≡◌, sym, ap, ◌∙◌}
 use Prim.Native.Nat.{◌+◌, ◌*◌}
 use native.Mathlib.Omega.{arith}
-use lib.ListN.{length}
 use lib.Ieee.{nan}
 use Rattle.grid.specs.Points.{at as point_at}
-use Rattle.rows.proofs.RowLaws.{copied_all}
 use Rattle.drawing.specs.declared.command.Place.{Place}
 use Rattle.drawing.specs.Exporting.{place}
 use Rattle.drawing.proofs.FillLaws.{copied_two}
-use Rattle.drawing.proofs.PutLaws.{some_floats, some-length, some_at}
+use Rattle.drawing.proofs.PutLaws.{some-length, some_at}
 use Rattle.drawing.proofs.inner.putting.some_places.Goals as goal
 
 pub loop-i-preserved : goal.loop-i-preserved
@@ -26,10 +24,3 @@ loop-i-preserved c =
     copied_two c.loop-i.invariant (omega (arith, c.requires.1)) (omega (arith, c.loop-i-test.true))
     nan _ _ (2 * k) _ (omega arith) (omega arith)
     (ap (λ (p : Place). p.x) is ∙ sym first) (ap (λ (p : Place). p.y) is ∙ sym second)
-
-pub returns : goal.returns
-returns c =
-    let s = c.args in
-    let done : 2 * c.loop-i.i ≡ length (some_floats s.points.now s.from s.n c.requires.0) =
-    omega (arith, some-length s.points.now s.from s.n c.requires.0) in
-    copied_all _ _ _ c.loop-i.invariant done
