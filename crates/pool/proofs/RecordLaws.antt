@@ -1,10 +1,13 @@
 -- Records that are read one after the other.
 use mathlib.Core.Path.{◌≡◌, refl, sym, ◌∙◌, ap, subst}
-use mathlib.Core.Bool.{Bool, true, false, ◌&&◌, and_assoc, and-false}
+use mathlib.Core.Bool.{Bool, true, false, cond, ◌&&◌, and_assoc, and-false}
 use mathlib.Core.List.{List, [], ◌∷◌}
 use Prim.Native.Nat.{ℕ, zero, suc, ◌+◌, ◌-◌, ◌*◌, ◌≤◌, ◌<◌}
 use native.Mathlib.Omega.{arith}
 use native.Mathlib.Numerals.{add-one}
+use Rattle.std.specs.Prelude.{count_by}
+use Rattle.std.proofs.lemmas.Bool.Decides.{nat_tests}
+use Rattle.std.proofs.lemmas.List.Recursion.{is_count_by}
 use lib.Dec.{leb, eqb}
 use lib.ListN.{length, get_or, take, drop, drop_of_length-le, length-map}
 use lib.Seq.{drop-cons, length-take-le, get_or-take}
@@ -12,7 +15,7 @@ use borrow.Author.Tests.{eqb-true, eqb-false, leb-true, le-leb, eq-eqb, ne_eqb}
 use Rattle.integers.proofs.Logic.{and_left, and_right}
 use Rattle.buffer.specs.Spans as Spans
 use Rattle.buffer.proofs.ListLaws.{map_at}
-use Rattle.pool.specs.Lists.{holding}
+use Rattle.pool.specs.Lists.{holding, if_so}
 use Rattle.pool.specs.Rows.{Slot, slot, slots, span_of, follows, chained, if_mine, held_by}
 use Rattle.pool.specs.Outcome.{own_slots}
 use Rattle.pool.specs.inside.Records.{end_of, press_at, Found}
@@ -58,17 +61,13 @@ module _ {records : List (List ℕ)} {n press k i rest : ℕ} (fit : n ≤ lengt
   abbrev later : List Slot
   later = own_slots press (drop (i + 1) (take n (slots records)))
 
-  pub seeking_here : i < n → press_at records i ≡ press → rest ≡ 0 → Found press k n records (i + 1)
+  pub seeking_here : i < n → press_at records i ≡ press → rest ≡ 0 → Found press k n records i
   seeking_here h e z =
       let o = own_mine records n i fit press h e in
       record {
-        within = omega arith;
-        there = λ w. (
-          omega (arith, s.counts, ap length o),
-          ap (λ (j : ℕ). slot (get_or records j [])) (omega arith)
-              ∙ sym (s.is ∙ ap (λ (l : List Slot). get_or l rest (slot [])) o ∙ ap (λ (j : ℕ). get_or (slot (get_or records i []) ∷ later) j (slot [])) z),
-        );
-        absent = λ w. absurd (omega arith);
+        within = h;
+        there = omega (arith, s.counts, ap length o);
+        is = sym (s.is ∙ ap (λ (l : List Slot). get_or l rest (slot [])) o ∙ ap (λ (j : ℕ). get_or (slot (get_or records i []) ∷ later) j (slot [])) z);
       }
 
   pub seeking_past : i < n → press_at records i ≡ press → (rest ≡ 0 → ⊥) → Seeking records n press k (i + 1) (rest - 1)
@@ -86,12 +85,22 @@ module _ {records : List (List ℕ)} {n press k i rest : ℕ} (fit : n ≤ lengt
       let o = own_others records n i fit press h f in
       record { within = omega arith; counts = s.counts ∙ ap (λ (l : List Slot). length l + k) o; is = s.is ∙ ap (λ (l : List Slot). get_or l rest (slot [])) o }
 
-  pub seeking_none : n ≤ i → Found press k n records 0
-  seeking_none h = record {
-    within = omega arith;
-    there = λ w. absurd (omega arith);
-    absent = λ w. omega (arith, s.counts, ap length (own_done records n i fit press h));
-  }
+  pub seeking_none : n ≤ i → length (own_slots press (take n (slots records))) ≤ k
+  seeking_none h = omega (arith, s.counts, ap length (own_done records n i fit press h))
+
+eqb-comm : (m n : ℕ) → eqb m n ≡ eqb n m
+eqb-comm m n = grind (arith, nat_tests)
+
+-- a press's records, counted in the row
+counted_first : (t : Bool) (s : Slot) (l : List Slot) → length (if_so t s l) ≡ cond t (1 + length l) (length l)
+counted_first true s l = omega arith
+counted_first false s l = refl
+
+pub own_counted : (press : ℕ) (records : List (List ℕ)) → length (own_slots press (slots records)) ≡ count_by (λ r. eqb (get_or r 3 0) press) records
+unfolding own_slots
+own_counted press =
+    is_count_by (λ l. length (own_slots press (slots l))) (λ r. eqb (get_or r 3 0) press) refl
+    (λ r l. rw (eqb-comm (get_or r 3 0) press) (counted_first (eqb press (get_or r 3 0)) (slot r) (own_slots press (slots l))))
 
 -- what the first of sound records says
 pub record Next (places p : ℕ) (s : Slot) (l : List Slot) : Type 0 where

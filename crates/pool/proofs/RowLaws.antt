@@ -4,9 +4,8 @@ use mathlib.Core.List.{List, [], ◌∷◌, ◌++◌, map, append_assoc, map-app
 use Prim.Native.Nat.{ℕ, zero, suc, ◌+◌, ◌-◌, ◌≤◌, ◌<◌}
 use native.Mathlib.Omega.{arith}
 use lib.ListN.{length, get_or, set, take, drop, length-append, length-map, length-drop}
-use lib.Seq.{take_at, drop_at, drop-paste, get_or-drop, get_or-take, length-take-le}
+use lib.Seq.{paste, take_at, drop_at, drop-paste, get_or-drop, get_or-take, length-take-le}
 use Rattle.rows.specs.Rows.{front, placed}
-use Rattle.rows.proofs.RowLaws.{Copied}
 
 module _ {A B : Type 0} (f : A → B) where
   pub map-drop : (n : ℕ) (l : List A) → map f (drop n l) ≡ drop n (map f l)
@@ -49,15 +48,15 @@ module _ {A : Type 0} where
       ∙ take_at b rest m k
 
 -- a row to which i elements of a list were copied is ahead of them as it was
-module _ {A : Type 0} (row₀ : List A) (at : ℕ) (l : List A) where
-  pub ahead : {row : List A} {i : ℕ} → Copied row₀ at l row i → (m : ℕ) (d : A) → at ≤ length row₀ → at + i ≤ m → get_or row m d ≡ get_or row₀ m d
-  ahead {row} {i} c m d h k =
-      let e : at + i + (m - (at + i)) ≡ m = omega arith in
-      ap (λ (n : ℕ). get_or row n d) (sym e)
-      ∙ sym (get_or-drop (at + i) row (m - (at + i)) d)
-      ∙ ap (λ (r : List A). get_or r (m - (at + i)) d) (ap (drop (at + i)) c.is ∙ drop-paste row₀ at l i h c.within)
-      ∙ get_or-drop (at + i) row₀ (m - (at + i)) d
-      ∙ ap (λ (n : ℕ). get_or row₀ n d) e
+pub ahead : {A : Type 0} (row : List A) (at : ℕ) (l : List A) (i m : ℕ) (d : A) → at ≤ length row → i ≤ length l → at + i ≤ m
+    → get_or (paste row at l i) m d ≡ get_or row m d
+ahead {A} row at l i m d h w k =
+    let e : at + i + (m - (at + i)) ≡ m = omega arith in
+    ap (λ (n : ℕ). get_or (paste row at l i) n d) (sym e)
+    ∙ sym (get_or-drop (at + i) (paste row at l i) (m - (at + i)) d)
+    ∙ ap (λ (r : List A). get_or r (m - (at + i)) d) (drop-paste row at l i h w)
+    ∙ get_or-drop (at + i) row (m - (at + i)) d
+    ∙ ap (λ (n : ℕ). get_or row n d) e
 
 -- a part of a row, by its length and its elements
 module _ {A : Type 0} (row : List A) (from n : ℕ) where

@@ -115,9 +115,9 @@ pub fn contour_of<'a>(
     if !found.sound {
         return &points[..0];
     }
-    let at = records::find(records, contours, survey::number(second), k);
-    if at == 0 {
+    let Some(at) = records::find(records, contours, survey::number(second), k) else {
         return &points[..0];
-    }
-    inner::parts::named(points, records, at - 1)
+    };
+    let [start, end, ..] = records[at];
+    buffer::inner::parts::between(points, start, end)
 }

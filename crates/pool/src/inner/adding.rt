@@ -17,12 +17,7 @@ fn full(mine: usize, others: usize, n: usize) -> bool
     requires { (mine ≤ capacity) × (others ≤ capacity) × (n ≤ most) }
     ensures { result ≡ ltb (capacity - max others reserve) (mine + holding n) }
 {
-    let part = if others < records::RESERVE {
-        records::RESERVE
-    } else {
-        others
-    };
-    records::CAPACITY - part < mine + records::holding(n)
+    records::CAPACITY - others.max(records::RESERVE) < mine + records::holding(n)
 }
 
 // What adding asks: 0, or the number of its first refusal.

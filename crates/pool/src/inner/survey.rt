@@ -19,7 +19,7 @@ pub struct Survey {
 pub fn number(second: bool) -> usize
     ensures { result ≡ number_of_lem second }
 {
-    if second { 1 } else { 0 }
+    usize::from(second)
 }
 
 // What a press holds.
@@ -57,26 +57,23 @@ pub fn surveyed(points: &[i32], records: &[[usize; 4]], n: usize) -> Survey
     if records.len() < n {
         return unsound();
     }
-    let mut at: usize = 0;
-    let mut all: usize = 0;
-    let mut second: usize = 0;
-    let mut i: usize = 0;
-    while i < n {
-        let end = records[i][1];
-        let press = records[i][3];
-        if !records::follows(at, places, records[i][0], end, records[i][2], press) {
-            break;
+    let mut at = 0;
+    let mut all = 0;
+    let mut second = 0;
+    for record in &records[..n] {
+        if !records::follows(at, places, *record) {
+            return unsound();
         }
+        let [_, end, _, press] = *record;
         let size = records::holding(end - at);
         all += size;
         // The press is 0 or 1.
         second += press * size;
         at = end;
-        i += 1;
     }
     let first = all - second;
     Survey {
-        sound: (i == n) & fair(first, second),
+        sound: fair(first, second),
         points: at,
         first,
         second,
