@@ -123,9 +123,9 @@ pub fn zero_scratch(next: &mut [u32], prev: &mut [u32], mark: &mut [u8])
     ensures { Zeroed next.old prev.old mark.old
         next.new prev.new mark.new }
 {
-    rows::inner::zero(next);
-    rows::inner::zero(prev);
-    rows::inner::zero_bytes(mark);
+    next.fill(0);
+    prev.fill(0);
+    mark.fill(0);
 }
 
 // The shapes in front of the rows, with the scratch zeroed after them.
