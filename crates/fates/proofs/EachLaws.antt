@@ -15,8 +15,7 @@ use Rattle.buffer.specs.Spans.{span, spans, sound_from}
 use Rattle.buffer.specs.Sets.{contours, shapes}
 use Rattle.buffer.proofs.SpanLaws.{first_starts, first_forward, others_sound, ends_at, rises}
 use Rattle.sets.specs.inside.Shape.{Named}
-use Rattle.sets.proofs.ShapeLaws.{names_moved}
-use Rattle.sets.proofs.EachLaws.{shape_part}
+use Rattle.sets.proofs.EachLaws.{shape_part, named_part}
 use Rattle.fates.specs.Fates.{shape_fates, fates}
 use Rattle.fates.specs.inside.Telling.{Tellable, Each}
 
@@ -60,18 +59,10 @@ module _ {rule : Rule} {p : List ℤ} {cs ss : List (List ℕ)} {row₀ : List �
     pub ends_in_row : to ≤ length row
     ends_in_row = omega (arith, ends, x.long)
 
-    own_named : Named p cs → Named p (mid_of at (to - at) cs)
-    own_named n = record {
-      domain = n.domain;
-      names = λ j l.
-          let m = mid_len at to cs ends in
-          names_moved p cs (mid_of at (to - at) cs) (at + j) j (get_or-take (to - at) (drop at cs) j [] (omega arith) ∙ get_or-drop at cs j []) l (n.names (at + j) (omega (arith, ends)));
-    }
-
     pub own_tellable : {next₀ prev₀ mark₀ : List ℕ} → Tellable p cs next₀ prev₀ mark₀ row₀ → (next prev mark : List ℕ) → length next ≡ length next₀ → length prev ≡ length prev₀ → length mark ≡ length mark₀
         → Tellable p (mid_of at (to - at) cs) next prev mark (mid_of at (to - at) row)
     own_tellable g next prev mark e f m = record {
-      named = own_named g.named;
+      named = named_part p cs g.named at (to - at) (omega (arith, forward, ends));
       scratch = record { in_next = omega (arith, g.scratch.in_next); in_prev = omega (arith, g.scratch.in_prev); in_mark = omega (arith, g.scratch.in_mark) };
       long = mid_len at to row ends_in_row ∙ sym (mid_len at to cs ends);
     }

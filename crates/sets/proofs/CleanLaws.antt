@@ -1,8 +1,8 @@
 -- What cleaning a shape, and cleaning shapes, comes to.
-use Rattle.std.proofs.Common.{◌≡◌, ℕ, zero, suc, ◌*◌, ◌^◌, ◌<◌, ◌≤◌, Bool, true, false, not, ◌&&◌, leb, List, [], ◌++◌, map, length, take, drop, replicate, ℤ, sym, refl, ap, ◌∙◌, ap₂, arith, length-take-le, ltb-false, le-leb, leb-true}
+use Rattle.std.proofs.Common.{◌≡◌, ℕ, zero, suc, ◌*◌, ◌^◌, ◌<◌, ◌≤◌, Bool, true, ◌&&◌, leb, List, [], ◌++◌, map, length, take, drop, replicate, ℤ, sym, refl, ap, ◌∙◌, ap₂, arith, length-take-le, ltb-false, le-leb, leb-true}
 use mathlib.Core.Bool.{and-true}
 use lib.ListN.{length-replicate, length-map}
-use borrow.Author.Tests.{not-true, not-false}
+use borrow.Author.Tests.{not-false}
 use Rattle.integers.proofs.Logic.{and_left, and_right}
 use Rattle.replies.specs.Ladder.{Rung, first_of, room, so_far}
 use Rattle.grid.specs.Limits.{limit, narrow}
@@ -19,7 +19,6 @@ use Rattle.buffer.proofs.RefusalLaws.{Accepted, accepted}
 use Rattle.rows.proofs.RowLaws.{placed_front}
 use Rattle.buffer.proofs.Theorems.{a_sound_set's_contours_laid_end_to_end_are_its_points, a_sound_set's_shapes_laid_end_to_end_are_its_contours}
 use Rattle.sets.specs.declared.cleaning.CleanedSet.{CleanedSet}
-use Rattle.sets.specs.declared.inner.contour.Progress.{Progress}
 use Rattle.sets.specs.declared.inner.contour.Tried.{Tried}
 use Rattle.sets.specs.declared.inner.shapes.Total.{Total}
 use Rattle.sets.specs.Fates.{ShapeFate, shape_fate, shapes_fate}
@@ -51,13 +50,6 @@ zeroed_whole z e f g = record {
   prev-zero = z.prev-zero ∙ ap (λ (n : ℕ). replicate n 0) f;
   mark-zero = z.mark-zero ∙ ap (λ (n : ℕ). replicate n 0) g;
 }
-
--- the answer of a shape, by whether it stands
-pub answered_fallen : (b : Bool) (at : Progress) (a : CleanedSet) → a ≡ answer 7 0 0 0 at.decisions at.turns → not b ≡ true → a ≡ shape_answer b at
-answered_fallen b at a e n = e ∙ ap (λ (t : Bool). shape_answer t at) (sym (not-true b n))
-
-pub answered_kept : (b : Bool) (at : Progress) → not b ≡ false → answer 0 at.points at.contours 1 at.decisions at.turns ≡ shape_answer b at
-answered_kept b at n = ap (λ (t : Bool). shape_answer t at) (sym (not-false b n))
 
 -- a set and the rows that are lent; its ranges are sound, or not
 module _ (p : List ℤ) (cs ss : List (List ℕ)) (ok : Bool) (l : Lent) where

@@ -31,11 +31,8 @@ pub fn has(points: &[i32], ranges: &[[usize; 2]], p: Point) -> bool
     requires { Asked points.now ranges.now p }
     ensures { result ≡ has_point p (contours points.now (spans ranges.now)) }
 {
-    if ranges.len() == 0 {
+    if ranges.is_empty() {
         return false;
     }
-    if location(points, ranges, 0, p) == path::OUTSIDE {
-        return false;
-    }
-    inside_no_later(points, ranges, p)
+    location(points, ranges, 0, p) != path::OUTSIDE && inside_no_later(points, ranges, p)
 }

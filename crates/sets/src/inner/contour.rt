@@ -71,30 +71,25 @@ fn note(cleaned: Cleaned, at: Progress, records: &mut [[usize; 2]]) -> Tried
     ensures { noted result records.new
         ≡ noting cleaned.reply cleaned at records.old }
 {
-    let start = at.points;
-    let k = at.contours;
-    let decisions = at.decisions + cleaned.decisions;
-    let turns = at.turns + cleaned.turns;
+    let counted = Progress {
+        decisions: at.decisions + cleaned.decisions,
+        turns: at.turns + cleaned.turns,
+        ..at
+    };
     if cleaned.reply != 0 {
         return Tried {
             stays: false,
-            progress: Progress {
-                points: start,
-                contours: k,
-                decisions,
-                turns,
-            },
+            progress: counted,
         };
     }
-    let end = start + cleaned.points;
-    records[k] = [start, end];
+    let end = at.points + cleaned.points;
+    records[at.contours] = [at.points, end];
     Tried {
         stays: true,
         progress: Progress {
             points: end,
-            contours: k + 1,
-            decisions,
-            turns,
+            contours: at.contours + 1,
+            ..counted
         },
     }
 }

@@ -1,6 +1,5 @@
 // The sum of the areas of a set's contours, and its half.
 ghost use Rattle.std.specs.Prelude.{◌≡◌, []};
-ghost use Rattle.integers.specs.Modulo.{mod64};
 ghost use Rattle.replies.specs.Ladder.{first_of, so_far};
 ghost use Rattle.buffer.specs.Spans.{spans};
 ghost use Rattle.buffer.specs.Sets.{contours};
@@ -10,25 +9,13 @@ ghost use Rattle.sets.specs.Area.{doubled_by, half_of};
 use area::Area;
 use buffer::inner::parts;
 
-// The bits of a number, as those of a number without sign.
-fn bits(t: i64) -> u64
-    ensures { result ≡ mod64 t }
-{
-    if t < 0 {
-        18_446_744_073_709_551_615 - (-1 - t) as u64
-    } else {
-        t as u64
-    }
-}
-
 // The sum of the contours' doubled areas, of a set that no call refuses; refused where one is empty.
 fn total(points: &[i32], ranges: &[[usize; 2]]) -> Area
     requires { first_of (refusals points.now ranges.now) ≡ 0 }
     ensures { result ≡ doubled_by [] (contours points.now (spans ranges.now)) }
 {
-    let mut sum: u64 = 0;
-    let mut i: usize = 0;
-    while i < ranges.len() {
+    let mut sum: i64 = 0;
+    for i in 0..ranges.len() {
         let contour = parts::named(points, ranges, i);
         if contour.len() / 2 == 0 {
             return Area {
@@ -36,12 +23,11 @@ fn total(points: &[i32], ranges: &[[usize; 2]]) -> Area
                 value: 0,
             };
         }
-        sum = std::num::wrapping_add_u64(sum, bits(area::inner::doubled_area(contour)));
-        i += 1;
+        sum = sum.wrapping_add(area::inner::doubled_area(contour));
     }
     Area {
         reply: replies::DONE,
-        value: integers::signed_64(sum),
+        value: sum,
     }
 }
 

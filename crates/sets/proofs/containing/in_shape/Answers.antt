@@ -22,13 +22,6 @@ returns-then-not-point_on_grid c =
     let ey : to_z w32 (of_z w32 c.args.y) ≡ c.args.y = search rules in
     asked_off _ _ _ _ (sym c.refused-refusal.ensures ∙ c.if-refusal-ne0.false) (sym (c.point_on_grid.ensures ∙ ap (on limit) (asked ex ey)) ∙ c.if-not-point_on_grid.true)
 
-pub has-requires : goal.has-requires
-has-requires c =
-    record {
-      taken = sym c.refused-refusal.ensures ∙ c.if-refusal-ne0.false;
-      on_grid = sym c.point_on_grid.ensures ∙ c.if-not-point_on_grid.false;
-    }
-
 pub returns : goal.returns
 returns c =
     let ex : to_z w32 (of_z w32 c.args.x) ≡ c.args.x = search rules in

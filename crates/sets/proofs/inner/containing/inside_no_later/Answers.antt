@@ -1,5 +1,5 @@
 -- `sets::inner::containing::inside_no_later` meets its contract.
-use Rattle.std.proofs.Common.{◌-◌, not, ◌==◌, List, [], get_or, length, ℤ, refl, ◌∙◌, rules, tests}
+use Rattle.std.proofs.Common.{◌-◌, not, [], get_or, length, refl, ◌∙◌, rules, tests}
 use Rattle.std.proofs.lemmas.Iterator.{YieldsList-from_range}
 use Rattle.std.proofs.lemmas.Iterator.Search.{all_from_yields_List}
 use Rattle.buffer.specs.Spans.{span}

@@ -6,8 +6,5 @@ use Rattle.sets.proofs.inner.sums.asked.Goals as goal
 pub returns-then-refusal-ne0 : goal.returns-then-refusal-ne0
 returns-then-refusal-ne0 c = set_refused _ _ c.if-refusal-ne0.true
 
-pub total-requires : goal.total-requires
-total-requires c = c.requires c.if-refusal-ne0.false
-
 pub returns : goal.returns
 returns c = c.total.ensures ∙ set_taken _ _ c.if-refusal-ne0.false
