@@ -19,14 +19,14 @@ pub const NARROW: u32 = 536_870_912;
 // The most points of a contour or a set.
 pub const MOST: usize = 65_536;
 
-#[derive(Clone, Copy)]
+#[derive(Clone, Copy, PartialEq, Eq)]
 pub struct Point {
     pub x: i32,
     pub y: i32,
 }
 
 // An edge: how far it goes in x and in y.
-#[derive(Clone, Copy)]
+#[derive(Clone, Copy, PartialEq, Eq)]
 pub struct Edge {
     pub dx: i64,
     pub dy: i64,

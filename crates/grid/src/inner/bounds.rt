@@ -13,8 +13,8 @@ fn beyond(bound: u32, x: i32) -> bool
     requires { bound ≤ limit }
     ensures { result ≡ not (on_grid bound x) }
 {
-    let set_off = std::num::wrapping_add_u32(integers::bits_32(x), TOP + bound);
-    integers::signed_32(TOP + 2 * bound) < integers::signed_32(set_off)
+    let set_off = x.cast_unsigned().wrapping_add(TOP + bound);
+    (TOP + 2 * bound).cast_signed() < set_off.cast_signed()
 }
 
 // Whether a coordinate is within the bound.
@@ -30,13 +30,7 @@ fn some_beyond(bound: u32, row: &[i32]) -> bool
     requires { bound ≤ limit }
     ensures { result ≡ not (all_on_grid bound row.now) }
 {
-    let mut some = false;
-    let mut i: usize = 0;
-    while i < row.len() {
-        some = some | beyond(bound, row[i]);
-        i += 1;
-    }
-    some
+    row.iter().fold(false, |some, x| some | beyond(bound, *x))
 }
 
 // Whether every coordinate is within the bound. Most contours are boxes: of four to eight numbers the first four and the last
