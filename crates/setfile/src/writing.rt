@@ -1,9 +1,11 @@
 // The writer of edition 1: a set's file, or the number of the set's first refusal.
-ghost use Rattle.std.specs.Prelude.{◌≡◌, length};
-ghost use Rattle.replies.specs.Ladder.{first_of};
+ghost use Rattle.std.specs.Prelude.{◌≡◌, ◌≤◌, length as length_of, nat_le, IfSome};
+ghost use Rattle.std.specs.Option.{is_some};
+ghost use Rattle.replies.specs.Ladder.{first_of, room};
 ghost use Rattle.grid.specs.Domain.{count};
 ghost use Rattle.setfile.specs.Format.{file_length};
-ghost use Rattle.setfile.specs.Writing.{refusals, leaving, outcome};
+ghost use Rattle.setfile.specs.Writing.{refusals, leaving, written, outcome};
+ghost use Rattle.setfile.specs.inside.Writing.{file_with, Ripe, Widths};
 
 use crate::answer::Written;
 use crate::inner::{measuring, putting};
@@ -11,7 +13,7 @@ use crate::{MOST_BYTES, MOST_CONTOURS};
 
 // How many bytes the file of a set has.
 fn file_length(points: &[i32], contours: &[[usize; 2]]) -> usize
-    ensures { result ≡ file_length (length contours.now) (count points.now) }
+    ensures { result ≡ file_length (length_of contours.now) (count points.now) }
 {
     2 + 2 * contours.len() + 8 * (points.len() / 2)
 }
@@ -37,6 +39,40 @@ fn refused(points: &[i32], contours: &[[usize; 2]], shapes: &[[usize; 2]]) -> u3
     replies::DONE
 }
 
+// Nothing was written.
+pub fn nothing(reply: u32) -> Written
+    ensures { result ≡ record { reply = reply; bytes = 0 } }
+{
+    Written { reply, bytes: 0 }
+}
+
+// Writes the file of a set, of so many bytes, to the front of the row where it has room: in edition 2 where the widths of its
+// contours are given, else in edition 1.
+pub fn put_in_room(
+    points: &[i32],
+    contours: &[[usize; 2]],
+    shapes: &[[usize; 2]],
+    widths: Option<&[u8]>,
+    length: usize,
+    bytes: &mut [u8],
+) -> Written
+    requires { (length ≤ length_of bytes.old → Ripe (is_some widths) points.now contours.now shapes.now bytes.old)
+        × IfSome widths (λ w. Widths points.now contours.now (length_of contours.now) w.now) }
+    ensures { leaving result.reply result.bytes bytes.new
+        ≡ written (first_of (room (nat_le length (length_of bytes.old))))
+        (file_with (is_some widths.entry) points.now contours.now shapes.now)
+        bytes.old }
+{
+    if bytes.len() < length {
+        return nothing(replies::ROOM);
+    }
+    let n = putting::put_file(points, contours, shapes, widths, bytes);
+    Written {
+        reply: replies::DONE,
+        bytes: n,
+    }
+}
+
 // Writes the file of a set to the front of the row, unless the set is refused.
 pub fn write(
     points: &[i32],
@@ -48,23 +84,10 @@ pub fn write(
         ≡ outcome points.now contours.now shapes.now
         bytes.old }
 {
-    let length = file_length(points, contours);
     let refusal = refused(points, contours, shapes);
     if refusal != 0 {
-        return Written {
-            reply: refusal,
-            bytes: 0,
-        };
+        return nothing(refusal);
     }
-    if bytes.len() < length {
-        return Written {
-            reply: replies::ROOM,
-            bytes: 0,
-        };
-    }
-    let written = putting::put_file(false, points, contours, shapes, b"", bytes);
-    Written {
-        reply: replies::DONE,
-        bytes: written,
-    }
+    let length = file_length(points, contours);
+    put_in_room(points, contours, shapes, None, length, bytes)
 }

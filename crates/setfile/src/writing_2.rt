@@ -5,7 +5,8 @@ ghost use Rattle.setfile.specs.Writing.{leaving};
 ghost use Rattle.setfile.specs.Writing2.{set_refusals, outcome};
 
 use crate::answer::Written;
-use crate::inner::{measuring, putting};
+use crate::inner::measuring;
+use crate::writing::{nothing, put_in_room};
 use crate::{MOST_BYTES, MOST_CONTOURS};
 
 // The most points of a contour in a file.
@@ -40,28 +41,12 @@ pub fn write_2(
 {
     let refusal = refused(points, contours, shapes);
     if refusal != 0 {
-        return Written {
-            reply: refusal,
-            bytes: 0,
-        };
+        return nothing(refusal);
     }
     let mut widths = [0u8; MOST_CONTOURS];
     let length = measuring::file_length(points, contours, &mut widths);
     if MOST_BYTES < length {
-        return Written {
-            reply: replies::TOO_MANY,
-            bytes: 0,
-        };
+        return nothing(replies::TOO_MANY);
     }
-    if bytes.len() < length {
-        return Written {
-            reply: replies::ROOM,
-            bytes: 0,
-        };
-    }
-    let written = putting::put_file(true, points, contours, shapes, &widths, bytes);
-    Written {
-        reply: replies::DONE,
-        bytes: written,
-    }
+    put_in_room(points, contours, shapes, Some(&widths), length, bytes)
 }
