@@ -50,7 +50,7 @@ pub fn compare(
     if second != 0 {
         return refused(second, 2);
     }
-    let n = turned::inner::larger(ranges.len(), other_ranges.len());
+    let n = ranges.len().max(other_ranges.len());
     if listing.len() < n {
         return refused(replies::ROOM, 0);
     }

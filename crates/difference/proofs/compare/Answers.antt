@@ -17,7 +17,7 @@ pub returns-then-listing-n : goal.returns-then-listing-n
 returns-then-listing-n c =
     let s = c.args in
     no_room s.points.now s.ranges.now s.others.now s.other_ranges.now _
-    c.refused-first.ensures c.if-first-ne0.false c.refused-second.ensures c.if-second-ne0.false c.larger-n.ensures
+    c.refused-first.ensures c.if-first-ne0.false c.refused-second.ensures c.if-second-ne0.false c.max-n.ensures
     c.if-listing-n.true c.refused-then-listing-n.ensures
 
 pub fill-requires : goal.fill-requires
@@ -25,12 +25,12 @@ fill-requires c =
     let s = c.args in (
       is_sound s.points.now s.ranges.now c.refused-first.ensures c.if-first-ne0.false,
       is_sound s.others.now s.other_ranges.now c.refused-second.ensures c.if-second-ne0.false,
-      record { larger = c.larger-n.ensures; room = c.if-listing-n.false },
+      record { larger = c.max-n.ensures; room = c.if-listing-n.false },
     )
 
 pub returns : goal.returns
 returns c =
     let s = c.args in
     listed_all s.points.now s.ranges.now s.others.now s.other_ranges.now _
-    c.refused-first.ensures c.if-first-ne0.false c.refused-second.ensures c.if-second-ne0.false c.larger-n.ensures c.if-listing-n.false
+    c.refused-first.ensures c.if-first-ne0.false c.refused-second.ensures c.if-second-ne0.false c.max-n.ensures c.if-listing-n.false
     c.fill.ensures

@@ -28,14 +28,8 @@ pub fn of_two(first: &[i32], second: &[i32]) -> Line
 {
     let m = first.len() / 2;
     let n = second.len() / 2;
-    if m < n {
-        return Line {
-            kind: kind::DIFFERENT,
-            place: first_other(first, second, m),
-        };
-    }
-    let d = first_other(first, second, n);
-    if n < m {
+    let d = first_other(first, second, m.min(n));
+    if m != n {
         return Line {
             kind: kind::DIFFERENT,
             place: d,

@@ -68,10 +68,8 @@ pub fn fill(
         (written (lines_of points.now ranges.now others.now other_ranges.now))
         listing.old }
 {
-    let mut k: usize = 0;
-    while k < n {
+    for k in 0..n {
         let line = line_at(points, ranges, others, other_ranges, k);
         listing[k] = [line.kind, line.place];
-        k += 1;
     }
 }

@@ -3,9 +3,6 @@ use native.Mathlib.Omega.{arith}
 use Rattle.difference.proofs.LineLaws.{other_is}
 use Rattle.difference.proofs.inner.lines.first_other.Goals as goal
 
-pub level-requires : goal.level-requires
-level-requires c = (omega (arith, c.requires.0.long), omega (arith, c.requires.1.long))
-
 pub returns : goal.returns
 returns c =
     other_is c.args.first.now c.args.second.now c.args.n _ c.requires.0.on c.requires.1.on c.level.ensures
