@@ -14,10 +14,8 @@ fn put(points: &[i32], i: usize, out: &mut [i32], k: usize)
         ≡ set (set out.old (2 * k) (get_or points.now (2 * i) (pos 0)))
         (2 * k + 1) (get_or points.now (2 * i + 1) (pos 0)) }
 {
-    let x = points[2 * i];
-    let y = points[2 * i + 1];
-    out[2 * k] = x;
-    out[2 * k + 1] = y;
+    out[2 * k] = points[2 * i];
+    out[2 * k + 1] = points[2 * i + 1];
 }
 
 // How many points survive, and how many of them are marked.
@@ -33,18 +31,13 @@ fn write(points: &[i32], mark: &[u8], out: &mut [i32]) -> Survived
     requires points_in_bounds { length points.now ≤ length out.old }
     ensures { WrittenOut points.now mark.now out.old result out.new }
 {
-    let mut kept: usize = 0;
-    let mut marked: usize = 0;
-    let mut i: usize = 0;
-    while i < mark.len() {
-        let own = mark[i];
-        if own < 2 {
+    let mut kept = 0;
+    let mut marked = 0;
+    for (i, own) in mark.iter().enumerate() {
+        if *own < 2 {
             put(points, i, out, kept);
             kept += 1;
-            marked += own as usize;
-            i += 1;
-        } else {
-            i += 1;
+            marked += usize::from(*own);
         }
     }
     Survived {
@@ -138,8 +131,8 @@ pub fn sweep(
     ensures swept { Swept (length mark.old) next.new prev.new mark.new }
 {
     let cleaned = settle(rule, points, next, prev, mark, out);
-    rows::inner::zero(next);
-    rows::inner::zero(prev);
-    rows::inner::zero_bytes(mark);
+    next.fill(0);
+    prev.fill(0);
+    mark.fill(0);
     cleaned
 }
