@@ -110,6 +110,9 @@ pub record Told (s : Bool) (f : List ℕ) (j : Judged) (r : ℕ) : Type 0 where
   pub judgement : Judgement s f j
   pub with_room : r ≡ first_of (so_far j.reply ++ room (leb j.points most_listed))
 
+pub told : {s : Bool} {f : List ℕ} {j : Judged} {r : ℕ} → s ≡ is_second f → Judgement s f j → r ≡ first_of (so_far j.reply ++ room (leb j.points most_listed)) → Told s f j r
+told a b c = record { own = a; judgement = b; with_room = c }
+
 module _ {s : Bool} {f : List ℕ} {j : Judged} {r : ℕ} (file : Told s f j r) where
   pub refusal_is : r ≡ first_of (listing_refusals f)
   refusal_is = go j.reply refl file.with_room

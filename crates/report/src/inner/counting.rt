@@ -25,17 +25,8 @@ fn survivors(mark: &[u8]) -> usize
     requires { length mark.now ≤ 8192 }
     ensures { result ≡ length (survivors_of mark.now) }
 {
-    let mut kept: u16 = 0;
-    let mut i: usize = 0;
-    while i < mark.len() {
-        if mark[i] < 2 {
-            kept += 1;
-            i += 1;
-        } else {
-            i += 1;
-        }
-    }
-    kept as usize
+    let kept: u16 = mark.iter().map(|m| u16::from(*m < 2)).sum();
+    usize::from(kept)
 }
 
 // The answer of the walk of a contour of three points or more, of which the first `standing` stand.

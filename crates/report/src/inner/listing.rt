@@ -28,7 +28,7 @@ pub fn list(bytes: &[u8], text: &mut [u8]) -> usize
     let file = judging::judge(second, bytes);
     let refusal = replies::or_room(file.reply, file.points <= POINTS);
     if refusal != 0 {
-        return text::put_line(text, 0, b"refused ", refusal as u64);
+        return text::put_line(text, 0, b"refused ", u64::from(refusal));
     }
     table::put(second, bytes, file.contours, text)
 }
