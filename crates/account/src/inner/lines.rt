@@ -36,12 +36,8 @@ pub fn put(list: &[[usize; 2]], text: &mut [u8]) -> usize
     ensures { Put 0 (lines_of list.now) text.old result text.new }
 {
     let mut behind: usize = 0;
-    let mut i: usize = 0;
-    while i < list.len() {
-        let number = list[i][0];
-        let reason = list[i][1];
+    for &[number, reason] in list {
         behind = put_line(text, behind, number + 1, reason);
-        i += 1;
     }
     behind
 }

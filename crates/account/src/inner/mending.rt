@@ -18,7 +18,7 @@ pub fn mend(bytes: &[u8], out: &mut [u8], text: &mut [u8]) -> Lengths
     let mut list = [[0usize; 2]; CONTOURS];
     let salvaged = salvage::mend(bytes, out, &mut list);
     if salvaged.reply != 0 {
-        let refused = text::put_line(text, 0, b"refused ", salvaged.reply as u64);
+        let refused = text::put_line(text, 0, b"refused ", u64::from(salvaged.reply));
         return Lengths {
             bytes: 0,
             text: refused,

@@ -16,7 +16,7 @@ pub fn dump(bytes: &[u8], text: &mut [u8]) -> usize
     let second = head::is_second(bytes);
     let file = judging::judge(second, bytes);
     if file.reply != 0 {
-        return text::put_line(text, 0, b"refused ", file.reply as u64);
+        return text::put_line(text, 0, b"refused ", u64::from(file.reply));
     }
     job::put(second, bytes, file.contours, text)
 }
