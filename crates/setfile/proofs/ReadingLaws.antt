@@ -66,6 +66,10 @@ pub record Reading (s : Bool) (f : List ℕ) (out : List ℤ) (cs ss : List (Lis
   pub with_room :
       r ≡ first_of (so_far j.reply ++ room (leb j.points (length out / 2) && leb j.contours (length cs) && leb j.shapes (length ss)))
 
+pub judged : {s : Bool} {f : List ℕ} (out : List ℤ) (cs ss : List (List ℕ)) {j : Judged} {r : ℕ} → s ≡ is_second f → Judgement s f j
+    → r ≡ first_of (so_far j.reply ++ room (leb j.points (length out / 2) && leb j.contours (length cs) && leb j.shapes (length ss))) → Reading s f out cs ss j r
+judged out cs ss own judgement with_room = record { own = own; judgement = judgement; with_room = with_room }
+
 module _ {s : Bool} {f : List ℕ} {out : List ℤ} {cs ss : List (List ℕ)} {j : Judged} {r : ℕ} (file : Reading s f out cs ss j r) where
   points : List ℤ
   points = joined (contours_of (contained f))

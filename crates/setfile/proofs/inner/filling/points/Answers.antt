@@ -7,73 +7,37 @@ use Rattle.setfile.proofs.ContourLaws.{whole_small, whole_ends}
 use Rattle.setfile.proofs.FillLaws.{filling_all, filling_done, points_made, coming, contour_there, points_room, points_more}
 use Rattle.setfile.proofs.inner.filling.points.Goals as goal
 
--- the contour that is met is all there
-there : (c : goal.In-loop) →
-    let s = c.args in
-    Whole s.second s.bytes.now c.loop.at
-there c = contour_there c.loop.invariant c.loop-test.true
-
--- the contour that is met is all there
-there_2 : (c : goal.After-put-arg-1) →
-    let s = c.args in
-    Whole s.second s.bytes.now c.loop.at
-there_2 c = contour_there c.loop.invariant c.loop-test.true
-
--- the contour that is met is all there
-there_3 : (c : goal.After-out-1) →
-    let s = c.args in
-    Whole s.second s.bytes.now c.loop.at
-there_3 c = contour_there c.loop.invariant c.loop-test.true
-
--- the contour that is met is all there
-there_4 : (c : goal.After-size-at) →
-    let s = c.args in
-    Whole s.second s.bytes.now c.loop.at
-there_4 c = contour_there c.loop.invariant c.loop-test.true
-
--- the contour that is met is all there
-there_5 : (c : goal.After-struct_known-1) →
-    let s = c.args in
-    Whole s.second s.bytes.now c.loop.at
-there_5 c = contour_there c.loop.invariant c.loop-test.true
-
--- and its points have room
-roomy : (c : goal.After-put-arg-1) → let l = c.loop in l.to + 2 * c.header_at-h.result.count ≤ length l.out
-roomy c =
-    omega (arith, points_room c.loop.invariant c.loop-test.true, ap (λ (h : Header). h.count) c.header_at-h.ensures)
-
--- and its points have room
-roomy_2 : (c : goal.After-struct_known-1) → let l = c.loop in l.to + 2 * c.header_at-h.result.count ≤ length l.out
-roomy_2 c =
-    omega (arith, points_room c.loop.invariant c.loop-test.true, ap (λ (h : Header). h.count) c.header_at-h.ensures)
-
 pub loop-init : goal.loop-init
 loop-init c =
     filling_all points_made c.args.second c.args.bytes.now c.args.n c.args.out.now c.requires.0 c.requires.1
 
 pub header_at-h-requires : goal.header_at-h-requires
-header_at-h-requires c = ((there c).here, (there c).headed)
+header_at-h-requires c = let w = contour_there c.loop.invariant c.loop-test.true in (w.here, w.headed)
 
 pub put-requires : goal.put-requires
-put-requires c =
-    (there_2 c, c.header_at-h.ensures, (coming c.loop.invariant c.loop-test.true).on, roomy c)
+put-requires c = (
+  contour_there c.loop.invariant c.loop-test.true,
+  c.header_at-h.ensures,
+  (coming c.loop.invariant c.loop-test.true).on,
+  omega (arith, points_room c.loop.invariant c.loop-test.true, ap (λ (h : Header). h.count) c.header_at-h.ensures),
+)
 
 pub size-at-requires : goal.size-at-requires
 size-at-requires c =
-    whole_small (there_3 c) _ c.header_at-h.ensures
+    whole_small (contour_there c.loop.invariant c.loop-test.true) _ c.header_at-h.ensures
 
 pub overflow_add-at : goal.overflow_add-at
 overflow_add-at c =
-    let w = there_4 c in
+    let w = contour_there c.loop.invariant c.loop-test.true in
     omega (arith, whole_ends w _ c.header_at-h.ensures _ c.size-at.ensures, w.here.short)
 
 pub overflow_mul-to : goal.overflow_mul-to
 overflow_mul-to c =
-    omega (arith, (whole_small (there_5 c) _ c.header_at-h.ensures).0)
+    omega (arith, (whole_small (contour_there c.loop.invariant c.loop-test.true) _ c.header_at-h.ensures).0)
 
 pub overflow_add-to : goal.overflow_add-to
 overflow_add-to c =
-    omega (arith, roomy_2 c, c.loop.invariant.ahead.long, c.well_formed)
+    omega (arith, points_room c.loop.invariant c.loop-test.true, ap (λ (h : Header). h.count) c.header_at-h.ensures, c.loop.invariant.ahead.long, c.well_formed)
 
 pub loop-preserved : goal.loop-preserved
 loop-preserved c =

@@ -6,28 +6,6 @@ use Rattle.setfile.proofs.ContourLaws.{whole_small, whole_ends}
 use Rattle.setfile.proofs.FillLaws.{filling_all, filling_done, contours_made, contours_made_length, contour_there, contour_counted, contours_room, contours_more}
 use Rattle.setfile.proofs.inner.filling.ranges.Goals as goal
 
--- the contour that is met is all there
-there : (c : goal.In-loop-i) →
-    let s = c.args in
-    Whole s.second s.bytes.now c.loop-i.at
-there c = contour_there c.loop-i.invariant.1 c.loop-i-test.true
-
--- the contour that is met is all there
-there_2 : (c : goal.After-struct_known-1) →
-    let s = c.args in
-    Whole s.second s.bytes.now c.loop-i.at
-there_2 c = contour_there c.loop-i.invariant.1 c.loop-i-test.true
-
--- the contour that is met is all there
-there_3 : (c : goal.After-size-at) →
-    let s = c.args in
-    Whole s.second s.bytes.now c.loop-i.at
-there_3 c = contour_there c.loop-i.invariant.1 c.loop-i-test.true
-
--- and its range has room
-roomy : (c : goal.After-struct_known-1) → c.loop-i.i < length c.loop-i.records
-roomy c = contours_room _ c.loop-i.invariant.1 c.loop-i-test.true
-
 pub loop-i-init : goal.loop-i-init
 loop-i-init c =
     let f = c.args.bytes.now in
@@ -36,25 +14,25 @@ loop-i-init c =
     (omega arith, filling_all (contours_made 0) c.args.second f c.args.n c.args.records.now c.requires.0 room)
 
 pub header_at-h-requires : goal.header_at-h-requires
-header_at-h-requires c = ((there c).here, (there c).headed)
+header_at-h-requires c = let w = contour_there c.loop-i.invariant.1 c.loop-i-test.true in (w.here, w.headed)
 
 pub overflow_add-end : goal.overflow_add-end
 overflow_add-end c =
-    let w = there_2 c in
+    let w = contour_there c.loop-i.invariant.1 c.loop-i-test.true in
     omega (arith, (whole_small w _ c.header_at-h.ensures).0, c.loop-i.invariant.0, w.here.within, w.here.short)
 
 pub offset_bounds-records-i : goal.offset_bounds-records-i
-offset_bounds-records-i c = omega (arith, roomy c, c.loop-i.invariant.1.ahead.long)
+offset_bounds-records-i c = omega (arith, contours_room _ c.loop-i.invariant.1 c.loop-i-test.true, c.loop-i.invariant.1.ahead.long)
 
 pub bounds-records-i : goal.bounds-records-i
-bounds-records-i c = omega (arith, roomy c)
+bounds-records-i c = omega (arith, contours_room _ c.loop-i.invariant.1 c.loop-i-test.true)
 
 pub size-at-requires : goal.size-at-requires
-size-at-requires c = whole_small (there_2 c) _ c.header_at-h.ensures
+size-at-requires c = whole_small (contour_there c.loop-i.invariant.1 c.loop-i-test.true) _ c.header_at-h.ensures
 
 pub overflow_add-at : goal.overflow_add-at
 overflow_add-at c =
-    let w = there_3 c in
+    let w = contour_there c.loop-i.invariant.1 c.loop-i-test.true in
     omega (arith, whole_ends w _ c.header_at-h.ensures _ c.size-at.ensures, w.here.short)
 
 pub loop-i-preserved : goal.loop-i-preserved

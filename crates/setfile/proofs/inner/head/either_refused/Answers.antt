@@ -11,20 +11,10 @@ returns-then-bytes-gt-MOST_BYTES c = over_long_either c.args.bytes.now c.if-byte
 pub returns-then-bytes-lt2 : goal.returns-then-bytes-lt2
 returns-then-bytes-lt2 c = head_short_either c.args.bytes.now c.if-bytes-gt-MOST_BYTES.false c.if-bytes-lt2.true
 
--- the edition that is met
-edition : (c : goal.Then-edition) → c.pair-edition.result / 4096 ≡ edition_of c.args.bytes.now
-edition c =
-    ap (λ (n : ℕ). n / 4096) c.pair-edition.ensures ∙ edition_by_pair c.args.bytes.now c.if-bytes-lt2.false
-
--- the edition that is met
-edition_2 : (c : goal.Else-edition) → c.pair-edition.result / 4096 ≡ edition_of c.args.bytes.now
-edition_2 c =
-    ap (λ (n : ℕ). n / 4096) c.pair-edition.ensures ∙ edition_by_pair c.args.bytes.now c.if-bytes-lt2.false
-
 pub returns-then-edition : goal.returns-then-edition
 returns-then-edition c =
-    head_neither c.args.bytes.now c.if-bytes-gt-MOST_BYTES.false c.if-bytes-lt2.false _ (edition c) c.if-edition.true
+    head_neither c.args.bytes.now c.if-bytes-gt-MOST_BYTES.false c.if-bytes-lt2.false _ (ap (λ (n : ℕ). n / 4096) c.pair-edition.ensures ∙ edition_by_pair c.args.bytes.now c.if-bytes-lt2.false) c.if-edition.true
 
 pub returns : goal.returns
 returns c =
-    head_either c.args.bytes.now c.if-bytes-gt-MOST_BYTES.false c.if-bytes-lt2.false _ (edition_2 c) c.if-edition.false
+    head_either c.args.bytes.now c.if-bytes-gt-MOST_BYTES.false c.if-bytes-lt2.false _ (ap (λ (n : ℕ). n / 4096) c.pair-edition.ensures ∙ edition_by_pair c.args.bytes.now c.if-bytes-lt2.false) c.if-edition.false

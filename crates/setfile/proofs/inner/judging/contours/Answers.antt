@@ -9,34 +9,6 @@ use Rattle.setfile.proofs.ContourLaws.{right, whole}
 use Rattle.setfile.proofs.JudgeLaws.{judged_faulty, judged_more, within_more, none_left}
 use Rattle.setfile.proofs.inner.judging.contours.Goals as goal
 
--- the contour that is met has no fault
-sound : (c : goal.After-met_more-m) →
-    let s = c.args in
-    (layout s.second).wrong (eqb c.loop-i.i 0) c.loop-i.m.points (from_bit s.bytes.now c.loop-i.m.at) ≡ 0
-sound c = sym c.contour_fault-wrong.ensures ∙ c.if-wrong-ne0.false
-
--- the contour that is met has no fault
-sound_2 : (c : goal.Else-wrong-ne0) →
-    let s = c.args in
-    (layout s.second).wrong (eqb c.loop-i.i 0) c.loop-i.m.points (from_bit s.bytes.now c.loop-i.m.at) ≡ 0
-sound_2 c = sym c.contour_fault-wrong.ensures ∙ c.if-wrong-ne0.false
-
--- so it is all there
-there : (c : goal.Else-wrong-ne0) →
-    let s = c.args in
-    Whole s.second s.bytes.now c.loop-i.m.at
-there c =
-    let l = c.loop-i in
-    whole l.invariant.0.here (eqb l.i 0) l.m.points (sound_2 c)
-
--- so it is all there
-there_2 : (c : goal.After-met_more-m) →
-    let s = c.args in
-    Whole s.second s.bytes.now c.loop-i.m.at
-there_2 c =
-    let l = c.loop-i in
-    whole l.invariant.0.here (eqb l.i 0) l.m.points (sound c)
-
 pub loop-i-init : goal.loop-i-init
 loop-i-init c =
     let s = c.args in
@@ -58,7 +30,7 @@ returns-then-wrong-ne0 c =
     ∙ sym l.invariant.1
 
 pub met_more-m-requires : goal.met_more-m-requires
-met_more-m-requires c = (c.loop-i.invariant.0, there c)
+met_more-m-requires c = (c.loop-i.invariant.0, (whole c.loop-i.invariant.0.here (eqb c.loop-i.i 0) c.loop-i.m.points (sym c.contour_fault-wrong.ensures ∙ c.if-wrong-ne0.false)))
 
 pub loop-i-preserved : goal.loop-i-preserved
 loop-i-preserved c =
@@ -66,15 +38,15 @@ loop-i-preserved c =
     let s = c.args in
     let f = s.bytes.now in
     let b = s.second in
-    let r = right b (eqb l.i 0) l.m.points (from_bit f l.m.at) (sound c) in
+    let r = right b (eqb l.i 0) l.m.points (from_bit f l.m.at) (sym c.contour_fault-wrong.ensures ∙ c.if-wrong-ne0.false) in
     subst
     (λ (m : Met).
     Within b f m
     × (summed b none_met 0 (contours_in (layout b) s.n true 0 (from_bit f 16))
     ≡ summed b m (l.i + 1) (contours_in (layout b) (s.n - (l.i + 1)) (eqb (l.i + 1) 0) m.points (from_bit f m.at))))
     (sym c.met_more-m.ensures) (
-      within_more b f s.n l.i l.m l.invariant.0 (there_2 c) r.counted r.some,
-      l.invariant.1 ∙ judged_more b f s.n l.i l.m (eqb l.i 0) c.loop-i-test.true (sound c),
+      within_more b f s.n l.i l.m l.invariant.0 (whole c.loop-i.invariant.0.here (eqb c.loop-i.i 0) c.loop-i.m.points (sym c.contour_fault-wrong.ensures ∙ c.if-wrong-ne0.false)) r.counted r.some,
+      l.invariant.1 ∙ judged_more b f s.n l.i l.m (eqb l.i 0) c.loop-i-test.true (sym c.contour_fault-wrong.ensures ∙ c.if-wrong-ne0.false),
     )
 
 pub finished-requires : goal.finished-requires

@@ -14,26 +14,14 @@ returns-then-wrong-ne0 c =
     let s = c.args in
     c.refused.ensures ∙ left_over s.second s.m s.n (from_bit s.bytes.now s.m.at) _ c.end_fault-wrong.ensures c.if-wrong-ne0.true
 
--- nothing stands behind the last contour
-ended : (c : goal.Then-m) →
-    let s = c.args in
-    0 ≡ end_damage (from_bit s.bytes.now s.m.at)
-ended c = sym c.if-wrong-ne0.false ∙ c.end_fault-wrong.ensures
-
--- nothing stands behind the last contour
-ended_2 : (c : goal.Else-m) →
-    let s = c.args in
-    0 ≡ end_damage (from_bit s.bytes.now s.m.at)
-ended_2 c = sym c.if-wrong-ne0.false ∙ c.end_fault-wrong.ensures
-
 pub returns-then-m : goal.returns-then-m
 unfolding first_of
 returns-then-m c =
     let s = c.args in
-    all_met s.second s.m s.n (from_bit s.bytes.now s.m.at) (ended c) 0 (sym (ap on_or_refused c.if-m.true))
+    all_met s.second s.m s.n (from_bit s.bytes.now s.m.at) (sym c.if-wrong-ne0.false ∙ c.end_fault-wrong.ensures) 0 (sym (ap on_or_refused c.if-m.true))
 
 pub returns-else-m : goal.returns-else-m
 unfolding first_of
 returns-else-m c =
     let s = c.args in
-    all_met s.second s.m s.n (from_bit s.bytes.now s.m.at) (ended_2 c) 3 (sym (ap on_or_refused c.if-m.false))
+    all_met s.second s.m s.n (from_bit s.bytes.now s.m.at) (sym c.if-wrong-ne0.false ∙ c.end_fault-wrong.ensures) 3 (sym (ap on_or_refused c.if-m.false))
