@@ -9,6 +9,3 @@ use Rattle.steps.proofs.inner.reading.some_needs.Given as goal
 abbrev pub invariant-loop-i : goal.invariant-loop-i
 invariant-loop-i l =
     (l.i ≤ l.k) × (all_fit (l.width - 1) (numbers l.width l.k (drop l.at (bits l.bytes))) ≡ all_fit (l.width - 1) (rest l.bytes l.at l.width l.k l.i))
-
-abbrev pub decreases-loop-i : goal.decreases-loop-i
-decreases-loop-i l = l.k - l.i
