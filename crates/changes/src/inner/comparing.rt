@@ -28,7 +28,7 @@ fn put_said(
         text.old result text.new }
 {
     let mut rows = [[0usize; 2]; CONTOURS];
-    let n = turned::inner::larger(ranges.len(), other_ranges.len());
+    let n = ranges.len().max(other_ranges.len());
     listing::fill(points, ranges, others, other_ranges, n, &mut rows);
     let behind = lines::put(&rows[..n], text);
     counts::put(&rows[..n], text, behind)
@@ -47,11 +47,11 @@ pub fn tell(first: &[u8], second: &[u8], text: &mut [u8]) -> usize
     let mut shapes = [[0usize; 2]; CONTOURS];
     let one = setfile::read(first, &mut points, &mut ranges, &mut shapes);
     if one.reply != 0 {
-        return text::put_line(text, 0, b"first: refused ", one.reply as u64);
+        return text::put_line(text, 0, b"first: refused ", u64::from(one.reply));
     }
     let other = setfile::read(second, &mut others, &mut other_ranges, &mut shapes);
     if other.reply != 0 {
-        return text::put_line(text, 0, b"second: refused ", other.reply as u64);
+        return text::put_line(text, 0, b"second: refused ", u64::from(other.reply));
     }
     let k = one.contours;
     let m = 2 * one.points;

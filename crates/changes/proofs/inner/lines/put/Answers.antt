@@ -1,13 +1,9 @@
 -- `changes::inner::lines::put` meets its contract: the lines that are left are put from where the loop has come to.
-use native.Mathlib.Omega.{arith}
 use Rattle.changes.proofs.LineLaws.{telling_none, telling_room, telling_more, telling_all}
 use Rattle.changes.proofs.inner.lines.put.Goals as goal
 
 pub loop-i-init : goal.loop-i-init
 loop-i-init c = telling_none _ _ c.requires.listing_in_bounds
-
-pub overflow_add-i : goal.overflow_add-i
-overflow_add-i c = omega (arith, c.loop-i-test.true)
 
 pub put_line-behind-requires : goal.put_line-behind-requires
 put_line-behind-requires c =
