@@ -15,14 +15,7 @@ use Rattle.buffer.specs.declared.answer.Packed.{Packed}
 use Rattle.buffer.specs.declared.ranges.Span.{Span}
 use Rattle.buffer.specs.Spans.{rows}
 use Rattle.rows.specs.Rows.{front}
-use Rattle.buffer.specs.Answers.{counted, packed, leaving, enough, outcome, stored}
-
-pub count_given : (r n : ℕ) → r ≡ 0 → record { reply = r; count = n } ≡ counted r n
-count_given r n e = rw e
-
-pub count_refused : (r n : ℕ) → (r ≡ 0 → ⊥) → record { reply = r; count = 0 } ≡ counted r n
-count_refused zero n h = absurd (h refl)
-count_refused (suc r) n h = refl
+use Rattle.buffer.specs.Answers.{packed, leaving, enough, outcome, stored}
 
 -- what packing leaves, by the number of the first refusal
 module _ (p : List ℤ) (cs ss : List Span) (out : List ℤ) (contours shapes : List (List ℕ)) where

@@ -1,7 +1,7 @@
 -- What is known of a set that is packed or added to.
 use mathlib.Core.Path.{◌≡◌, refl, sym, ◌∙◌}
 use mathlib.Core.Bool.{Bool, true, ◌&&◌}
-use mathlib.Core.List.{List, [], ◌++◌, map}
+use mathlib.Core.List.{List, ◌++◌, map}
 use Prim.Native.Nat.{ℕ, ◌+◌, ◌*◌, ◌%◌, ◌<◌, ◌≤◌, ◌^◌}
 use native.Mathlib.Omega.{arith}
 use lib.ListN.{length, length-append, length-map}
@@ -25,7 +25,7 @@ use Rattle.buffer.proofs.SpanLaws.{movable}
 use Rattle.buffer.proofs.RefusalLaws.{accepted}
 use Rattle.buffer.proofs.RowLaws.{spans-length, records_front}
 use Rattle.rows.proofs.RowLaws.{placed_front}
-use Rattle.buffer.proofs.AnswerLaws.{Fits, packing_refused, packing_fits, packing_done, contours_refused, contours_fit, contours_done}
+use Rattle.buffer.proofs.AnswerLaws.{Fits, packing_refused, packing_fits, packing_done}
 
 pub shape_movable : (p : List ℤ) (cs : List (List ℕ)) (k : ℕ) → k ≡ first_of (C.refusals p cs) → k ≡ 0 → Movable cs 0
 unfolding most
@@ -84,20 +84,6 @@ sound_parts p cs ss more mcs e =
     let b : Bool = sound (spans ss) (length cs) in
     let ab = and_left (a && b) (sound (spans mcs) (count more)) e in
     record { contours = and_left a b ab; shapes = and_right a b ab; added = and_right (a && b) (sound (spans mcs) (count more)) e }
-
--- packing the contours of a row
-module _ (k r : ℕ) (p : List ℤ) (cs : List (List ℕ)) (out : List ℤ) (records : List (List ℕ))
-    (f : r ≡ first_of (so_far k ++ room (leb (length p) (length out) && leb (length cs) (length records)))) where
-  pub pack_refused : (w : Packed) → w ≡ packed r 0 0 0 → (r ≡ 0 → ⊥) → leaving w out records [] ≡ stored (so_far k) p (spans cs) [] out records []
-  pack_refused = contours_refused p (spans cs) out records _ _ refl (sym (spans-length cs)) k r f
-
-  pub pack_fits : r ≡ 0 → Fits k (length p) (length cs) 0 out records []
-  pack_fits = contours_fit p (spans cs) out records _ _ refl (sym (spans-length cs)) k r f
-
-  pub pack_done : (o : List ℤ) (d : List (List ℕ)) → r ≡ 0 → o ≡ placed 0 p out → d ≡ placed 0 (rows (map (moved 0) (spans cs))) records
-      → leaving (packed 0 (count p) (length cs) 0) o d [] ≡ stored (so_far k) p (spans cs) [] out records []
-  pack_done o d z g h =
-      contours_done p (spans cs) out records _ _ refl (sym (spans-length cs)) k r f _ o d z refl (g ∙ placed_front out p) (h ∙ records_front cs records)
 
 -- packing the shapes of a row
 module _ (k r : ℕ) (p : List ℤ) (cs ss : List (List ℕ)) (out : List ℤ) (records groups : List (List ℕ))

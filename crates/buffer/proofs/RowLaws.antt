@@ -9,11 +9,6 @@ use Rattle.buffer.specs.Spans.{span, spans, row, rows, moved}
 use Rattle.rows.specs.Rows.{front, placed}
 use Rattle.rows.proofs.RowLaws.{placed_front, placed_next}
 
--- a range of a row, set off, as it is written
-pub shifted-length : (l : List (List ℕ)) (n : ℕ) → length (rows (map (moved n) (spans l))) ≡ length l
-shifted-length [] n = refl
-shifted-length (r ∷ l) n = ap suc (shifted-length l n)
-
 -- one range more is written over a row
 pub shifted_more : (l out : List (List ℕ)) (n i : ℕ) → i < length l → i < length out
     → set (rows (map (moved n) (spans (take i l))) ++ drop i out) i (row (moved n (span (get_or l i []))))

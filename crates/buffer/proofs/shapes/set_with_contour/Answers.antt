@@ -1,16 +1,11 @@
 -- `buffer::shapes::set_with_contour` meets its contract.
 use mathlib.Core.Path.{◌∙◌}
 use mathlib.Core.List.{[], ◌∷◌}
-use native.Mathlib.Omega.{arith}
 use Rattle.grid.specs.Limits.{limit}
 use Rattle.grid.specs.Domain.{domain}
 use Rattle.buffer.specs.Sets.{whole, every}
-use Rattle.buffer.proofs.SpanLaws.{one_movable}
 use Rattle.buffer.proofs.AnswerLaws.{stored_told}
 use Rattle.buffer.proofs.shapes.set_with_contour.Goals as goal
-
-pub shapes-requires : goal.shapes-requires
-shapes-requires c = λ z. (one_movable _ 0 (omega arith), one_movable 1 0 (omega arith))
 
 pub returns : goal.returns
 returns c =
