@@ -20,32 +20,15 @@ use Rattle.setfile.specs.Promises.{Regular}
 use Rattle.setfile.specs.inside.Writing.{all_size, Ripe}
 use Rattle.setfile.proofs.CarryLaws.{none_over, over_none, none_empty, empty_none, regular_contours, regular_even, regular_count, all_named, all_grouped}
 use Rattle.setfile.proofs.MeasureLaws.{file_long}
+use Rattle.setfile.proofs.RefusedLaws.{refused_carry}
 use Rattle.setfile.proofs.OutcomeLaws.{result_refused, result_free}
 
 module _ (p : List ℤ) (cs ss : List (List ℕ)) where
   abbrev pub both_sound : Bool
   both_sound = sound (spans cs) (count p) && sound (spans ss) (length cs)
 
-  -- what is asked of every set, and then 12
-  module _ (r : ℕ) (e : r ≡ first_of (set limit p both_sound)) where
-    pub refused_set : (r ≡ 0 → ⊥) → r ≡ first_of (set_refusals p cs ss)
-    refused_set z = first_is _ r (stopped (set limit p both_sound) (uncarried (spans cs) (spans ss)) r e z)
-
-    module _ (z : r ≡ 0) (over empty : Bool) (f : over ≡ some_over most_points (spans cs)) (g : empty ≡ some_empty (spans ss)) where
-      last : (k : ℕ) → First (uncarried (spans cs) (spans ss)) k → k ≡ first_of (set_refusals p cs ss)
-      last k h = first_is _ k (onward (set limit p both_sound) (uncarried (spans cs) (spans ss)) k tt (sym e ∙ z) h)
-
-      carry_is : (ltb most_contours (length (spans cs)) || some_over most_points (spans cs) || some_empty (spans ss)) ≡ (ltb most_contours (length cs) || over || empty)
-      carry_is = rw (← f, ← g, spans-length cs)
-
-      pub refused_carry : (ltb most_contours (length cs) || over || empty) ≡ true → 12 ≡ first_of (set_refusals p cs ss)
-      refused_carry h = last 12 (here (carry_is ∙ h))
-
-      pub refused_none : (ltb most_contours (length cs) || over || empty) ≡ false → 0 ≡ first_of (set_refusals p cs ss)
-      refused_none h = last 0 (past (carry_is ∙ h) foot)
-
   pub too_long_contour : first_of (set limit p both_sound) ≡ 0 → some_over most_points (spans cs) ≡ true → 12 ≡ first_of (set_refusals p cs ss)
-  too_long_contour e over = refused_carry 0 (sym e) refl true (some_empty (spans ss)) (sym over) refl (go (ltb most_contours (length cs)))
+  too_long_contour e over = refused_carry limit p cs ss 0 (sym e) refl true (some_empty (spans ss)) (sym over) refl (go (ltb most_contours (length cs)))
     where
       go : (b : Bool) → (b || true || some_empty (spans ss)) ≡ true
       go true = refl

@@ -1,15 +1,19 @@
-// The writer of edition 1: a set's file, or the number of the set's first refusal.
+// The writer of edition 1, and what both writers do: a set's file, or the number of the set's first refusal.
 ghost use Rattle.std.specs.Prelude.{◌≡◌, ◌≤◌, length as length_of, nat_le, IfSome};
 ghost use Rattle.std.specs.Option.{is_some};
 ghost use Rattle.replies.specs.Ladder.{first_of, room};
+ghost use Rattle.grid.specs.Limits.{limit};
 ghost use Rattle.grid.specs.Domain.{count};
 ghost use Rattle.setfile.specs.Format.{file_length};
 ghost use Rattle.setfile.specs.Writing.{refusals, leaving, written, outcome};
-ghost use Rattle.setfile.specs.inside.Writing.{file_with, Ripe, Widths};
+ghost use Rattle.setfile.specs.inside.Writing.{bounded_refusals, file_with, Ripe, Widths};
 
 use crate::answer::Written;
 use crate::inner::{measuring, putting};
 use crate::{MOST_BYTES, MOST_CONTOURS};
+
+// The most points of a contour in a file.
+const MOST_POINTS: usize = 32_767;
 
 // How many bytes the file of a set has.
 fn file_length(points: &[i32], contours: &[[usize; 2]]) -> usize
@@ -18,7 +22,29 @@ fn file_length(points: &[i32], contours: &[[usize; 2]]) -> usize
     2 + 2 * contours.len() + 8 * (points.len() / 2)
 }
 
-// What is refused of a set: 0, or the number of its first refusal. Too many points, or too many in a contour, make too long a file.
+// What is refused of a set within a bound, but for its file's length: 0, or the number of its first refusal.
+pub fn set_refused(
+    bound: u32,
+    points: &[i32],
+    contours: &[[usize; 2]],
+    shapes: &[[usize; 2]],
+) -> u32
+    requires { bound ≤ limit }
+    ensures { result ≡ first_of (bounded_refusals bound points.now contours.now shapes.now) }
+{
+    let set = buffer::inner::refusing::shapes(bound, points, contours, shapes);
+    if set != 0 {
+        return set;
+    }
+    let over = measuring::some_over(contours, MOST_POINTS);
+    let empty = measuring::some_empty(shapes);
+    if (MOST_CONTOURS < contours.len()) | over | empty {
+        return replies::CANT_CARRY;
+    }
+    replies::DONE
+}
+
+// What is refused of a set: 0, or the number of its first refusal. Too many points make too long a file.
 fn refused(points: &[i32], contours: &[[usize; 2]], shapes: &[[usize; 2]]) -> u32
     ensures { result ≡ first_of (refusals points.now contours.now shapes.now) }
 {
@@ -28,15 +54,7 @@ fn refused(points: &[i32], contours: &[[usize; 2]], shapes: &[[usize; 2]]) -> u3
     if MOST_BYTES < file_length(points, contours) {
         return replies::TOO_MANY;
     }
-    let set = buffer::inner::refusing::shapes(grid::NARROW, points, contours, shapes);
-    if set != 0 {
-        return set;
-    }
-    let filled = measuring::longer(shapes, 0);
-    if (MOST_CONTOURS < contours.len()) | (filled < shapes.len()) {
-        return replies::CANT_CARRY;
-    }
-    replies::DONE
+    set_refused(grid::NARROW, points, contours, shapes)
 }
 
 // Nothing was written.

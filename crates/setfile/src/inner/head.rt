@@ -12,7 +12,7 @@ use crate::inner::fields;
 pub fn is_second(bytes: &[u8]) -> bool
     ensures { result ≡ is_second bytes.now }
 {
-    if bytes.len() == 0 {
+    if bytes.is_empty() {
         return false;
     }
     bytes[0] / 16 == 2

@@ -90,7 +90,7 @@ fn met_more(second: bool, bytes: &[u8], m: Met) -> Met
     Met {
         at: at + headers::size(second, h),
         points: m.points + h.count,
-        shapes: m.shapes + h.begins as usize,
+        shapes: m.shapes + usize::from(h.begins),
         on: m.on & on,
     }
 }

@@ -1,19 +1,30 @@
 // How long ranges are, and how long a file of edition 2 is.
-ghost use Rattle.std.specs.Prelude.{◌≡◌, ◌+◌, ◌-◌, ◌/◌, ◌≤◌, length};
-ghost use Rattle.buffer.specs.Spans.{spans};
-ghost use Rattle.setfile.specs.Writing.{most_contours};
-ghost use Rattle.setfile.specs.inside.Writing.{Named, Widths, longer as longer_of, all_size};
+ghost use Rattle.std.specs.Prelude.{◌≡◌, ◌+◌, ◌/◌, ◌≤◌, length};
+ghost use Rattle.buffer.specs.Spans.{span, spans, size};
+ghost use Rattle.setfile.specs.Writing.{most_contours, some_over, some_empty};
+ghost use Rattle.setfile.specs.inside.Writing.{Named, Widths, all_size};
 
 use crate::inner::headers;
 
-// How many of the ranges are longer than n; one that runs backward has no length.
-pub fn longer(ranges: &[[usize; 2]], n: usize) -> usize
-    ensures { result ≡ longer_of n (spans ranges.now) }
+// How long a range is: nothing where it runs backward.
+fn size(range: &[usize; 2]) -> usize
+    ensures { result ≡ size (span range.now) }
 {
-    ranges
-        .iter()
-        .filter(|r| n < r[1].saturating_sub(r[0]))
-        .count()
+    range[1].saturating_sub(range[0])
+}
+
+// Whether one of the ranges is longer than n.
+pub fn some_over(ranges: &[[usize; 2]], n: usize) -> bool
+    ensures { result ≡ some_over n (spans ranges.now) }
+{
+    ranges.iter().any(|r| n < size(r))
+}
+
+// Whether one of the ranges is empty.
+pub fn some_empty(ranges: &[[usize; 2]]) -> bool
+    ensures { result ≡ some_empty (spans ranges.now) }
+{
+    ranges.iter().any(|r| size(r) == 0)
 }
 
 // How many bytes the file of a set has; the width of each contour is kept.
@@ -32,5 +43,5 @@ pub fn file_length(points: &[i32], contours: &[[usize; 2]], widths: &mut [u8]) -
         widths[k] = width as u8;
         bits += headers::second_size(contour.len() / 2, width);
     }
-    (bits + 7) / 8
+    bits.div_ceil(8)
 }

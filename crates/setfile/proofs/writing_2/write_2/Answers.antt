@@ -1,36 +1,45 @@
 -- `setfile::writing_2::write_2` meets its contract: refused, too long, or the file in front of the row where it has room.
-use Rattle.std.proofs.Common.{sym, ◌∙◌, arith}
+use Rattle.std.proofs.Common.{rules, sym, ◌∙◌, arith}
 use Rattle.grid.specs.Limits.{limit}
 use Rattle.setfile.proofs.CarryLaws.{all_named}
 use Rattle.setfile.proofs.Outcome2Laws.{regular-set, ripe, write_refused, write_long, write_free}
 use Rattle.setfile.proofs.writing_2.write_2.Goals as goal
 
+pub set_refused-refusal-requires : goal.set_refused-refusal-requires
+unfolding limit
+set_refused-refusal-requires c = search rules
+
 pub returns-then-refusal-ne0 : goal.returns-then-refusal-ne0
+unfolding limit
 returns-then-refusal-ne0 c =
     let s = c.args in
-    rw c.nothing.ensures (write_refused s.points.now s.contours.now s.shapes.now s.bytes.now _ c.refused-refusal.ensures c.if-refusal-ne0.true)
+    rw c.nothing.ensures (write_refused s.points.now s.contours.now s.shapes.now s.bytes.now _ c.set_refused-refusal.ensures c.if-refusal-ne0.true)
 
 pub file_length-length-requires : goal.file_length-length-requires
+unfolding limit
 file_length-length-requires c =
     let s = c.args in
-    let free = sym c.refused-refusal.ensures ∙ c.if-refusal-ne0.false in
+    let free = sym c.set_refused-refusal.ensures ∙ c.if-refusal-ne0.false in
     let r = regular-set s.points.now s.contours.now s.shapes.now free in
     (all_named limit s.points.now s.contours.now s.shapes.now r (omega arith), r.few, r.few)
 
 pub returns-then-length-gt-MOST_BYTES : goal.returns-then-length-gt-MOST_BYTES
+unfolding limit
 returns-then-length-gt-MOST_BYTES c =
     let s = c.args in
-    let free = sym c.refused-refusal.ensures ∙ c.if-refusal-ne0.false in
+    let free = sym c.set_refused-refusal.ensures ∙ c.if-refusal-ne0.false in
     rw c.nothing-then-length-gt-MOST_BYTES.ensures (write_long s.points.now s.contours.now s.shapes.now s.bytes.now free _ c.file_length-length.ensures.0 c.if-length-gt-MOST_BYTES.true)
 
 pub put_in_room-requires : goal.put_in_room-requires
+unfolding limit
 put_in_room-requires c =
     let s = c.args in
-    let free = sym c.refused-refusal.ensures ∙ c.if-refusal-ne0.false in
+    let free = sym c.set_refused-refusal.ensures ∙ c.if-refusal-ne0.false in
     (λ h. ripe s.points.now s.contours.now s.shapes.now s.bytes.now free _ c.file_length-length.ensures.0 c.if-length-gt-MOST_BYTES.false h, c.file_length-length.ensures.1)
 
 pub returns : goal.returns
+unfolding limit
 returns c =
     let s = c.args in
-    let free = sym c.refused-refusal.ensures ∙ c.if-refusal-ne0.false in
+    let free = sym c.set_refused-refusal.ensures ∙ c.if-refusal-ne0.false in
     c.put_in_room.ensures ∙ write_free s.points.now s.contours.now s.shapes.now s.bytes.now free _ c.file_length-length.ensures.0 c.if-length-gt-MOST_BYTES.false

@@ -27,9 +27,9 @@ overflow_add-result-2 c =
 pub overflow_add-result-3 : goal.overflow_add-result-3
 overflow_add-result-3 c =
     let p = c.requires in
-    omega (arith, byte_below c.header_at-h.result.begins, p.0.shapes_few, p.0.here.within, p.0.here.short)
+    omega (arith, c.from.ensures, byte_below c.header_at-h.result.begins, p.0.shapes_few, p.0.here.within, p.0.here.short)
 
 pub returns : goal.returns
 returns c =
     let s = c.args in
-    met_is s.second s.bytes.now s.m _ _ _ c.header_at-h.ensures c.size.ensures c.on_grid-on.ensures
+    rw c.from.ensures (met_is s.second s.bytes.now s.m _ _ _ c.header_at-h.ensures c.size.ensures c.on_grid-on.ensures)

@@ -61,9 +61,6 @@ loop-k-preserved c =
       simp length-set v.3,
     )
 
-pub overflow_add-result : goal.overflow_add-result
-overflow_add-result c = omega (arith, c.requires.1)
-
 pub shape_of-widths : goal.shape_of-widths
 shape_of-widths c = c.loop-k.invariant.3
 
