@@ -24,7 +24,7 @@ fn move_down(window: &mut [u8], k: usize, n: usize) -> usize
 {
     let mut rest = [0u8; WINDOW];
     let m = n - k;
-    rows::inner::copy_bytes(&window[k..n], &mut rest, 0);
+    rows::inner::copy(&window[k..n], &mut rest, 0);
     text::put(window, 0, &rest[..m])
 }
 

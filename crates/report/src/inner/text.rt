@@ -9,7 +9,7 @@ pub fn put(text: &mut [u8], at: usize, word: &[u8]) -> usize
     requires { at + length word.now ≤ length text.old }
     ensures { Put at word.now text.old result text.new }
 {
-    rows::inner::copy_bytes(word, text, at);
+    rows::inner::copy(word, text, at);
     at + word.len()
 }
 
