@@ -27,6 +27,10 @@ ghost use Rattle.std.specs.Prelude.{◌≡◌, ◌++◌};
 ghost use Rattle.replies.specs.Ladder.{first_of, so_far, room as room_for};
 ghost use Rattle.replies.specs.Verdicts.{verdict as verdict_of};
 
+mod refusal;
+
+pub use refusal::{Refusal, told};
+
 pub const DONE: u32 = 0;
 
 pub const ODD: u32 = 1;

@@ -1,8 +1,11 @@
 // Coordinates and rows of them, tested against a bound that is at most the limit.
 ghost use Rattle.std.specs.Prelude.{◌≡◌, ◌≤◌, not};
 ghost use Rattle.replies.specs.Ladder.{first_of};
+ghost use Rattle.replies.specs.Refusals.{told};
 ghost use Rattle.grid.specs.Limits.{limit, on_grid, all_on_grid};
 ghost use Rattle.grid.specs.Domain.{domain as domain_of};
+
+use replies::Refusal;
 
 // The lowest number whose top bit is set.
 const TOP: u32 = 2_147_483_648;
@@ -46,19 +49,19 @@ fn all_on_grid(bound: u32, row: &[i32]) -> bool
     !(some_beyond(bound, &row[..4]) | some_beyond(bound, &row[n - 4..]))
 }
 
-// What every call asks of a row of coordinates within the bound: 0, or the number of its first refusal.
-pub fn domain(bound: u32, points: &[i32]) -> u32
+// What every call asks of a row of coordinates within the bound: its first refusal, if any.
+pub fn domain(bound: u32, points: &[i32]) -> Result<(), Refusal>
     requires { bound ≤ limit }
-    ensures { result ≡ first_of (domain_of bound points.now) }
+    ensures { told result ≡ first_of (domain_of bound points.now) }
 {
     if points.len() % 2 == 1 {
-        return replies::ODD;
+        return Err(Refusal::Odd);
     }
     if crate::MOST < points.len() / 2 {
-        return replies::TOO_MANY;
+        return Err(Refusal::TooMany);
     }
     if !all_on_grid(bound, points) {
-        return replies::OFF_GRID;
+        return Err(Refusal::OffGrid);
     }
-    replies::DONE
+    Ok(())
 }
