@@ -18,9 +18,14 @@ use Rattle.grid.specs.Points.{at, on, points}
 use Rattle.grid.specs.Edges.{between, cross, turns_left}
 use Rattle.grid.specs.Corners.{last}
 use Rattle.grid.specs.Domain.{count, domain, Contour}
+use Rattle.replies.specs.declared.refusal.Refusal.{Refusal}
 use Rattle.replies.specs.Ladder.{first_of}
+use Rattle.replies.specs.Refusals.{number}
+use Rattle.replies.specs.Verdicts.{answered}
+use Rattle.std.proofs.Common.{Err, SFits, w32, to_z, of_z, to_z-of_z}
 use Rattle.grid.proofs.RowLaws.{points_count, points_more, points_done}
-use Rattle.replies.proofs.LadderLaws.{first_is, stopped, onward}
+use Rattle.replies.proofs.LadderLaws.{first_is, onward, clear, cleared}
+use Rattle.replies.proofs.RefusalLaws.{refusals_have_numbers}
 use Rattle.replies.proofs.LadderLaws.First.{here, past, foot}
 use Rattle.replies.proofs.VerdictLaws.{verdict_refused, verdict_given}
 use Rattle.grid.proofs.CornerLaws.{last_from}
@@ -222,35 +227,42 @@ module _ (row : List ℤ) (n i : ℕ) (p : Point) (up : Bool) where
         let e : here ≡ n = omega (arith, x.within) in
         record { from = omega (arith, x.from); within = omega arith; skipped = λ j l m. x.skipped j l (omega arith); changed = λ k. absurd (omega arith) }
 
+-- the refusals of an asked point, one by one
+module _ (row : List ℤ) (p : Point) (e : first_of (domain limit row) ≡ 0) where
+  pub refused_off : on limit p ≡ false → 3 ≡ first_of (refusals p row)
+  refused_off f = first_is _ 3 (onward (domain limit row) _ 3 tt e (here (ap not f)))
+
+  pub refused_none : on limit p ≡ true → 0 ≡ first_of (refusals p row)
+  refused_none f = first_is _ 0 (onward (domain limit row) _ 0 tt e (past (ap not f) foot))
+
+-- what is asked of a contour that is not refused
+pub asked_of_none : (row : List ℤ) (p : Point) → first_of (refusals p row) ≡ 0 → (first_of (domain limit row) ≡ 0) × (on limit p ≡ true)
+asked_of_none row p e =
+    let d = cleared (domain limit row) ((not (on limit p), 3) ∷ []) tt e in
+    (d.0, not_false (on limit p) (clear ((not (on limit p), 3) ∷ []) tt d.1).0)
+  where
+    not_false : (b : Bool) → not b ≡ false → b ≡ true
+    not_false true f = refl
+    not_false false f = absurd (true≢false f)
+
+-- the asked point, as it is passed on
+pub passed_on : (x y : ℤ) → SFits w32 x → SFits w32 y → ◌≡◌ {A = Point} (record { x = to_z w32 (of_z w32 x); y = to_z w32 (of_z w32 y) }) (record { x = x; y = y })
+passed_on x y f g = rw (to_z-of_z f, to_z-of_z g)
+
 -- the question as a whole
 module _ (row : List ℤ) (x y : ℤ) where
   abbrev asked : Point
   asked = record { x = x; y = y }
 
-  -- the refusals, one by one
-  pub refused_domain : (k : ℕ) → k ≡ first_of (domain limit row) → (k ≡ 0 → ⊥) → k ≡ first_of (refusals asked row)
-  refused_domain k e n = first_is _ k (stopped _ _ k e n)
-
-  module _ (e : first_of (domain limit row) ≡ 0) where
-    pub refused_off : on limit asked ≡ false → 3 ≡ first_of (refusals asked row)
-    refused_off f = first_is _ 3 (onward (domain limit row) _ 3 tt e (here (ap not f)))
-
-    pub refused_none : on limit asked ≡ true → first_of (refusals asked row) ≡ 0
-    refused_none f = sym (first_is _ 0 (onward (domain limit row) _ 0 tt e (past (ap not f) foot)))
-
   -- what is answered
-  pub contains_refused : (k : ℕ) → k ≡ first_of (domain limit row) → (k ≡ 0 → ⊥) → record { reply = k; yes = false } ≡ contains row x y
-  unfolding contains
-  contains_refused k e n = verdict_refused (refusals asked row) _ k (refused_domain k e n) n
-
-  module _ (e : first_of (domain limit row) ≡ 0) where
-    pub contains_off : on limit asked ≡ false → record { reply = 3; yes = false } ≡ contains row x y
+  module _ (p : Point) (q : p ≡ asked) where
+    pub contains_refused : (r : Refusal) → number r ≡ first_of (refusals p row) → answered (Err r) ≡ contains row x y
     unfolding contains
-    contains_off f = verdict_refused (refusals asked row) _ 3 (refused_off e f) (λ z. absurd (omega arith))
+    contains_refused r e = verdict_refused (refusals asked row) _ (number r) (e ∙ ap (λ (s : Point). first_of (refusals s row)) q) (refusals_have_numbers r)
 
-    pub contains_given : (b : Bool) → on limit asked ≡ true → b ≡ contained asked (points row) → record { reply = 0; yes = b } ≡ contains row x y
+    pub contains_given : (b : Bool) → first_of (refusals p row) ≡ 0 → b ≡ contained p (points row) → record { reply = 0; yes = b } ≡ contains row x y
     unfolding contains
-    contains_given b f g = verdict_given (refusals asked row) _ b (refused_none e f) g
+    contains_given b e g = verdict_given (refusals asked row) _ b (sym (ap (λ (s : Point). first_of (refusals s row)) q) ∙ e) (g ∙ ap (λ (s : Point). contained s (points row)) q)
 
 pub nothing_contained : (p : Point) (row : List ℤ) → count row ≡ 0 → false ≡ contained p (points row)
 unfolding contained

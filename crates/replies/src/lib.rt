@@ -71,12 +71,28 @@ pub const NONE_LEFT: u32 = 18;
 
 pub const FIGURES_FULL: u32 = 21;
 
-// The answer to a question of yes or no: its reply number, and no where it is refused.
+// The answer to a question of yes or no, as C has it: its reply number, and no where it is refused.
 #[repr(C)]
 #[derive(Clone, Copy)]
 pub struct Verdict {
     pub reply: u32,
     pub yes: bool,
+}
+
+impl From<Result<bool, Refusal>> for Verdict {
+    ghost use Rattle.replies.specs.Verdicts.{answered};
+
+    ghost from_gives = { λ answer verdict. verdict ≡ answered answer };
+
+    fn from(answer: Result<bool, Refusal>) -> Verdict {
+        match answer {
+            Ok(yes) => Verdict { reply: 0, yes },
+            Err(refusal) => Verdict {
+                reply: refusal.number(),
+                yes: false,
+            },
+        }
+    }
 }
 
 // No where it is refused, or the answer.
