@@ -3,7 +3,7 @@ ghost use Rattle.std.specs.Prelude.{◌≡◌, ◌≤◌, not};
 ghost use Rattle.replies.specs.Ladder.{first_of};
 ghost use Rattle.replies.specs.Refusals.{told};
 ghost use Rattle.grid.specs.Limits.{limit, on_grid, all_on_grid};
-ghost use Rattle.grid.specs.Domain.{domain as domain_of};
+ghost use Rattle.grid.specs.Domain.{size as size_of, off, domain as domain_of};
 
 use replies::Refusal;
 
@@ -49,10 +49,9 @@ fn all_on_grid(bound: u32, row: &[i32]) -> bool
     !(some_beyond(bound, &row[..4]) | some_beyond(bound, &row[n - 4..]))
 }
 
-// What every call asks of a row of coordinates within the bound: its first refusal, if any.
-pub fn domain(bound: u32, points: &[i32]) -> Result<(), Refusal>
-    requires { bound ≤ limit }
-    ensures { told result ≡ first_of (domain_of bound points.now) }
+// What is asked of a row's length: that it is even, and not of too many points.
+pub fn size(points: &[i32]) -> Result<(), Refusal>
+    ensures { told result ≡ first_of (size_of points.now) }
 {
     if points.len() % 2 == 1 {
         return Err(Refusal::Odd);
@@ -60,8 +59,25 @@ pub fn domain(bound: u32, points: &[i32]) -> Result<(), Refusal>
     if crate::MOST < points.len() / 2 {
         return Err(Refusal::TooMany);
     }
+    Ok(())
+}
+
+// What is asked of its coordinates: that they are within the bound.
+pub fn within(bound: u32, points: &[i32]) -> Result<(), Refusal>
+    requires { bound ≤ limit }
+    ensures { told result ≡ first_of (off bound points.now) }
+{
     if !all_on_grid(bound, points) {
         return Err(Refusal::OffGrid);
     }
     Ok(())
+}
+
+// What every call asks of a row of coordinates within the bound: its first refusal, if any.
+pub fn domain(bound: u32, points: &[i32]) -> Result<(), Refusal>
+    requires { bound ≤ limit }
+    ensures { told result ≡ first_of (domain_of bound points.now) }
+{
+    size(points)?;
+    within(bound, points)
 }

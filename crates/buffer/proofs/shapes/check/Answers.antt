@@ -1,7 +1,7 @@
--- `buffer::shapes::refused` meets its contract: the bound is the limit.
+-- `buffer::shapes::check` meets its contract: the bound is the limit.
 use borrow.Author.Rules.{rules}
 use Rattle.grid.specs.Limits.{limit}
-use Rattle.buffer.proofs.shapes.refused.Goals as goal
+use Rattle.buffer.proofs.shapes.check.Goals as goal
 
 pub shapes-requires : goal.shapes-requires
 unfolding limit

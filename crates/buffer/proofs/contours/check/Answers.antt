@@ -1,7 +1,7 @@
--- `buffer::contours::refused` meets its contract: the bound is the limit.
+-- `buffer::contours::check` meets its contract: the bound is the limit.
 use borrow.Author.Rules.{rules}
 use Rattle.grid.specs.Limits.{limit}
-use Rattle.buffer.proofs.contours.refused.Goals as goal
+use Rattle.buffer.proofs.contours.check.Goals as goal
 
 pub contours-requires : goal.contours-requires
 unfolding limit
