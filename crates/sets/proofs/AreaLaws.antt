@@ -1,14 +1,16 @@
 -- The area of a set, contour by contour.
-use Rattle.std.proofs.Common.{◌≡◌, ℕ, ◌+◌, ◌<◌, ◌≤◌, true, false, not, T, List, [], length, get_or, drop, ℤ, pos, negsuc, ◌+ℤ◌, sym, refl, ap, ◌∙◌, arith, w64, to_z, SFits, ne_eqb}
+use Rattle.std.proofs.Common.{Err, ◌≡◌, ℕ, ◌+◌, ◌<◌, ◌≤◌, true, false, not, T, List, [], length, get_or, drop, ℤ, pos, negsuc, ◌+ℤ◌, sym, refl, ap, ◌∙◌, arith, w64, to_z, SFits, ne_eqb}
 use lib.IntN.{+ℤ_assoc, +ℤ_idr}
 use Rattle.std.specs.Int.{int_wrap}
 use Rattle.std.proofs.lemmas.Int.{int_wrap_fits, int_wrap-add_left}
 use Rattle.integers.specs.Modulo.{mod64}
 use Rattle.grid.specs.Points.{points}
 use Rattle.grid.specs.Area.{wrapped, reported}
-use Rattle.replies.specs.Ladder.{Rung, first_of, so_far}
-use Rattle.replies.proofs.LadderLaws.{first_is, numbered, so_far_then}
-use Rattle.replies.proofs.LadderLaws.First.{here}
+use Rattle.replies.specs.declared.refusal.Refusal.{Refusal}
+use Rattle.replies.specs.Refusals.{number}
+use Rattle.replies.specs.Ladder.{Rung, first_of}
+use Rattle.replies.proofs.LadderLaws.{numbered}
+use Rattle.replies.proofs.RefusalLaws.{refusals_have_numbers, refused_so_far, asked_further}
 use Rattle.area.specs.Answers as A
 use Rattle.area.proofs.AnswerLaws.{answer_refused, answer_half}
 use Rattle.buffer.specs.Spans.{span, spans}
@@ -33,19 +35,15 @@ module _ (set : List (List ℤ)) where
   unfolding doubled_by first_of
   set_filled v e f = rw (f, e)
 
-  -- it was refused with the number k, or was not
-  module _ (k : ℕ) where
-    pub set_refused : (k ≡ 0 → ⊥) → record { reply = k; value = pos 0 } ≡ doubled_by (so_far k) set
+  -- a set that is refused, and one that is not
+  module _ (refusals : List Rung) where
+    pub set_refused : (r : Refusal) → number r ≡ first_of refusals → A.answered (Err r) ≡ doubled_by refusals set
     unfolding doubled_by
-    set_refused n = rw (← first_is (area_refusals (so_far k) set) k (here (ap not (ne_eqb k 0 n)))) (answer_refused k _ n)
+    set_refused r e = rw (← refused_so_far refusals (empty set) r e) (answer_refused (number r) _ (refusals_have_numbers r))
 
-    pub set_taken : k ≡ 0 → doubled_by [] set ≡ doubled_by (so_far k) set
-    unfolding doubled_by first_of
-    set_taken z = rw z
-
-    pub set_doubled : (refusals : List Rung) → T (numbered refusals) → k ≡ first_of refusals → doubled_by (so_far k) set ≡ doubled_by refusals set
+    pub set_taken : T (numbered refusals) → 0 ≡ first_of refusals → doubled_by [] set ≡ doubled_by refusals set
     unfolding doubled_by
-    set_doubled refusals t e = ap (λ (r : ℕ). A.answer r (reported_sum set)) (so_far_then refusals (empty set) t k _ e refl)
+    set_taken t e = ap (λ (k : ℕ). A.answer k (reported_sum set)) (asked_further refusals (empty set) t e refl)
 
   pub set_half : (refusals : List Rung) → half_of (doubled_by refusals set) ≡ half_by refusals set
   unfolding doubled_by half_by

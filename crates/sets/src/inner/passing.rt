@@ -4,7 +4,7 @@ ghost use Rattle.grid.specs.Limits.{limit};
 ghost use Rattle.grid.specs.Points.{points as points_of};
 ghost use Rattle.replies.specs.Ladder.{first_of};
 ghost use Rattle.grid.specs.Domain.{domain};
-ghost use Rattle.replies.specs.Verdicts.{verdict as verdict_of};
+ghost use Rattle.replies.specs.Verdicts.{answered};
 ghost use Rattle.buffer.specs.Spans.{span, spans};
 ghost use Rattle.buffer.specs.Sets.{contour, contours};
 ghost use Rattle.buffer.specs.Contours.{refusals};
@@ -12,7 +12,7 @@ ghost use Rattle.clean.specs.Verdicts.{passes as passes_by};
 ghost use Rattle.sets.specs.Verdicts.{all_pass as all_pass_by, verdict_by};
 
 use buffer::inner::parts;
-use replies::Verdict;
+use replies::Refusal;
 use ring::Rule;
 
 // Whether a contour passes. A box does, by either rule.
@@ -38,35 +38,18 @@ fn named_passes(rule: Rule, points: &[i32], ranges: &[[usize; 2]], k: usize) -> 
 }
 
 // Whether every contour passes, of a set that no call refuses.
-fn all_pass(rule: Rule, points: &[i32], ranges: &[[usize; 2]]) -> bool
+pub fn all_pass(rule: Rule, points: &[i32], ranges: &[[usize; 2]]) -> bool
     requires { first_of (refusals points.now ranges.now) ≡ 0 }
     ensures { result ≡ all_pass_by rule (contours points.now (spans ranges.now)) }
 {
     (0..ranges.len()).all(|i| named_passes(rule, points, ranges, i))
 }
 
-// The answer of a set that was refused with this number, or was not.
-pub fn asked(rule: Rule, refusal: u32, points: &[i32], ranges: &[[usize; 2]]) -> Verdict
-    requires { refusal ≡ 0 → first_of (refusals points.now ranges.now) ≡ 0 }
-    ensures { result ≡ verdict_of refusal (all_pass_by rule (contours points.now (spans ranges.now))) }
-{
-    if refusal != 0 {
-        return Verdict {
-            reply: refusal,
-            yes: false,
-        };
-    }
-    Verdict {
-        reply: replies::DONE,
-        yes: all_pass(rule, points, ranges),
-    }
-}
-
 // The answer of a contour set.
-pub fn verdict(rule: Rule, points: &[i32], ranges: &[[usize; 2]]) -> Verdict
-    ensures { result ≡ verdict_by rule (refusals points.now ranges.now)
+pub fn verdict(rule: Rule, points: &[i32], ranges: &[[usize; 2]]) -> Result<bool, Refusal>
+    ensures { answered result ≡ verdict_by rule (refusals points.now ranges.now)
         (contours points.now (spans ranges.now)) }
 {
-    let refusal = buffer::contours::refused(points, ranges);
-    asked(rule, refusal, points, ranges)
+    buffer::contours::check(points, ranges)?;
+    Ok(all_pass(rule, points, ranges))
 }
