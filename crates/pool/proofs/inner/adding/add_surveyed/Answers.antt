@@ -4,38 +4,13 @@ use native.Mathlib.Omega.{arith}
 use Rattle.pool.specs.Outcome.{leaving}
 use Rattle.pool.proofs.CallLaws.{shares_small, Asked, add_refused, add_holds, add_fits, add_done, grown_not}
 use Rattle.pool.proofs.inner.adding.add_surveyed.Goals as goal
+use Rattle.pool.proofs.inner.adding.add_surveyed.Goals.{After-refusal-refused}
 
 -- what is asked of the contour, the pool and the room
-asked : (c : goal.Then-refused-ne0) →
+asked : (c : After-refusal-refused) →
     let s = c.args in
     Asked s.points.now s.records.now s.n s.second s.contour.now s.found c.refusal-refused.result
 asked c = record {
-  survey = c.requires;
-  m = _;
-  o = _;
-  mine = c.share-mine.ensures;
-  others = c.share-others.ensures;
-  reply = c.refusal-refused.ensures;
-}
-
--- what is asked of the contour, the pool and the room
-asked_2 : (c : goal.After-append-arg-2-1) →
-    let s = c.args in
-    Asked s.points.now s.records.now s.n s.second s.contour.now s.found c.refusal-refused.result
-asked_2 c = record {
-  survey = c.requires;
-  m = _;
-  o = _;
-  mine = c.share-mine.ensures;
-  others = c.share-others.ensures;
-  reply = c.refusal-refused.ensures;
-}
-
--- what is asked of the contour, the pool and the room
-asked_3 : (c : goal.After-records-1) →
-    let s = c.args in
-    Asked s.points.now s.records.now s.n s.second s.contour.now s.found c.refusal-refused.result
-asked_3 c = record {
   survey = c.requires;
   m = _;
   o = _;
@@ -51,16 +26,16 @@ refusal-refused-requires c =
 pub returns-then-refused-ne0 : goal.returns-then-refused-ne0
 returns-then-refused-ne0 c =
     let s = c.args in
-    ap (leaving _ s.points.now s.records.now) (grown_not _ s.n c.if-refused-ne0.true) ∙ add_refused (asked c) s.tool c.if-refused-ne0.true
+    ap (leaving _ s.points.now s.records.now) (grown_not _ s.n c.if-refused-ne0.true) ∙ add_refused (asked (goal.at.returns-then-refused-ne0 c).After-refusal-refused) s.tool c.if-refused-ne0.true
 
 pub append-requires : goal.append-requires
 append-requires c =
-    let judged = asked_2 c in
+    let judged = asked (goal.at.append-requires c).After-refusal-refused in
     let s = c.args in
     record { holds = add_holds judged s.tool c.if-refused-ne0.false; contour_in_bounds = add_fits judged s.tool c.if-refused-ne0.false }
 
 pub returns : goal.returns
 returns c =
     let s = c.args in
-    add_done (asked_3 c) s.tool c.if-refused-ne0.false _ c.append.new.points c.append.new.records
+    add_done (asked (goal.at.returns c).After-refusal-refused) s.tool c.if-refused-ne0.false _ c.append.new.points c.append.new.records
     c.number-press.ensures c.append.ensures
