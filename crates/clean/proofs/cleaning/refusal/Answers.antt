@@ -9,45 +9,30 @@ use Rattle.grid.specs.Domain.{domain}
 use Rattle.replies.proofs.LadderLaws.{First, first_is, stopped, onward}
 use Rattle.replies.proofs.LadderLaws.First.{here, past, foot}
 use Rattle.clean.proofs.cleaning.refusal.Goals as goal
+use Rattle.clean.proofs.cleaning.refusal.Goals.{Else-domain-ne0}
 
 -- past what every call asks
-begun : (c : goal.Then-next-n) (l : List Rung) (r : ℕ) → First l r → First (domain limit c.args.points.now ++ l) r
+begun : (c : Else-domain-ne0) (l : List Rung) (r : ℕ) → First l r → First (domain limit c.args.points.now ++ l) r
 begun c l r f = onward _ _ _ tt (sym c.domain-domain.ensures ∙ c.if-domain-ne0.false) f
-
--- past what every call asks
-begun_2 : (c : goal.Then-prev-n) (l : List Rung) (r : ℕ) → First l r → First (domain limit c.args.points.now ++ l) r
-begun_2 c l r f = onward _ _ _ tt (sym c.domain-domain.ensures ∙ c.if-domain-ne0.false) f
-
--- past what every call asks
-begun_3 : (c : goal.Then-mark-n) (l : List Rung) (r : ℕ) → First l r → First (domain limit c.args.points.now ++ l) r
-begun_3 c l r f = onward _ _ _ tt (sym c.domain-domain.ensures ∙ c.if-domain-ne0.false) f
-
--- past what every call asks
-begun_4 : (c : goal.Then-out-n) (l : List Rung) (r : ℕ) → First l r → First (domain limit c.args.points.now ++ l) r
-begun_4 c l r f = onward _ _ _ tt (sym c.domain-domain.ensures ∙ c.if-domain-ne0.false) f
-
--- past what every call asks
-begun_5 : (c : goal.Else-out-n) (l : List Rung) (r : ℕ) → First l r → First (domain limit c.args.points.now ++ l) r
-begun_5 c l r f = onward _ _ _ tt (sym c.domain-domain.ensures ∙ c.if-domain-ne0.false) f
 
 pub returns-then-domain-ne0 : goal.returns-then-domain-ne0
 returns-then-domain-ne0 c = first_is _ _ (stopped _ _ _ c.domain-domain.ensures c.if-domain-ne0.true)
 
 pub returns-then-next-n : goal.returns-then-next-n
-returns-then-next-n c = first_is _ _ (begun c _ _ (here (lt-ltb _ _ c.if-next-n.true)))
+returns-then-next-n c = first_is _ _ (begun (goal.at.returns-then-next-n c).Else-domain-ne0 _ _ (here (lt-ltb _ _ c.if-next-n.true)))
 
 pub returns-then-prev-n : goal.returns-then-prev-n
 returns-then-prev-n c =
-    first_is _ _ (begun_2 c _ _ (past (le-ltb _ _ c.if-next-n.false) (here (lt-ltb _ _ c.if-prev-n.true))))
+    first_is _ _ (begun (goal.at.returns-then-prev-n c).Else-domain-ne0 _ _ (past (le-ltb _ _ c.if-next-n.false) (here (lt-ltb _ _ c.if-prev-n.true))))
 
 pub returns-then-mark-n : goal.returns-then-mark-n
 returns-then-mark-n c =
-    first_is _ _ (begun_3 c _ _ (past (le-ltb _ _ c.if-next-n.false) (past (le-ltb _ _ c.if-prev-n.false) (here (lt-ltb _ _ c.if-mark-n.true)))))
+    first_is _ _ (begun (goal.at.returns-then-mark-n c).Else-domain-ne0 _ _ (past (le-ltb _ _ c.if-next-n.false) (past (le-ltb _ _ c.if-prev-n.false) (here (lt-ltb _ _ c.if-mark-n.true)))))
 
 pub returns-then-out-n : goal.returns-then-out-n
 returns-then-out-n c =
     first_is _ _
-    (begun_4 c _ _
+    (begun (goal.at.returns-then-out-n c).Else-domain-ne0 _ _
     (past (le-ltb _ _ c.if-next-n.false)
     (past (le-ltb _ _ c.if-prev-n.false)
     (past (le-ltb _ _ c.if-mark-n.false)
@@ -56,7 +41,7 @@ returns-then-out-n c =
 pub returns : goal.returns
 returns c =
     first_is _ _
-    (begun_5 c _ _
+    (begun (goal.at.returns c).Else-domain-ne0 _ _
     (past (le-ltb _ _ c.if-next-n.false)
     (past (le-ltb _ _ c.if-prev-n.false)
     (past (le-ltb _ _ c.if-mark-n.false)

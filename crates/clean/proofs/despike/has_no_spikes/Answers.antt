@@ -9,39 +9,25 @@ use Rattle.ring.specs.declared.Rule.TheVariants.{Spike}
 use Rattle.clean.specs.Verdicts.{spike_free}
 use Rattle.clean.proofs.LookLaws.{box_passes}
 use Rattle.clean.proofs.despike.has_no_spikes.Goals as goal
+use Rattle.clean.proofs.despike.has_no_spikes.Goals.{Else-refusal-ne0}
 
 -- the row is not refused
-given : (c : goal.Else-refusal-ne0) → first_of (domain limit c.args.points.now) ≡ 0
+given : (c : Else-refusal-ne0) → first_of (domain limit c.args.points.now) ≡ 0
 given c = sym c.domain-refusal.ensures ∙ c.if-refusal-ne0.false
-
--- the row is not refused
-given_2 : (c : goal.Then-is_box) → first_of (domain limit c.args.points.now) ≡ 0
-given_2 c = sym c.domain-refusal.ensures ∙ c.if-refusal-ne0.false
-
--- the row is not refused
-given_3 : (c : goal.Else-is_box) → first_of (domain limit c.args.points.now) ≡ 0
-given_3 c = sym c.domain-refusal.ensures ∙ c.if-refusal-ne0.false
-
--- the row is not refused
-given_4 : (c : goal.After-no_spikes) → first_of (domain limit c.args.points.now) ≡ 0
-given_4 c = sym c.domain-refusal.ensures ∙ c.if-refusal-ne0.false
 
 pub returns-then-refusal-ne0 : goal.returns-then-refusal-ne0
 unfolding spike_free
 returns-then-refusal-ne0 c = verdict_refused _ _ _ c.domain-refusal.ensures c.if-refusal-ne0.true
 
 pub is_box-requires : goal.is_box-requires
-is_box-requires c = in_domain _ (given c)
+is_box-requires c = in_domain _ (given (goal.at.is_box-requires c).Else-refusal-ne0)
 
 pub returns-then-is_box : goal.returns-then-is_box
 unfolding spike_free
 returns-then-is_box c =
     let row = c.args.points.now in
-    verdict_given _ _ _ (given_2 c) (box_passes row (in_domain row (given_2 c)) Spike (sym c.is_box.ensures ∙ c.if-is_box.true))
-
-pub no_spikes-requires : goal.no_spikes-requires
-no_spikes-requires c = given_3 c
+    verdict_given _ _ _ (given (goal.at.returns-then-is_box c).Else-refusal-ne0) (box_passes row (in_domain row (given (goal.at.returns-then-is_box c).Else-refusal-ne0)) Spike (sym c.is_box.ensures ∙ c.if-is_box.true))
 
 pub returns : goal.returns
 unfolding spike_free
-returns c = verdict_given _ _ _ (given_4 c) c.no_spikes.ensures
+returns c = verdict_given _ _ _ (given (goal.at.returns c).Else-refusal-ne0) c.no_spikes.ensures
