@@ -81,28 +81,26 @@ module _ {row : List ℤ} {n : ℕ} (c : Contour row n) where
       (# 2 :* (# 5 :- # 1))
       (a.x ∷ a.y ∷ b.x ∷ b.y ∷ o.x ∷ o.y ∷ []) refl)
 
-  pub gathered_ends : 3 ≤ n → Gathered row n (int_wrap w64 (share row (n - 1) 0 1 +ℤ share row (n - 2) (n - 1) 0)) (n - 1 - 1)
+  pub gathered_ends : 3 ≤ n → Gathered row n (int_wrap w64 (share row (n - 1) 0 1 +ℤ share row (n - 2) (n - 1) 0)) (n - 2)
   gathered_ends h =
-      let two : n - 1 - 1 ≡ n - 2 = omega arith in
       let first = share row (n - 1) 0 1 in
       let end = share row (n - 2) (n - 1) 0 in
       let all = after row n 0 in
       record {
         high = omega arith;
-        is = ap (int_wrap w64) (rw (two, whole (omega arith), closing (omega arith)) (ring (# 0 :+ # 1) ((# 0 :+ # 2) :- (# 2 :- # 1)) (first ∷ end ∷ all ∷ []) refl));
+        is = ap (int_wrap w64) (rw (whole (omega arith), closing (omega arith)) (ring (# 0 :+ # 1) ((# 0 :+ # 2) :- (# 2 :- # 1)) (first ∷ end ∷ all ∷ []) refl));
       }
 
-  pub gathered_more : (i : ℕ) (sum : ℤ) → Gathered row n sum i → 0 < i → Gathered row n (int_wrap w64 (sum +ℤ share row (i - 1) i (i + 1))) (i - 1)
+  pub gathered_more : (i : ℕ) (sum : ℤ) → Gathered row n sum i → 0 < i → Gathered row n (int_wrap w64 (sum +ℤ share row (i - 1) (i - 1 + 1) (i - 1 + 2))) (i - 1)
   gathered_more zero sum g h = absurd (omega arith)
   gathered_more (suc j) sum g h =
       let back : suc j - 1 ≡ j = omega arith in
       let here : suc j ≡ j + 1 = omega arith in
-      let two : suc j + 1 ≡ j + 2 = omega arith in
       let s = share row j (j + 1) (j + 2) in
       let whole = exact (points row) in
       let all = after row n 0 in
       let rest = after row n (j + 1) in
-      rw (back, two, here)
+      rw back
       (record {
         high = omega (arith, g.high);
         is = ap (λ (z : ℤ). int_wrap w64 (z +ℤ s)) (rw here at g.is) ∙ int_wrap-add_left w64 (whole -ℤ (all -ℤ rest)) s

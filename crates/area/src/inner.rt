@@ -37,8 +37,8 @@ fn total(points: &[i32], n: usize) -> i64
         return 0;
     }
     let mut sum = share(points, n - 1, 0, 1).wrapping_add(share(points, n - 2, n - 1, 0));
-    for i in (1..n - 1).rev() {
-        sum = sum.wrapping_add(share(points, i - 1, i, i + 1));
+    for i in (0..n - 2).rev() {
+        sum = sum.wrapping_add(share(points, i, i + 1, i + 2));
     }
     sum
 }

@@ -14,7 +14,7 @@ use Rattle.buffer.specs.Spans.{span}
 use Rattle.buffer.specs.Sets.{contour}
 use Rattle.buffer.specs.Parts as Parts
 use Rattle.buffer.specs.Answers.{counted}
-use Rattle.buffer.proofs.ListLaws.{map_at}
+use Rattle.std.proofs.lemmas.List.{get_or-map}
 use Rattle.buffer.proofs.PartLaws.{part_holds}
 use Rattle.pool.specs.Lists.{Entry, capacity, held, own, free}
 use Rattle.pool.specs.Calls.{unsound}
@@ -94,8 +94,8 @@ module _ (points : Part) (records : List (List ℕ)) (n : ℕ) (f : Survey) (u :
       part_there =
           handed_sound _
           (ap (λ (s : Slot). Parts.named points (span_of s)) w.is
-          ∙ sym (map_at (Parts.named points) own_spans k (none points) (span []) (omega (arith, w.there, length-map (own_slots p (used rows)) span_of))
-          ∙ ap (Parts.named points) (map_at span_of (own_slots p (used rows)) k (span []) (slot []) w.there)))
+          ∙ sym (get_or-map (Parts.named points) own_spans k (span []) (none points) (omega (arith, w.there, length-map (own_slots p (used rows)) span_of))
+          ∙ ap (Parts.named points) (get_or-map span_of (own_slots p (used rows)) k (slot []) (span []) w.there)))
 
 -- the contours that a press reads by number are its own, in order
 pub read_by_number : (points : Part) (records : List (List ℕ)) (n p k : ℕ) → sound (lent points.numbers records n) ≡ true

@@ -11,10 +11,10 @@ use Rattle.std.proofs.lemmas.List.Recursion.{is_count_by}
 use lib.Dec.{leb, eqb}
 use lib.ListN.{length, get_or, take, drop, drop_of_length-le, length-map}
 use lib.Seq.{drop-cons, length-take-le, get_or-take}
-use borrow.Author.Tests.{eqb-true, eqb-false, leb-true, le-leb, eq-eqb, ne_eqb}
+use borrow.Author.Tests.{eqb-true, leb-true, le-leb, eq-eqb, ne_eqb}
 use Rattle.integers.proofs.Logic.{and_left, and_right}
 use Rattle.buffer.specs.Spans as Spans
-use Rattle.buffer.proofs.ListLaws.{map_at}
+use Rattle.std.proofs.lemmas.List.{get_or-map}
 use Rattle.pool.specs.Lists.{holding, if_so}
 use Rattle.pool.specs.Rows.{Slot, slot, slots, span_of, follows, chained, if_mine, held_by}
 use Rattle.pool.specs.Outcome.{own_slots}
@@ -29,7 +29,7 @@ module _ (records : List (List ℕ)) (n i : ℕ) (fit : n ≤ length records) wh
   here h =
       let k : i < length (take n (slots records)) = omega (arith, taken) in
       drop-cons (take n (slots records)) i (slot []) k
-      ∙ rw (add-one i, get_or-take n (slots records) i (slot []) h, map_at slot records i (slot []) [] (omega arith))
+      ∙ rw (add-one i, get_or-take n (slots records) i (slot []) h, get_or-map slot records i [] (slot []) (omega arith))
 
   nothing : n ≤ i → drop i (take n (slots records)) ≡ []
   nothing h = let k : length (take n (slots records)) ≤ i = omega (arith, taken) in drop_of_length-le (take n (slots records)) k
@@ -141,14 +141,6 @@ first_chained places p s l = ap (λ (t : Bool). follows p s && t) (go (chained p
     go true e = rw (le-leb s.end places (rises places s.end l e))
     go false e = rw e (sym (and-false (leb s.end places)))
 
--- a record that starts at a point runs forward from there
-pub along : (at start end : ℕ) → (eqb at start && leb at end) ≡ (eqb at start && leb start end)
-along at start end = go (eqb at start) refl
-  where
-    go : (t : Bool) → eqb at start ≡ t → (t && leb at end) ≡ (t && leb start end)
-    go true e = ap (λ (k : ℕ). leb k end) (eqb-true at start e)
-    go false e = refl
-
 -- a number that counts for either press, and for the second by its number
 either_mine : (press k : ℕ) → press ≤ 1 → if_mine (eqb 0 press) k + if_mine (eqb 1 press) k ≡ k
 either_mine zero k h = omega arith
@@ -171,18 +163,6 @@ pub record Surveying (records : List (List ℕ)) (n places at all second i : ℕ
   pub both : all + held_by 0 (drop i (take n (slots records))) + held_by 1 (drop i (take n (slots records)))
       ≡ held_by 0 (take n (slots records)) + held_by 1 (take n (slots records))
   pub one : second + held_by 1 (drop i (take n (slots records))) ≡ held_by 1 (take n (slots records))
-
-pub surveying_none : (records : List (List ℕ)) (n places : ℕ) → Surveying records n places 0 0 0 0
-surveying_none records n places = record {
-  within = omega arith;
-  ends = omega arith;
-  small = omega arith;
-  part = omega arith;
-  chain = refl;
-  end = refl;
-  both = omega arith;
-  one = omega arith;
-}
 
 module _ {records : List (List ℕ)} {n places at all second i : ℕ} (fit : n ≤ length records) (s : Surveying records n places at all second i) where
   abbrev this : Slot
@@ -251,13 +231,5 @@ pub lain : (places n : ℕ) (records : List (List ℕ)) (i : ℕ) → n ≤ leng
     → Lain places (slot (get_or records i []))
 lain places n records i fit e h =
     let k : i < length (take n (slots records)) = omega (arith, taken records n i fit) in
-    subst (Lain places) (get_or-take n (slots records) i (slot []) h ∙ map_at slot records i (slot []) [] (omega arith))
+    subst (Lain places) (get_or-take n (slots records) i (slot []) h ∙ get_or-map slot records i [] (slot []) (omega arith))
     (lain_at places 0 (take n (slots records)) i (slot []) e k)
-
--- what holds of no number from i on, nor of the one before, holds of none from there on
-pub one_below : (P : ℕ → Type 0) (i n : ℕ) → ((j : ℕ) → i ≤ j → j < n → P j → ⊥) → (P (i - 1) → ⊥) → (j : ℕ) → i - 1 ≤ j → j < n → P j → ⊥
-one_below P i n f g j a b x = go (eqb j (i - 1)) refl
-  where
-    go : (t : Bool) → eqb j (i - 1) ≡ t → ⊥
-    go true e = g (subst P (eqb-true j (i - 1) e) x)
-    go false e = f j (omega (arith, eqb-false j (i - 1) e)) b x

@@ -1,34 +1,20 @@
 -- Rows that are written to, and what is read of each element.
 use mathlib.Core.Path.{◌≡◌, refl, sym, ◌∙◌, ap, ap₂}
-use mathlib.Core.List.{List, [], ◌∷◌, ◌++◌, map, append_assoc, map-append}
-use Prim.Native.Nat.{ℕ, zero, suc, ◌+◌, ◌-◌, ◌≤◌, ◌<◌}
+use mathlib.Core.List.{List, ◌++◌, map, append_assoc, map-append}
+use Prim.Native.Nat.{ℕ, ◌+◌, ◌-◌, ◌≤◌, ◌<◌}
 use native.Mathlib.Omega.{arith}
-use lib.ListN.{length, get_or, set, take, drop, length-append, length-map, length-drop}
+use lib.ListN.{length, get_or, take, drop, length-append, length-map, length-drop}
 use lib.Seq.{paste, take_at, drop_at, drop-paste, get_or-drop, get_or-take, length-take-le}
+use Rattle.std.proofs.lemmas.List.{take-map, drop-map}
 use Rattle.rows.specs.Rows.{front, placed}
 
 module _ {A B : Type 0} (f : A → B) where
-  pub map-drop : (n : ℕ) (l : List A) → map f (drop n l) ≡ drop n (map f l)
-  map-drop zero l = refl
-  map-drop (suc n) [] = refl
-  map-drop (suc n) (a ∷ l) = map-drop n l
-
-  pub map-take : (n : ℕ) (l : List A) → map f (take n l) ≡ take n (map f l)
-  map-take zero l = refl
-  map-take (suc n) [] = refl
-  map-take (suc n) (a ∷ l) = ap (λ (k : List B). f a ∷ k) (map-take n l)
-
-  pub map-set : (l : List A) (i : ℕ) (v : A) → map f (set l i v) ≡ set (map f l) i (f v)
-  map-set [] i v = refl
-  map-set (x ∷ l) zero v = refl
-  map-set (x ∷ l) (suc i) v = ap (λ (k : List B). f x ∷ k) (map-set l i v)
-
   pub map_placed : (at : ℕ) (l row : List A) → map f (placed at l row) ≡ placed at (map f l) (map f row)
   map_placed at l row =
       map-append f (take at row ++ l) (drop (at + length l) row)
       ∙ ap₂ (λ (a b : List B). a ++ b)
-      (map-append f (take at row) l ∙ ap (λ (a : List B). a ++ map f l) (map-take at row))
-      (map-drop (at + length l) row ∙ ap (λ (n : ℕ). drop (at + n) (map f row)) (sym (length-map l f)))
+      (map-append f (take at row) l ∙ ap (λ (a : List B). a ++ map f l) (sym (take-map f at row)))
+      (sym (drop-map f (at + length l) row) ∙ ap (λ (n : ℕ). drop (at + n) (map f row)) (sym (length-map l f)))
 
 module _ {A : Type 0} where
   -- a row that begins with a list, and what is placed behind that

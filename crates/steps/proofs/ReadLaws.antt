@@ -1,6 +1,6 @@
 -- Differences that are read one behind the other, by the rest of them.
 use mathlib.Core.Path.{◌≡◌, refl, sym, ◌∙◌, ap}
-use mathlib.Core.Bool.{true, false, ◌&&◌}
+use mathlib.Core.Bool.{Bool, true, false, not, ◌&&◌, and-false}
 use mathlib.Core.List.{List, [], ◌∷◌}
 use Prim.Native.Nat.{ℕ, zero, suc, ◌+◌, ◌-◌, ◌*◌, ◌%◌, ◌^◌, ◌<◌, ◌≤◌}
 use native.Mathlib.Nat.{mul-le-mul_left, lt_of_lt_of_le, le_refl}
@@ -11,7 +11,10 @@ use lib.Seq.{drop-drop, get_or-drop}
 use lib.Pow.{pow_mono}
 use lib.IntN.{ℤ, pos, nat_abs, ◌+ℤ◌}
 use lib.Signed.{mag, nat_abs-le}
-use borrow.Author.Tests.{ltb-true, leb-true, lt-ltb, le-ltb, le-leb, lt-leb}
+use borrow.Author.Tests.{not-true, not-false, ltb-false, ltb-true, leb-true, lt-ltb, le-ltb, le-leb, lt-leb}
+use Rattle.std.specs.Bool.{MatchBool}
+use Rattle.std.specs.List.{range_with_len, HoldsAt, AllWithin}
+use Rattle.std.proofs.lemmas.List.FromFn.{length-range_with_len, get_or-range_with_len}
 use Rattle.integers.specs.Bound.{In}
 use Rattle.integers.proofs.Bound.{in_add}
 use Rattle.integers.proofs.Logic.{and_left, and_right, and_both}
@@ -39,9 +42,6 @@ in_32 z h = record { abs = nat_abs-le z h }
 
 pub signed_small : {w : ℕ} (n : ℕ) → Width w → n < 2 ^ w → mag (signed w n) < 2 ^ 31
 signed_small {w} n s h = lt_of_lt_of_le (ltb-true (mag (signed w n)) (2 ^ (w - 1)) (signed_fits w s.some n h)) (pow_mono {i = w - 1} {j = 31} (omega (arith, s.few)))
-
-pub step_small : {f : List ℕ} {at w : ℕ} → Within f at w → Width w → mag (difference f at w) < 2 ^ 31
-step_small {f} {at} {w} h s = signed_small (value (take w (drop at (bits f)))) s (number_below h)
 
 room_for_one : (w i k : ℕ) → i < k → w * i + w ≤ w * k
 room_for_one w i k h =
@@ -115,6 +115,39 @@ module _ (f : List ℕ) (at w k : ℕ) where
   pub none_unfit : (v i : ℕ) → k ≤ i → all_fit v (rest f at w k i) ≡ true
   unfolding all_fit
   none_unfit v i h = ap (all_fit v) (rest_none i h)
+
+  -- one of them that does not fit, and none
+  module _ (v : ℕ) where
+    one_unfit : (m i n : ℕ) → i + m ≡ n → n < k → not (fits v (difference f (at + w * n) w)) ≡ true → all_fit v (rest f at w k i) ≡ false
+    unfolding all_fit
+    one_unfit zero i n e h u =
+        let s : i ≡ n = omega arith in
+        rw s (next_unfit v n h (ltb-false _ _ (not-true _ u)))
+    one_unfit (suc m) i n e h u =
+        let d : ℤ = difference f (at + w * i) w in
+        ap (all_fit v) (rest_more i (omega arith)) ∙ ap (λ (b : Bool). fits v d && b) (one_unfit m (i + 1) n (omega arith) h u) ∙ and-false (fits v d)
+
+    all_fitting : (m i : ℕ) → i + m ≡ k → ((n : ℕ) → n < k → not (fits v (difference f (at + w * n) w)) ≡ false) → all_fit v (rest f at w k i) ≡ true
+    all_fitting zero i e h = none_unfit v i (omega arith)
+    all_fitting (suc m) i e h = next_fits v i (omega arith) (ltb-true _ _ (not-false _ (h i (omega arith)))) ∙ all_fitting m (i + 1) (omega arith) h
+
+    -- as `any` tells it
+    pub unfit_told : (r : Bool) → MatchBool r
+        ((n : ℕ) × (n < length (range_with_len 0 k)) × HoldsAt (λ i. not (fits v (difference f (at + w * i) w)) ≡ true) (range_with_len 0 k) n)
+        (AllWithin (λ i. not (fits v (difference f (at + w * i) w)) ≡ false) (range_with_len 0 k) 0 (length (range_with_len 0 k)))
+        → r ≡ not (all_fit v (numbers w k (drop at (bits f))))
+    unfit_told true h =
+        let n : ℕ = h.0 in
+        let l : n < k = omega (arith, h.1, length-range_with_len 0 k) in
+        let z : 0 + n ≡ n = omega arith in
+        let u = rw (get_or-range_with_len 0 k n 0 l, z) at (h.2 0) in
+        sym (ap not (ap (all_fit v) (sym rest_all) ∙ one_unfit n 0 n z l u))
+    unfit_told false h = sym (ap not (ap (all_fit v) (sym rest_all) ∙ all_fitting k 0 (omega arith) each))
+      where
+        each : (n : ℕ) → n < k → not (fits v (difference f (at + w * n) w)) ≡ false
+        each n l =
+            let z : 0 + n ≡ n = omega arith in
+            rw (get_or-range_with_len 0 k n 0 l, z) at (h n 0 (omega arith) (omega (arith, l, length-range_with_len 0 k)))
 
   -- the numbers that they make: the next, of x, and those behind it
   module _ (x y : ℤ) (i : ℕ) (h : i < k) where

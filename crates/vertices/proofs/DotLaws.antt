@@ -52,20 +52,6 @@ module _ (row : List ℤ) (mark : List ℕ) (h : length row ≡ 2 * length mark)
       vertices_at (survive mark) (points row) i d (omega (arith, length-map mark (λ (x : ℕ). ltb x removed))) as_many
       ∙ ap₂ vertex (points_at row i (omega arith)) (survive_at mark i l)
 
--- whether a vertex is one of those asked for
-module _ (b k : Bool) (p : Point) where
-  pub kept_shown : b ≡ true → k ≡ true → dot_if b (vertex p k) ≡ dot p
-  kept_shown e g = ap₂ (λ (b k : Bool). dot_if b (vertex p k)) e g
-
-  pub removed_hidden : b ≡ true → k ≡ false → dot_if b (vertex p k) ≡ []
-  removed_hidden e g = ap₂ (λ (b k : Bool). dot_if b (vertex p k)) e g
-
-  pub kept_hidden : b ≡ false → k ≡ true → dot_if b (vertex p k) ≡ []
-  kept_hidden e g = ap₂ (λ (b k : Bool). dot_if b (vertex p k)) e g
-
-  pub removed_shown : b ≡ false → k ≡ false → dot_if b (vertex p k) ≡ dot p
-  removed_shown e g = ap₂ (λ (b k : Bool). dot_if b (vertex p k)) e g
-
 -- nothing is put
 pub nothing_put : (at : ℕ) (text : List ℕ) → Put at [] text at text
 nothing_put at text = record { behind = omega arith; is = sym (placed_none text at) }

@@ -1,7 +1,7 @@
 // A contour's points, read from its steps.
 ghost use Rattle.std.specs.Prelude.{◌≡◌, true, not, ◌+◌, ◌-◌, ◌*◌, ◌^◌, ◌<◌, ◌≤◌, eqb, leb, length, take, drop, nat_abs, ◌+ℤ◌};
 ghost use Rattle.bits.specs.Bits.{value, bits};
-ghost use Rattle.bits.specs.Signs.{signed, all_fit, numbers};
+ghost use Rattle.bits.specs.Signs.{signed, fits, all_fit, numbers};
 ghost use Rattle.bits.specs.Widths.{width_of};
 ghost use Rattle.bits.specs.inside.Words.{Within, leading};
 ghost use Rattle.grid.specs.Limits.{limit, on_grid, all_on_grid};
@@ -22,18 +22,24 @@ fn step(bytes: &[u8], at: usize, width: usize) -> i64
     signs::signed(fields::long_number(bytes, at, width), width)
 }
 
-// Whether one of k differences, from bit `at` on, does not fit one bit less.
+// Whether the difference of `width` bits at bit `at` does not fit one bit less.
+fn needs(bytes: &[u8], at: usize, width: usize) -> bool
+    requires { Within bytes.now at width
+        × Width width
+        × (8 ≤ length bytes.now)
+        × (1 < width) }
+    ensures { result
+        ≡ not (fits (width - 1) (signed width (value (take width (drop at (bits bytes.now)))))) }
+{
+    1 << (width - 2) <= signs::reach(step(bytes, at, width))
+}
+
+// Whether one of k differences, from bit `at` on, does not.
 fn some_needs(bytes: &[u8], at: usize, width: usize, k: usize) -> bool
     requires { There bytes.now at width k × (1 < width) }
     ensures { result ≡ not (all_fit (width - 1) (numbers width k (drop at (bits bytes.now)))) }
 {
-    let most: u64 = 1 << (width - 2);
-    for i in 0..k {
-        if most <= signs::reach(step(bytes, at + width * i, width)) {
-            return true;
-        }
-    }
-    false
+    (0..k).any(|i| needs(bytes, at + width * i, width))
 }
 
 // Whether the width that is written of n points, which stand from bit `at` on, is the smallest.

@@ -1,11 +1,8 @@
 -- `pool::inner::records::find` meets its contract: number k of all is number `rest` of those that follow.
 use Rattle.std.proofs.Common.{arith}
-use Rattle.pool.proofs.RecordLaws.{seeking_all, seeking_here, seeking_past, seeking_other, seeking_none}
+use Rattle.pool.proofs.RecordLaws.{seeking_here, seeking_past, seeking_other, seeking_none}
 use Rattle.pool.proofs.inner.records.find.Goals as goal
 use Rattle.pool.proofs.inner.records.find.Goals.{then-records-i+else-rest-eq0, else-records-i}
-
-pub loop-i-init : goal.loop-i-init
-loop-i-init c = seeking_all _ _ _ _
 
 pub returns-then-rest-eq0 : goal.returns-then-rest-eq0
 returns-then-rest-eq0 c =

@@ -9,21 +9,13 @@ use lib.IntN.{ℤ, pos}
 use mir.Syntax.{w64}
 use mir.Val.{to_z, of_z}
 use mir.Facts.{to_z-of_z, Fits-of_lt}
-use Rattle.integers.specs.Bound.{In}
-use Rattle.integers.proofs.Bound.{in_eq}
 use Rattle.bits.specs.Signs.{fits, all_fit}
 use Rattle.steps.specs.Steps.{differences}
 use Rattle.steps.specs.inside.Asked.{step, joined}
 use Rattle.steps.proofs.WriteLaws.{fit_point, first_fits, second_fits}
-use Rattle.steps.proofs.PairLaws.{middle, middle_below, scale_in, up, up_below, up_turned, rising, raised_is, word_fits, word_turned}
+use Rattle.steps.proofs.PairLaws.{middle, middle_below, up, up_below, up_turned, rising, raised_is, word_fits, word_turned}
 use borrow.Author.Rules.{sfits_of}
 use Rattle.steps.proofs.inner.pairs.four.Goals as goal
-
-scale_is : (c : goal.After-halves-halves) → to_z w64 (of_z w64 c.scale-scale.result) ≡ pos (2 ^ c.args.width)
-scale_is c = to_z-of_z {w = w64} (sfits_of c.scale-scale.type_inv) ∙ c.scale-scale.ensures
-
-scale_is_2 : (c : goal.After-joined-between) → to_z w64 (of_z w64 c.scale-scale.result) ≡ pos (2 ^ c.args.width)
-scale_is_2 c = to_z-of_z {w = w64} (sfits_of c.scale-scale.type_inv) ∙ c.scale-scale.ensures
 
 scale_is_3 : (c : goal.After-joined-last) → to_z w64 (of_z w64 c.scale-scale.result) ≡ pos (2 ^ c.args.width)
 scale_is_3 c = to_z-of_z {w = w64} (sfits_of c.scale-scale.type_inv) ∙ c.scale-scale.ensures
@@ -33,12 +25,6 @@ scale_is_4 c = to_z-of_z {w = w64} (sfits_of c.scale-scale.type_inv) ∙ c.scale
 
 scale_is_5 : (c : goal.After-raised-second) → to_z w64 (of_z w64 c.scale-scale.result) ≡ pos (2 ^ c.args.width)
 scale_is_5 c = to_z-of_z {w = w64} (sfits_of c.scale-scale.type_inv) ∙ c.scale-scale.ensures
-
-scale_small : (c : goal.After-halves-halves) → In 32768 (to_z w64 (of_z w64 c.scale-scale.result))
-scale_small c = in_eq (scale_is c) (scale_in c.args.width c.requires.2)
-
-scale_small_2 : (c : goal.After-joined-between) → In 32768 (to_z w64 (of_z w64 c.scale-scale.result))
-scale_small_2 c = in_eq (scale_is_2 c) (scale_in c.args.width c.requires.2)
 
 -- the three points, as numbers
 from_is : (c : goal.After-joined-last) → let s = c.args in to_z w64 (of_z w64 s.from) ≡ joined (pos (2 ^ s.width)) s.contour.now s.k
@@ -119,12 +105,6 @@ second_is : (c : goal.After-raised-second) →
     c.raised-second.result ≡ up c.args.contour.now c.args.width (c.args.k + 2) c.requires.2 (fits-2 c.args.contour.now c.args.width c.args.k c.requires.2.some c.requires.0 c.requires.3) (fits-3 c.args.contour.now c.args.width c.args.k c.requires.2.some c.requires.0 c.requires.3)
 second_is c =
     raised_is c.args.contour.now c.args.width (c.args.k + 2) c.requires.2 (fits-2 c.args.contour.now c.args.width c.args.k c.requires.2.some c.requires.0 c.requires.3) (fits-3 c.args.contour.now c.args.width c.args.k c.requires.2.some c.requires.0 c.requires.3) _ _ (between_is_3 c) (last_too_2 c) _ _ c.halves-halves.ensures c.raised-second.ensures
-
-pub joined-between-requires : goal.joined-between-requires
-joined-between-requires c = (omega arith, c.requires.1, scale_small c)
-
-pub joined-last-requires : goal.joined-last-requires
-joined-last-requires c = (omega arith, c.requires.1, scale_small_2 c)
 
 pub raised-first-requires : goal.raised-first-requires
 raised-first-requires c =

@@ -17,20 +17,11 @@ use Rattle.grid.specs.Limits.{limit, all_on_grid}
 use Rattle.steps.specs.Steps.{sums}
 use Rattle.steps.specs.Bodies.{points_of_width}
 use Rattle.steps.proofs.ReadLaws.{points_near}
-use Rattle.steps.proofs.StandLaws.{no_points, some_points, two_on, x_there, y_there, long_enough, steps_there}
+use Rattle.steps.proofs.StandLaws.{no_points, some_points, two_on, steps_there}
 use Rattle.steps.proofs.inner.reading.on_grid.Goals as goal
-
-some : (c : goal.Else-n-eq0) → 0 < c.args.n
-some c = omega (arith, c.if-n-eq0.false)
-
-some_2 : (c : goal.After-coordinate-x) → 0 < c.args.n
-some_2 c = omega (arith, c.if-n-eq0.false)
 
 some_3 : (c : goal.Then-stays) → 0 < c.args.n
 some_3 c = omega (arith, c.if-n-eq0.false)
-
-some_4 : (c : goal.Then-on_grid) → 0 < c.args.n
-some_4 c = omega (arith, c.if-n-eq0.false)
 
 some_5 : (c : goal.After-sums_on) → 0 < c.args.n
 some_5 c = omega (arith, c.if-n-eq0.false)
@@ -105,12 +96,6 @@ pub returns-then-n-eq0 : goal.returns-then-n-eq0
 unfolding all_on_grid
 returns-then-n-eq0 c = let s = c.args in ap (all_on_grid limit) (sym (no_points s.n s.width (drop s.at (bits s.bytes.now)) c.if-n-eq0.true))
 
-pub coordinate-x-requires : goal.coordinate-x-requires
-coordinate-x-requires c = let p = c.requires.0 in (x_there p (some c), long_enough p (some c))
-
-pub coordinate-y-requires : goal.coordinate-y-requires
-coordinate-y-requires c = let p = c.requires.0 in (y_there p (some_2 c), long_enough p (some_2 c))
-
 -- near
 pub returns-then-stays : goal.returns-then-stays
 returns-then-stays c =
@@ -127,11 +112,6 @@ on_grid-requires c = search rules
 pub on_grid-requires-2 : goal.on_grid-requires-2
 unfolding limit
 on_grid-requires-2 c = search rules
-
-pub sums_on-requires : goal.sums_on-requires
-sums_on-requires c =
-    let p = c.requires in
-    steps_there p.0 (some_4 c) p.1
 
 pub returns-then-on_grid : goal.returns-then-on_grid
 returns-then-on_grid c =

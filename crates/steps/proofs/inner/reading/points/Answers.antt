@@ -4,34 +4,23 @@ use mathlib.Core.Path.{◌≡◌, sym, ◌∙◌, ap}
 use mathlib.Core.List.{List, ◌∷◌}
 use Prim.Native.Nat.{◌+◌, ◌-◌, ◌*◌, ◌<◌, ◌≤◌}
 use native.Mathlib.Omega.{arith}
-use lib.ListN.{length, drop, set, length-set}
+use lib.ListN.{length, drop, set}
 use lib.IntN.{ℤ}
 use mir.Syntax.{w32}
 use mir.Val.{to_z, of_z}
 use mir.Facts.{to_z-of_z}
 use Rattle.rows.specs.Rows.{placed}
-use Rattle.rows.proofs.PlacedLaws.{placed_none, placed_long}
 use Rattle.bits.specs.Bits.{bits}
 use Rattle.bits.specs.Signs.{numbers}
 use Rattle.grid.specs.Limits.{limit, all_on_grid}
 use Rattle.grid.proofs.LimitLaws.{on_dropped}
 use Rattle.steps.specs.Steps.{sums}
 use Rattle.steps.specs.Bodies.{points_of_width}
-use Rattle.steps.proofs.BodyLaws.{points-length}
-use Rattle.steps.proofs.StandLaws.{no_points, some_points, stored_long, stored_behind, x_there, y_there, long_enough, steps_there}
+use Rattle.steps.proofs.StandLaws.{some_points, stored_long, stored_behind, steps_there}
 use Rattle.steps.proofs.inner.reading.points.Goals as goal
-
-some : (c : goal.Else-n-eq0) → 0 < c.args.n
-some c = omega (arith, c.if-n-eq0.false)
-
-some_2 : (c : goal.After-coordinate-x) → 0 < c.args.n
-some_2 c = omega (arith, c.if-n-eq0.false)
 
 some_3 : (c : goal.After-write_following-arg-1) → 0 < c.args.n
 some_3 c = omega (arith, c.if-n-eq0.false)
-
-some_4 : (c : goal.After-coordinate-y) → 0 < c.args.n
-some_4 c = omega (arith, c.if-n-eq0.false)
 
 some_5 : (c : goal.After-out-1) → 0 < c.args.n
 some_5 c = omega (arith, c.if-n-eq0.false)
@@ -43,13 +32,6 @@ asked c = let s = c.args in points_of_width s.n s.width (drop s.at (bits s.bytes
 -- the points, and how many numbers they are
 abbrev asked_2 : goal.After-write_following-arg-1 → List ℤ
 asked_2 c = let s = c.args in points_of_width s.n s.width (drop s.at (bits s.bytes.now))
-
-asked_long : (c : goal.After-out-1) → length (asked c) ≡ 2 * c.args.n
-asked_long c = let s = c.args in points-length s.width (drop s.at (bits s.bytes.now)) s.n
-
--- the first point, and the numbers that follow it
-abbrev x : goal.After-coordinate-y → ℤ
-x c = to_z w32 (of_z w32 c.coordinate-x.result)
 
 -- the first point, and the numbers that follow it
 abbrev x_2 : goal.After-write_following-arg-1 → ℤ
@@ -85,28 +67,11 @@ asked_are_2 c =
     (to_z-of_z {w = w32} (sfits_of c.coordinate-x.type_inv) ∙ c.coordinate-x.ensures)
     (to_z-of_z {w = w32} (sfits_of c.coordinate-y.type_inv) ∙ c.coordinate-y.ensures)
 
-two_room : (c : goal.After-coordinate-y) → let s = c.args in s.to + 2 ≤ length s.out.now
-two_room c = omega (arith, c.requires.3, some_4 c)
-
 two_room_2 : (c : goal.After-write_following-arg-1) → let s = c.args in s.to + 2 ≤ length s.out.now
 two_room_2 c = omega (arith, c.requires.3, some_3 c)
 
 two_room_3 : (c : goal.After-out-1) → let s = c.args in s.to + 2 ≤ length s.out.now
 two_room_3 c = omega (arith, c.requires.3, some_5 c)
-
-pub returns-then-n-eq0 : goal.returns-then-n-eq0
-returns-then-n-eq0 c =
-    let s = c.args in
-    sym (ap (λ (l : List ℤ). placed s.to l s.out.now) (no_points s.n s.width (drop s.at (bits s.bytes.now)) c.if-n-eq0.true) ∙ placed_none s.out.now s.to)
-
-pub coordinate-x-requires : goal.coordinate-x-requires
-coordinate-x-requires c = let p = c.requires.0 in (x_there p (some c), long_enough p (some c))
-
-pub coordinate-y-requires : goal.coordinate-y-requires
-coordinate-y-requires c = let p = c.requires.0 in (y_there p (some_2 c), long_enough p (some_2 c))
-
-pub bounds-out-to-2 : goal.bounds-out-to-2
-bounds-out-to-2 c = let s = c.args in omega (arith, two_room c, length-set s.out.now s.to (x c))
 
 pub write_following-requires : goal.write_following-requires
 write_following-requires c =
@@ -123,10 +88,6 @@ written : (c : goal.After-out-1) →
 written c =
     let s = c.args in
     stored_behind s.out.now s.to (x_3 c) (y_2 c) (two_room_3 c) (following_2 c) ∙ ap (λ (l : List ℤ). placed s.to l s.out.now) (sym (asked_are_2 c))
-
-pub shape_of-out : goal.shape_of-out
-shape_of-out c =
-    ap length (c.write_following.ensures ∙ written c) ∙ placed_long c.args.out.now c.args.to (asked c) (omega (arith, asked_long c, c.requires.3))
 
 pub returns : goal.returns
 returns c = c.write_following.ensures ∙ written c

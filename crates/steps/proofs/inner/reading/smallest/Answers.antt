@@ -46,13 +46,6 @@ there c =
     steps_there c.requires.0 (omega (arith, c.if-n-lt2.false)) (record { some = omega (arith, some); few = ltb-false 32 w (or_right (eqb w 0) (ltb 32 w) c.if-width.false) })
 
 -- where they stand, in a width that is written
-there_2 : (c : goal.Else-width-eq1) → let s = c.args in There s.bytes.now (s.at + 64) s.width (2 * (s.n - 1))
-there_2 c =
-    let w = c.args.width in
-    let some = eqb-false w 0 (or_left (eqb w 0) (ltb 32 w) c.if-width.false) in
-    steps_there c.requires.0 (omega (arith, c.if-n-lt2.false)) (record { some = omega (arith, some); few = ltb-false 32 w (or_right (eqb w 0) (ltb 32 w) c.if-width.false) })
-
--- where they stand, in a width that is written
 there_3 : (c : goal.After-some_needs) → let s = c.args in There s.bytes.now (s.at + 64) s.width (2 * (s.n - 1))
 there_3 c =
     let w = c.args.width in
@@ -73,9 +66,6 @@ returns-then-width-eq1 c =
     let l : List ℤ = differences c in
     let e : w ≡ width_of l = omega (arith, c.if-width-eq1.true, width_some l, width_at_most l w (omega (arith, c.if-width-eq1.true)) (all_there (there c))) in
     sym (eq-eqb w (width_of l) e) ∙ asked c
-
-pub some_needs-requires : goal.some_needs-requires
-some_needs-requires c = (there_2 c, omega (arith, (there_2 c).width.some, c.if-width-eq1.false))
 
 pub returns : goal.returns
 returns c =

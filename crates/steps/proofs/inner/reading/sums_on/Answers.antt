@@ -12,26 +12,12 @@ use Rattle.integers.specs.Bound.{In}
 use Rattle.integers.proofs.Bound.{in_fits, in_eq}
 use Rattle.grid.specs.Limits.{limit, all_on_grid}
 use Rattle.steps.specs.Steps.{sums}
-use Rattle.steps.proofs.ReadLaws.{step_there, step_near, rest, rest_all, next_off, next_on, none_off}
+use Rattle.steps.proofs.ReadLaws.{rest, next_off, next_on, none_off}
 use Rattle.steps.proofs.inner.reading.sums_on.Goals as goal
 
 -- what is asked for, by the numbers as they were passed
 asked : (x y : ℤ) (ds : List ℤ) → SFits w32 x → SFits w32 y → all_on_grid limit (sums x y ds) ≡ all_on_grid limit (sums (to_z w32 (of_z w32 x)) (to_z w32 (of_z w32 y)) ds)
 asked x y ds p q = sym (ap₂ (λ (a b : ℤ). all_on_grid limit (sums a b ds)) (to_z-of_z p) (to_z-of_z q))
-
-pub loop-i-init : goal.loop-i-init
-loop-i-init c =
-    let s = c.args in
-    ap (λ (l : List ℤ). all_on_grid limit (sums (to_z w32 (of_z w32 s.x)) (to_z w32 (of_z w32 s.y)) l)) (sym (rest_all s.bytes.now s.at s.width s.k))
-
-pub overflow_mul-width : goal.overflow_mul-width
-overflow_mul-width c = omega (arith, step_near c.requires c.loop-i-test.true)
-
-pub overflow_add-at : goal.overflow_add-at
-overflow_add-at c = omega (arith, step_near c.requires c.loop-i-test.true)
-
-pub next-u-requires : goal.next-u-requires
-next-u-requires c = let t = c.requires in (step_there t c.loop-i-test.true, t.width, t.long)
 
 pub returns-then-from-unsigned_abs : goal.returns-then-from-unsigned_abs
 unfolding limit
@@ -48,10 +34,6 @@ returns-then-from-unsigned_abs c =
 on_is : (c : goal.Else-from-unsigned_abs) → In limit (to_z w64 (of_z w64 c.next-u.result))
 unfolding limit
 on_is c = record { abs = omega (arith, c.unsigned_abs.ensures.value, c.from.ensures, c.if-from-unsigned_abs.false) }
-
-pub overflow_cast-b : goal.overflow_cast-b
-unfolding limit
-overflow_cast-b c = in_fits (on_is c) tt
 
 pub loop-i-preserved : goal.loop-i-preserved
 unfolding limit

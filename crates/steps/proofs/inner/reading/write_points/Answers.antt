@@ -20,7 +20,7 @@ use Rattle.grid.specs.Limits.{limit, on_grid, all_on_grid}
 use Rattle.grid.proofs.LimitLaws.{all_on_grid_at}
 use Rattle.steps.specs.Steps.{sums}
 use Rattle.steps.proofs.StepLaws.{sums-length}
-use Rattle.steps.proofs.ReadLaws.{difference, step_near, both_there, first_leading, second_leading, rest, next_is, next_behind}
+use Rattle.steps.proofs.ReadLaws.{difference, first_leading, second_leading, rest, next_is, next_behind}
 use Rattle.steps.proofs.inner.reading.write_points.Goals as goal
 
 -- the numbers that are asked for, by the bits of x and y
@@ -59,9 +59,6 @@ asked_on : (f : List ℕ) (at w n : ℕ) {x y : ℤ} → SFits w32 x → SFits w
 asked_on f at w n {x} {y} p q on i =
     all_on_grid_at limit (all f at w n (of_z w32 x) (of_z w32 y)) i (ap (all_on_grid limit) (asked_are f at w n p q) ∙ on)
 
-near : (c : goal.In-loop-i) → c.args.at + c.args.width * (2 * c.loop-i.i) ≤ 524288
-near c = step_near c.requires.0.there (omega (arith, c.loop-i-test.true))
-
 -- the numbers of the point, as they are asked for
 abbrev row : goal.After-ahead-first → List ℤ
 row c = let s = c.args in all s.bytes.now s.at s.width s.n (of_z w32 s.x) (of_z w32 s.y)
@@ -87,10 +84,6 @@ v_is c =
     let l = c.loop-i in
     ap (λ (z : ℤ). to_z w32 l.b-bits +ℤ z) (second_leading s.at s.width (2 * l.i) c.ahead-first.ensures)
     ∙ sym (v_asked s.bytes.now s.at s.width s.n (row_2 c) (to_z w32 l.a-bits) (to_z w32 l.b-bits) (2 * l.i) (omega (arith, c.loop-i-test.true)) l.invariant.1)
-
-pub ahead-first-requires : goal.ahead-first-requires
-ahead-first-requires c =
-    (both_there c.args.n c.loop-i.i c.requires.0.there c.loop-i-test.true c.requires.1, omega (arith, c.requires.0.behind), omega (arith, near c))
 
 pub moved-a-requires : goal.moved-a-requires
 moved-a-requires c =
@@ -132,9 +125,6 @@ loop-i-preserved c =
       rw e (behind_v s.bytes.now s.at s.width s.n (row_3 c) a b (2 * l.i) m l.invariant.1 ∙ ap₂ (λ (x y : ℤ). sums x y (rest s.bytes.now s.at s.width (2 * s.n) (2 * l.i + 1 + 1))) (sym (p_is c)) (sym (q_is c))),
       omega (arith, m),
     )
-
-pub shape_of-out : goal.shape_of-out
-shape_of-out c = c.loop-i.invariant.0.long
 
 pub returns : goal.returns
 returns c =

@@ -1,14 +1,12 @@
 -- `steps::inner::writing::put_pairs` meets its contract: the points that are left fit behind those that are written.
-use borrow.Author.Rules.{sfits_of}
 use mathlib.Core.Path.{◌≡◌, sym, ◌∙◌, ap, subst}
 use mathlib.Core.List.{List}
 use Prim.Native.Nat.{ℕ, ◌+◌, ◌-◌, ◌*◌, ◌/◌, ◌^◌, ◌≤◌, ◌<◌}
 use native.Mathlib.Omega.{arith}
 use mir.Syntax.{w64}
 use mir.Val.{to_z, of_z}
-use mir.Facts.{to_z-of_z}
 use Rattle.integers.specs.Bound.{In}
-use Rattle.integers.proofs.Bound.{in_eq, back}
+use Rattle.integers.proofs.Bound.{back}
 use Rattle.bits.specs.declared.inner.pens.Pen.{Pen}
 use Rattle.bits.specs.Signs.{fields}
 use Rattle.grid.specs.Limits.{limit}
@@ -16,10 +14,9 @@ use Rattle.steps.specs.Steps.{differences}
 use lib.ListN.{length, take, drop, length-drop}
 use lib.Seq.{take_all}
 use lib.IntN.{ℤ, pos}
-use lib.Signed.{mag}
 use Rattle.bits.specs.inside.Pens.{Wrote}
 use Rattle.steps.specs.inside.Asked.{Fitting, Narrow, joined}
-use Rattle.steps.proofs.WriteLaws.{room_left, writing_none, pair_below, pair_room, writing_pair, writing_same, rest_fitting, writing_rest}
+use Rattle.steps.proofs.WriteLaws.{pair_below, pair_room, writing_pair, writing_same, rest_fitting, writing_rest}
 use Rattle.steps.proofs.PairLaws.{scale_in, joined_in}
 use Rattle.steps.proofs.inner.writing.put_pairs.Goals as goal
 
@@ -34,32 +31,9 @@ module _ (row : List ℕ) (l : List ℤ) (w : ℕ) (p : Pen) (fit : Fitting row 
 fitting : {row : List ℕ} {l : List ℤ} {w : ℕ} {p q : Pen} → q ≡ p → Fitting row p l w → Fitting row q l w
 fitting {row} {l} {w} e f = subst (λ (r : Pen). Fitting row r l w) (sym e) f
 
--- a number that is passed is itself
-read_as : {r z : ℤ} → mag r < 2 ^ 63 → r ≡ z → to_z w64 (of_z w64 r) ≡ z
-read_as f e = to_z-of_z {w = w64} (sfits_of f) ∙ e
-
 -- the part from a position on
 behind : (c : List ℤ) (k : ℕ) → take (length c - k) (drop k c) ≡ drop k c
 behind c k = take_all (length c - k) (drop k c) (omega (arith, length-drop k c))
-
-pub joined-from-requires : goal.joined-from-requires
-joined-from-requires c =
-    let s = c.args in
-    let n = narrow s.bytes.now s.contour.now s.width s.pen c.requires.0 c.requires.1 in
-    (omega (arith, c.requires.2), c.requires.0.on, in_eq (read_as c.scale.type_inv c.scale.ensures) (scale_in s.width n))
-
-pub loop-i-init : goal.loop-i-init
-loop-i-init c = (
-  writing_none (fitting c.broaden-b.ensures.1 c.requires.0),
-  c.broaden-b.ensures.0,
-  read_as c.joined-from.type_inv c.joined-from.ensures ∙ ap (λ (z : ℤ). joined z c.args.contour.now 0) (read_as c.scale.type_inv c.scale.ensures),
-)
-
-pub four-next-requires : goal.four-next-requires
-four-next-requires c =
-    let s = c.args in
-    let l = c.loop-i in
-    (omega arith, c.requires.0.on, narrow s.bytes.now s.contour.now s.width s.pen c.requires.0 c.requires.1, l.invariant.0.fit, l.invariant.2)
 
 pub sweep-b-requires : goal.sweep-b-requires
 sweep-b-requires c =
@@ -85,11 +59,6 @@ loop-i-preserved c =
       c.sweep-b.ensures.1,
       ap (λ (z : ℤ). to_z w64 (of_z w64 z)) c.four-next.ensures.1 ∙ back w64 (near s.bytes.now s.contour.now s.width s.pen c.requires.0 c.requires.1 (4 * l.i + 4)) tt,
     )
-
-pub narrow-p-requires : goal.narrow-p-requires
-narrow-p-requires c =
-    let l = c.loop-i in
-    (l.invariant.1, omega (arith, room_left l.invariant.0 (fitting c.broaden-b.ensures.1 c.requires.0).room))
 
 pub put_steps-requires : goal.put_steps-requires
 put_steps-requires c =

@@ -4,11 +4,8 @@ use native.Mathlib.Omega.{arith}
 use lib.ListN.{length}
 use Rattle.bits.proofs.SignLaws.{unsigned_below}
 use Rattle.steps.specs.inside.Asked.{step}
-use Rattle.steps.proofs.WriteLaws.{writing_none, step_fits, step_space, writing_more, writing_all}
+use Rattle.steps.proofs.WriteLaws.{step_fits, step_space, writing_more, writing_all}
 use Rattle.steps.proofs.inner.writing.put_steps.Goals as goal
-
-pub loop-k-init : goal.loop-k-init
-loop-k-init c = let pre = c.requires in (writing_none pre, pre.ready.few)
 
 pub step_bits-n-requires : goal.step_bits-n-requires
 step_bits-n-requires c =
@@ -28,9 +25,6 @@ write-p-requires c =
 pub loop-k-preserved : goal.loop-k-preserved
 loop-k-preserved c =
     (writing_more c.loop-k.invariant.0 (omega arith) c.step_bits-n.ensures c.write-p.ensures.0, c.write-p.ensures.1)
-
-pub shape_of-bytes : goal.shape_of-bytes
-shape_of-bytes c = c.loop-k.invariant.0.wrote.long
 
 pub returns : goal.returns
 returns c = let l = c.loop-k in (writing_all l.invariant.0 (omega arith), l.invariant.1)

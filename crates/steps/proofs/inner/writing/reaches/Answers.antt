@@ -3,11 +3,8 @@ use mathlib.Core.Path.{sym, subst}
 use Prim.Native.Nat.{ℕ, ◌+◌}
 use native.Mathlib.Omega.{arith}
 use lib.Bits.{bit_or}
-use Rattle.steps.proofs.WriteLaws.{Reached, reached_none, reached_more, reached_all, reached_below}
+use Rattle.steps.proofs.WriteLaws.{Reached, reached_more, reached_all, reached_below}
 use Rattle.steps.proofs.inner.writing.reaches.Goals as goal
-
-pub loop-k-init : goal.loop-k-init
-loop-k-init c = reached_none c.args.contour.now
 
 pub loop-k-preserved : goal.loop-k-preserved
 loop-k-preserved c =
