@@ -43,9 +43,6 @@ pub loop-preserved : goal.loop-preserved
 loop-preserved c =
     points_more c.loop.invariant c.loop-test.true _ c.header_at-h.ensures _ c.size-at.ensures _ c.put.ensures
 
-pub shape_of-out : goal.shape_of-out
-shape_of-out c = c.loop.invariant.ahead.long
-
 pub returns : goal.returns
 unfolding joined
 returns c =

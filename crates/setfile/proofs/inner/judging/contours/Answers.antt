@@ -17,9 +17,6 @@ loop-i-init c =
       ap (λ (k : ℕ). summed s.second none_met 0 (contours_in (layout s.second) k true 0 (from_bit s.bytes.now 16))) e,
     )
 
-pub contour_fault-wrong-requires : goal.contour_fault-wrong-requires
-contour_fault-wrong-requires c = let w = c.loop-i.invariant.0 in (w.here, w.points_few)
-
 pub returns-then-wrong-ne0 : goal.returns-then-wrong-ne0
 returns-then-wrong-ne0 c =
     let l = c.loop-i in
@@ -48,9 +45,6 @@ loop-i-preserved c =
       within_more b f s.n l.i l.m l.invariant.0 (whole c.loop-i.invariant.0.here (eqb c.loop-i.i 0) c.loop-i.m.points (sym c.contour_fault-wrong.ensures ∙ c.if-wrong-ne0.false)) r.counted r.some,
       l.invariant.1 ∙ judged_more b f s.n l.i l.m (eqb l.i 0) c.loop-i-test.true (sym c.contour_fault-wrong.ensures ∙ c.if-wrong-ne0.false),
     )
-
-pub finished-requires : goal.finished-requires
-finished-requires c = c.loop-i.invariant.0
 
 pub returns : goal.returns
 returns c =
