@@ -1,6 +1,6 @@
 -- Points that stand in a file: the first, and the differences behind it.
 use mathlib.Core.Path.{◌≡◌, refl, sym, ◌∙◌, ap, ap₂}
-use mathlib.Core.Bool.{Bool, ◌&&◌, and_assoc}
+use mathlib.Core.Bool.{Bool, false, ◌&&◌, ◌||◌, and_assoc}
 use mathlib.Core.List.{List, [], ◌∷◌}
 use Prim.Native.Nat.{ℕ, zero, suc, ◌+◌, ◌-◌, ◌*◌, ◌<◌, ◌≤◌}
 use native.Mathlib.Omega.{arith}
@@ -12,6 +12,9 @@ use mir.Syntax.{w32}
 use mir.Val.{to_z, of_z}
 use mir.Facts.{to_z-of_z}
 use borrow.Author.Rules.{sfits_of}
+use borrow.Author.Tests.{eqb-false, ltb-false}
+use lib.Dec.{eqb, ltb}
+use Rattle.integers.proofs.Logic.{or_left, or_right}
 use Rattle.rows.specs.Rows.{placed}
 use Rattle.rows.proofs.PlacedLaws.{placed_behind, set_placed}
 use Rattle.bits.specs.Bits.{value, bits}
@@ -101,3 +104,8 @@ points_read f at w n h p q e g =
 pub two_told : (bound : ℕ) (x y : ℤ) (l : List ℤ) {p q t : Bool} → p ≡ on_grid bound x → q ≡ on_grid bound y → (p && q) ≡ t
     → all_on_grid bound (x ∷ y ∷ l) ≡ (t && all_on_grid bound l)
 two_told bound x y l e f g = two_on bound x y l ∙ ap (λ (b : Bool). b && all_on_grid bound l) (sym (ap₂ ◌&&◌ e f) ∙ g)
+
+-- the differences, in a width that was tested
+pub tested_there : {f : List ℕ} {at w n : ℕ} → Stands f at w n → 0 < n → (eqb w 0 || ltb 32 w) ≡ false → There f (at + 64) w (2 * (n - 1))
+tested_there {f} {at} {w} {n} s some e =
+    steps_there s some (record { some = omega (arith, eqb-false w 0 (or_left (eqb w 0) (ltb 32 w) e)); few = ltb-false 32 w (or_right (eqb w 0) (ltb 32 w) e) })
