@@ -57,13 +57,7 @@ pub step_there : {f : List ℕ} {at w k i : ℕ} → There f at w k → i < k �
 step_there {f} {at} {w} {k} {i} t h =
     record { some = t.width.some; few = omega (arith, t.width.few); room = omega (arith, room_for_one w i k h, t.room) }
 
--- so are both of a point
-pub both_there : {f : List ℕ} {at w : ℕ} (n i : ℕ) → There f at w (2 * n) → i < n → w ≤ 28 → Within f (at + w * (2 * i)) (2 * w)
-both_there {f} {at} {w} n i t h few =
-    let e : w * (2 * i + 2) ≤ w * (2 * n) = mul-le-mul_left w (omega arith) in
-    record { some = omega (arith, t.width.some); few = omega arith; room = omega (arith, e, t.room) }
-
--- in a word that begins with them
+-- both differences of a point, in a word that begins with them
 pub first_leading : {f : List ℕ} {at r : ℕ} (w : ℕ) → Ahead f at (2 * w) r → signed w (leading r w) ≡ difference f at w
 first_leading {f} {at} {r} w a =
     let n : r * 2 ^ 0 % 2 ^ 64 ≡ r = omega (arith, a.below) in

@@ -19,7 +19,6 @@ use Rattle.rows.specs.Rows.{placed}
 use Rattle.rows.proofs.PlacedLaws.{placed_behind, set_placed}
 use Rattle.bits.specs.Bits.{value, bits}
 use Rattle.bits.specs.Signs.{signed, numbers}
-use Rattle.bits.specs.inside.Words.{Within}
 use Rattle.grid.specs.Limits.{on_grid, all_on_grid}
 use Rattle.steps.specs.Steps.{sums}
 use Rattle.steps.specs.Bodies.{body_size, steps_in, points_of_width}
@@ -79,12 +78,6 @@ module _ {f : List ℕ} {at w n : ℕ} (s : Stands f at w n) (h : 0 < n) where
       by : (n : ℕ) → 0 < n → body_size n w ≡ 64 + w * (2 * (n - 1))
       by zero h = absurd (omega arith)
       by (suc k) h = let e : k ≡ suc k - 1 = omega arith in ap (λ (m : ℕ). 64 + w * (2 * m)) e
-
-  pub x_there : Within f at 32
-  x_there = record { some = omega arith; few = omega arith; room = omega (arith, s.room, size_is) }
-
-  pub y_there : Within f (at + 32) 32
-  y_there = record { some = omega arith; few = omega arith; room = omega (arith, s.room, size_is) }
 
   pub long_enough : 8 ≤ length f
   long_enough = omega (arith, s.room, size_is)

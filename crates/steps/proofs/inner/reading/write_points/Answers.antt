@@ -1,25 +1,19 @@
 -- `steps::inner::reading::write_points` meets its contract: those that are still to be written are the rest of all.
 use borrow.Author.Rules.{sfits_of}
 use mathlib.Core.Path.{◌≡◌, sym, ◌∙◌, ap, ap₂}
-use mathlib.Core.Bool.{true}
 use mathlib.Core.List.{List}
 use Prim.Native.Nat.{ℕ, ◌+◌, ◌*◌, ◌%◌, ◌^◌, ◌<◌, ◌≤◌}
 use native.Mathlib.Omega.{arith}
 use lib.ListN.{length, drop, get_or}
 use lib.IntN.{ℤ, pos, ◌+ℤ◌}
 use mir.Syntax.{w32}
-use mir.Val.{SFits, to_z, of_z}
+use mir.Val.{to_z, of_z}
 use mir.Facts.{to_z-of_z}
 use Rattle.rows.specs.Rows.{placed}
 use Rattle.rows.proofs.RowLaws.{copied_more, copied_all}
-use Rattle.bits.specs.Bits.{bits}
-use Rattle.bits.specs.Signs.{signed, numbers}
+use Rattle.bits.specs.Signs.{signed}
 use Rattle.bits.specs.inside.Words.{leading}
-use Rattle.bits.proofs.SignLaws.{numbers-length}
-use Rattle.grid.specs.Limits.{limit, on_grid, all_on_grid}
-use Rattle.grid.proofs.LimitLaws.{all_on_grid_at}
 use Rattle.steps.specs.Steps.{sums}
-use Rattle.steps.proofs.StepLaws.{sums-length}
 use Rattle.steps.proofs.ReadLaws.{difference, first_leading, second_leading, rest, next_is, next_behind, asked, asked_are, asked_long, asked_on}
 use Rattle.steps.proofs.inner.reading.write_points.Goals as goal
 

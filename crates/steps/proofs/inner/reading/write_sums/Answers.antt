@@ -1,11 +1,10 @@
 -- `steps::inner::reading::write_sums` meets its contract: those that are still to be written are the rest of all.
 use borrow.Author.Rules.{sfits_of}
-use mathlib.Core.Path.{◌≡◌, sym, ◌∙◌, ap, ap₂}
-use mathlib.Core.Bool.{true}
+use mathlib.Core.Path.{◌≡◌, sym, ◌∙◌, ap}
 use mathlib.Core.List.{List}
-use Prim.Native.Nat.{ℕ, ◌+◌, ◌*◌}
+use Prim.Native.Nat.{◌+◌, ◌*◌}
 use native.Mathlib.Omega.{arith}
-use lib.ListN.{length, drop, get_or}
+use lib.ListN.{length, get_or}
 use lib.IntN.{ℤ, pos, ◌+ℤ◌}
 use mir.Syntax.{w32, w64}
 use mir.Val.{SFits, to_z, of_z}
@@ -14,13 +13,9 @@ use Rattle.integers.specs.Bound.{In}
 use Rattle.integers.proofs.Bound.{in_fits, in_eq}
 use Rattle.rows.specs.Rows.{placed}
 use Rattle.rows.proofs.RowLaws.{copied_none, copied_more, copied_all}
-use Rattle.bits.specs.Bits.{bits}
-use Rattle.bits.specs.Signs.{numbers}
-use Rattle.bits.proofs.SignLaws.{numbers-length}
-use Rattle.grid.specs.Limits.{limit, all_on_grid}
-use Rattle.grid.proofs.LimitLaws.{on_grid_in, all_on_grid_at}
+use Rattle.grid.specs.Limits.{limit}
+use Rattle.grid.proofs.LimitLaws.{on_grid_in}
 use Rattle.steps.specs.Steps.{sums}
-use Rattle.steps.proofs.StepLaws.{sums-length}
 use Rattle.steps.proofs.ReadLaws.{difference, step_there, step_near, rest, rest_all, next_is, next_behind, asked, asked_are, asked_long, asked_on}
 use Rattle.steps.proofs.inner.reading.write_sums.Goals as goal
 
