@@ -10,27 +10,15 @@ use crate::inner::verdicts;
 use replies::Verdict;
 use ring::Rule;
 
-// Whether the contour has no spikes, equal neighbours aside. A box has none.
+// Whether the contour has no spikes, equal neighbours aside.
 pub fn has_no_spikes(points: &[i32]) -> Verdict
     ensures { result ≡ spike_free points.now }
 {
     let refusal = grid::domain(points);
     if refusal != 0 {
-        return Verdict {
-            reply: refusal,
-            yes: false,
-        };
+        return replies::answered(refusal, false);
     }
-    if grid::inner::boxes::is_box(points, points.len() / 2) {
-        return Verdict {
-            reply: replies::DONE,
-            yes: true,
-        };
-    }
-    Verdict {
-        reply: replies::DONE,
-        yes: verdicts::no_spikes(points),
-    }
+    replies::answered(refusal, verdicts::passes(Rule::Spike, points))
 }
 
 // The contour without its spikes and its equal neighbours.

@@ -10,28 +10,15 @@ use crate::inner::verdicts;
 use replies::Verdict;
 use ring::Rule;
 
-// Whether the contour has three or more points, and no vertex whose two edges have cross 0. Most contours are boxes, of
-// which it is known.
+// Whether the contour has three or more points, and no vertex whose two edges have cross 0.
 pub fn is_simple(points: &[i32]) -> Verdict
     ensures { result ≡ simple_verdict points.now }
 {
     let refusal = grid::domain(points);
     if refusal != 0 {
-        return Verdict {
-            reply: refusal,
-            yes: false,
-        };
+        return replies::answered(refusal, false);
     }
-    if grid::inner::boxes::is_box(points, points.len() / 2) {
-        return Verdict {
-            reply: replies::DONE,
-            yes: true,
-        };
-    }
-    Verdict {
-        reply: replies::DONE,
-        yes: verdicts::all_turn(points),
-    }
+    replies::answered(refusal, verdicts::passes(Rule::Collinear, points))
 }
 
 // The contour without its collinear points.
