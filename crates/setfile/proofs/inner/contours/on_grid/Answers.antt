@@ -1,8 +1,8 @@
 -- `setfile::inner::contours::on_grid` meets its contract.
-use Rattle.std.proofs.Common.{Bool, List, ℤ, sym, ◌∙◌, ap₂, arith}
+use Rattle.std.proofs.Common.{Bool, List, ℤ, sym, ◌∙◌, ap₂}
 use Rattle.grid.specs.Limits.{all_on_grid}
 use Rattle.setfile.specs.Editions.{bound}
-use Rattle.setfile.proofs.ContourLaws.{whole_small, First, first_there, Second, second_there}
+use Rattle.setfile.proofs.ContourLaws.{first_there, second_there}
 use Rattle.setfile.proofs.inner.contours.on_grid.Goals as goal
 
 pub on_grid-requires : goal.on_grid-requires

@@ -1,9 +1,9 @@
 -- `setfile::inner::contours::put` meets its contract.
-use Rattle.std.proofs.Common.{Bool, List, ℤ, sym, ap, ◌∙◌, ap₂, arith}
+use Rattle.std.proofs.Common.{Bool, List, ℤ, sym, ap, ◌∙◌, ap₂}
 use Rattle.grid.specs.Limits.{all_on_grid}
 use Rattle.rows.specs.Rows.{placed}
 use Rattle.setfile.specs.Editions.{bound}
-use Rattle.setfile.proofs.ContourLaws.{whole_small, First, first_there, Second, second_there}
+use Rattle.setfile.proofs.ContourLaws.{first_there, second_there}
 use Rattle.setfile.proofs.inner.contours.put.Goals as goal
 
 pub points-requires : goal.points-requires

@@ -1,6 +1,5 @@
 -- `setfile::inner::filling::begun_shapes` meets its contract: the shape that is met is written where the next begins, and the last at the end.
-use Rattle.std.proofs.Common.{◌≡◌, ◌<◌, length, arith, length-set}
-use Rattle.setfile.specs.inside.Reading.{Whole}
+use Rattle.std.proofs.Common.{◌≡◌, arith}
 use Rattle.setfile.proofs.ContourLaws.{whole_small, whole_ends}
 use Rattle.setfile.proofs.RestLaws.{first_whole}
 use Rattle.setfile.proofs.FillLaws.{contour_there}

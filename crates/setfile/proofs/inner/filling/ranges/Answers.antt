@@ -1,7 +1,7 @@
 -- `setfile::inner::filling::ranges` meets its contract: the rest of the file makes what is still to be written.
-use Rattle.std.proofs.Common.{◌≡◌, ◌<◌, ◌≤◌, length, refl, arith}
+use Rattle.std.proofs.Common.{◌≡◌, ◌≤◌, length, refl, arith}
 use Rattle.buffer.specs.Spans.{laid}
-use Rattle.setfile.specs.inside.Reading.{contained, Whole}
+use Rattle.setfile.specs.inside.Reading.{contained}
 use Rattle.setfile.proofs.ContourLaws.{whole_small, whole_ends}
 use Rattle.setfile.proofs.FillLaws.{filling_all, filling_done, contours_made, contours_made_length, contour_there, contour_counted, contours_room, contours_more}
 use Rattle.setfile.proofs.inner.filling.ranges.Goals as goal

@@ -1,6 +1,5 @@
 -- `setfile::inner::headers::second_size` meets its contract.
-use Rattle.std.proofs.Common.{arith}
-use Rattle.setfile.proofs.HeaderLaws.{wide_steps, size_none, size_some}
+use Rattle.setfile.proofs.HeaderLaws.{size_none, size_some}
 use Rattle.setfile.proofs.inner.headers.second_size.Goals as goal
 
 pub returns-then-count-eq0 : goal.returns-then-count-eq0

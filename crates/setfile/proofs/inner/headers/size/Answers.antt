@@ -1,5 +1,5 @@
 -- `setfile::inner::headers::size` meets its contract.
-use Rattle.std.proofs.Common.{Bool, sym, ap, ◌∙◌, arith}
+use Rattle.std.proofs.Common.{Bool, sym, ap, ◌∙◌}
 use Rattle.setfile.specs.inside.Reading.{size_of}
 use Rattle.setfile.proofs.inner.headers.size.Goals as goal
 

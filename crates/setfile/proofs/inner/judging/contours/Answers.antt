@@ -1,10 +1,10 @@
 -- `setfile::inner::judging::contours` meets its contract: what is met so far and what is left make up the judgement of the whole.
-use Rattle.std.proofs.Common.{◌≡◌, ℕ, ◌+◌, ◌-◌, ◌≤◌, true, eqb, sym, ap, ◌∙◌, subst, ap₂, arith}
+use Rattle.std.proofs.Common.{◌≡◌, ℕ, ◌+◌, ◌-◌, true, eqb, sym, ap, ◌∙◌, subst, ap₂, arith}
 use Rattle.setfile.specs.declared.inner.judging.Met.{Met}
 use Rattle.setfile.specs.Entries.{Parsed}
 use Rattle.setfile.specs.Layouts.{contours_in}
 use Rattle.setfile.specs.Editions.{layout}
-use Rattle.setfile.specs.inside.Reading.{from_bit, Whole, none_met, Within, summed}
+use Rattle.setfile.specs.inside.Reading.{from_bit, none_met, Within, summed}
 use Rattle.setfile.proofs.ContourLaws.{right, whole}
 use Rattle.setfile.proofs.JudgeLaws.{judged_faulty, judged_more, within_more, none_left}
 use Rattle.setfile.proofs.inner.judging.contours.Goals as goal

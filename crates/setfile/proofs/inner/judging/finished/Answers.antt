@@ -1,7 +1,6 @@
 -- `setfile::inner::judging::finished` meets its contract.
-use Rattle.std.proofs.Common.{◌≡◌, sym, ap, ◌∙◌}
+use Rattle.std.proofs.Common.{sym, ap, ◌∙◌}
 use Rattle.replies.specs.Ladder.{first_of}
-use Rattle.setfile.specs.Layouts.{end_damage}
 use Rattle.setfile.specs.inside.Reading.{from_bit, on_or_refused}
 use Rattle.setfile.proofs.JudgeLaws.{left_over, all_met}
 use Rattle.setfile.proofs.inner.judging.finished.Goals as goal

@@ -1,7 +1,5 @@
 -- `setfile::inner::judging::met_more` meets its contract.
-use Rattle.std.proofs.Common.{arith}
-use Rattle.bits.proofs.BitLaws.{byte_below}
-use Rattle.setfile.proofs.ContourLaws.{whole_small, whole_ends}
+use Rattle.setfile.proofs.ContourLaws.{whole_small}
 use Rattle.setfile.proofs.JudgeLaws.{met_is}
 use Rattle.setfile.proofs.inner.judging.met_more.Goals as goal
 

@@ -1,9 +1,7 @@
 -- `setfile::inner::putting::put_contour_1` meets its contract: the coordinates stand behind the head.
-use Rattle.std.proofs.Common.{arith}
-use mir.Facts.{Fits-of_lt}
 use Rattle.setfile.specs.Entries.{entry}
 use Rattle.setfile.proofs.CodedLaws.{header_room, coordinates_room, contour_put}
-use Rattle.bits.proofs.BitLaws.{byte_digit, byte_below}
+use Rattle.bits.proofs.BitLaws.{byte_digit}
 use Rattle.setfile.proofs.inner.putting.put_contour_1.Goals as goal
 
 pub put_pair-behind-requires : goal.put_pair-behind-requires
