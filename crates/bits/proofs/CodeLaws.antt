@@ -2,7 +2,7 @@
 use mathlib.Core.Path.{◌≡◌, sym, ◌∙◌, subst}
 use Prim.Native.Nat.{ℕ, suc, ◌-◌, ◌*◌, ◌%◌, ◌^◌, ◌≤◌, ◌<◌}
 use native.Mathlib.Omega.{arith}
-use lib.Pow.{pow_pos, pow_mono}
+use lib.Pow.{pow_mono}
 use lib.IntN.{ℤ, negsuc, ◌-ℤ◌}
 use mir.Syntax.{w64}
 use mir.Val.{SFits, to_z, of_z}
@@ -12,13 +12,6 @@ use Rattle.std.proofs.lemmas.Nat.{one_shl}
 use Rattle.std.proofs.lemmas.Int.{ints}
 use Rattle.bits.specs.Signs.{signed}
 use Rattle.bits.proofs.SignLaws.{halves, signed_high}
-
--- the code's power of two
-pub one_shifted : (r : ℕ) → r < 64 → 1 * 2 ^ r % 2 ^ 64 ≡ 2 ^ r
-one_shifted r h = one_shl r 64 h
-
-pub one_shifted_some : (r : ℕ) → r < 64 → 0 < 1 * 2 ^ r % 2 ^ 64
-one_shifted_some r h = rw (one_shifted r h) (pow_pos r)
 
 -- n in w bits, from the half of their values on
 module _ (w n : ℕ) (some : 0 < w) (within_32 : w ≤ 32) (below : n < 2 ^ w) (high : 1 * 2 ^ (w - 1) % 2 ^ 64 ≤ n) where

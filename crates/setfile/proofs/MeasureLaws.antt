@@ -1,16 +1,14 @@
 -- How long ranges are, and how long files of edition 2.
-use Rattle.std.proofs.Common.{◌≡◌, ℕ, zero, suc, ◌+◌, ◌-◌, ◌*◌, ◌/◌, ◌<◌, ◌≤◌, Bool, true, false, ◌||◌, cond, eqb, ltb, List, [], ◌∷◌, map, length, get_or, drop, set, ℤ, sym, refl, ap, ◌∙◌, ap₂, mul-le-mul_right, add-one, arith, length-append, drop_of_length-le, drop-cons, get_or-set_other, get_or-set_same, below_more, ltb-false, ltb-true, le-ltb, lt-ltb}
+use Rattle.std.proofs.Common.{◌≡◌, ℕ, zero, suc, ◌+◌, ◌*◌, ◌/◌, ◌<◌, ◌≤◌, Bool, ◌||◌, eqb, ltb, List, [], ◌∷◌, map, length, get_or, drop, set, ℤ, refl, ap, ◌∙◌, ap₂, mul-le-mul_right, add-one, arith, length-append, drop_of_length-le, drop-cons, get_or-set_other, get_or-set_same, below_more}
 use Rattle.std.specs.List.{list_any}
 use Rattle.grid.specs.Domain.{count}
-use Rattle.bits.specs.Bits.{digit, field}
-use Rattle.bits.proofs.BitLaws.{digit_below, field-length, bytes-length}
+use Rattle.bits.specs.Bits.{field}
+use Rattle.bits.proofs.BitLaws.{field-length, bytes-length}
 use Rattle.steps.specs.Steps.{differences}
 use Rattle.steps.specs.Bodies.{contour_width, body_size}
 use Rattle.steps.proofs.BodyLaws.{width_within_32}
-use Rattle.buffer.specs.declared.ranges.Span.{Span}
 use Rattle.buffer.specs.Spans.{span, spans, size, total}
 use Rattle.buffer.specs.Sets.{joined, contour, Even}
-use Rattle.buffer.proofs.RowLaws.{spans-length}
 use Rattle.setfile.specs.Entries.{Entry, contours_of}
 use Rattle.setfile.specs.Layouts.{all_coded, file_bits, file_in}
 use Rattle.setfile.specs.Edition2.{edition_2}

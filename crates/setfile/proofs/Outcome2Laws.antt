@@ -7,14 +7,13 @@ use Rattle.replies.proofs.LadderLaws.{First, first_is, clear, stopped, onward}
 use Rattle.replies.proofs.LadderLaws.First.{here, past, foot}
 use Rattle.grid.specs.Limits.{limit, most, all_on_grid}
 use Rattle.grid.specs.Domain.{count}
-use Rattle.rows.specs.Rows.{front}
 use Rattle.buffer.specs.Spans.{spans, sound}
 use Rattle.buffer.specs.Sets.{shapes}
 use Rattle.buffer.specs.Refusals.{set}
 use Rattle.buffer.proofs.RowLaws.{spans-length}
 use Rattle.setfile.specs.Entries.{entries}
 use Rattle.setfile.specs.Reading.{most_bytes, long}
-use Rattle.setfile.specs.Writing.{most_contours, most_points, some_over, some_empty, uncarried, leaving, written}
+use Rattle.setfile.specs.Writing.{most_contours, most_points, some_over, some_empty, leaving, written}
 use Rattle.setfile.specs.Writing2.{file_of, set_refusals, refusals, outcome}
 use Rattle.setfile.specs.Promises.{Regular}
 use Rattle.setfile.specs.inside.Writing.{all_size, Ripe}

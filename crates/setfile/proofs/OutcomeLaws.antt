@@ -1,5 +1,5 @@
 -- What the writer leaves: nothing, or the file.
-use Rattle.std.proofs.Common.{◌≡◌, ℕ, zero, suc, ◌<◌, ◌≤◌, false, not, T, leb, List, ◌++◌, map, length, ℤ, refl, ap, ◌∙◌, ap₂, arith, le-leb}
+use Rattle.std.proofs.Common.{◌≡◌, ℕ, zero, suc, ◌<◌, ◌≤◌, false, T, leb, List, ◌++◌, map, length, ℤ, refl, ap, ◌∙◌, ap₂, arith, le-leb}
 use borrow.Author.Tests.{lt-leb}
 use Rattle.replies.specs.Ladder.{Rung, first_of, room}
 use Rattle.grid.specs.Limits.{narrow}

@@ -1,5 +1,5 @@
 -- Where the refusals of a set stop, as the writers ask for them.
-use Rattle.std.proofs.Common.{◌≡◌, ℕ, ◌%◌, ◌<◌, ◌≤◌, Bool, true, false, ◌&&◌, ◌||◌, eqb, ltb, List, ◌++◌, length, ℤ, sym, refl, ap, ◌∙◌, arith, le-ltb, lt-ltb, eq-eqb, ne_eqb}
+use Rattle.std.proofs.Common.{◌≡◌, ℕ, ◌%◌, ◌<◌, ◌≤◌, Bool, true, false, ◌&&◌, ◌||◌, eqb, ltb, List, ◌++◌, length, ℤ, sym, refl, ◌∙◌, arith, le-ltb, lt-ltb, eq-eqb, ne_eqb}
 use Rattle.grid.specs.Limits.{narrow, most}
 use Rattle.replies.specs.Ladder.{Rung, first_of}
 use Rattle.grid.specs.Domain.{count, off}

@@ -1,5 +1,5 @@
 -- Bytes and bits that are written part by part, each behind the one before it.
-use Rattle.std.proofs.Common.{◌≡◌, ℕ, suc, ◌+◌, ◌-◌, ◌*◌, ◌/◌, ◌%◌, ◌^◌, ◌<◌, ◌≤◌, Bool, List, [], ◌∷◌, ◌++◌, length, take, drop, set, sym, refl, ap, ◌∙◌, subst, ap₂, append_assoc, append-nil, arith, length-append, take-append-drop, length-take, length-take-le, get_or-take, drop-drop, take_at, drop_at}
+use Rattle.std.proofs.Common.{◌≡◌, ℕ, ◌+◌, ◌-◌, ◌*◌, ◌/◌, ◌%◌, ◌^◌, ◌<◌, ◌≤◌, Bool, List, [], ◌∷◌, ◌++◌, length, take, drop, sym, refl, ap, ◌∙◌, subst, ap₂, append_assoc, append-nil, arith, length-append, take-append-drop, length-take, length-take-le, get_or-take, drop-drop, take_at, drop_at}
 use Rattle.std.specs.Int.{w16, to_be_bytes}
 use Rattle.rows.specs.Rows.{front, placed}
 use Rattle.bits.specs.declared.inner.pens.Pen.{Pen}
@@ -7,7 +7,7 @@ use Rattle.bits.specs.Bits.{field, Bytes, bits, fill, padded}
 use Rattle.bits.specs.inside.Words.{spelled}
 use Rattle.bits.specs.inside.Pens.{pen, inked, reached, Wrote, Lifted}
 use Rattle.bits.proofs.BitLaws.{bits-append, bits_padded, bytes-length, padded_filled, padded-length}
-use Rattle.bits.proofs.WordLaws.{EachByte, spelled-length}
+use Rattle.bits.proofs.WordLaws.{EachByte}
 use Rattle.bits.proofs.PenLaws.{wrote_none, wrote_both}
 use Rattle.rows.proofs.PlacedLaws.{placed_none, placed_long, placed_behind}
 use Rattle.setfile.specs.inside.Writing.{Put, Room}

@@ -1,5 +1,5 @@
 -- Differences that are read one behind the other, by the rest of them.
-use mathlib.Core.Path.{◌≡◌, refl, sym, ◌∙◌, ap}
+use mathlib.Core.Path.{◌≡◌, refl, sym, ◌∙◌, ap, ap₂}
 use mathlib.Core.Bool.{Bool, true, false, not, ◌&&◌, and-false}
 use mathlib.Core.List.{List, [], ◌∷◌}
 use Prim.Native.Nat.{ℕ, zero, suc, ◌+◌, ◌-◌, ◌*◌, ◌%◌, ◌^◌, ◌<◌, ◌≤◌}
@@ -11,6 +11,9 @@ use lib.Seq.{drop-drop, get_or-drop}
 use lib.Pow.{pow_mono}
 use lib.IntN.{ℤ, pos, nat_abs, ◌+ℤ◌}
 use lib.Signed.{mag, nat_abs-le}
+use mir.Syntax.{w32}
+use mir.Val.{SFits, to_z, of_z}
+use mir.Facts.{to_z-of_z}
 use borrow.Author.Tests.{not-true, not-false, ltb-false, ltb-true, leb-true, lt-ltb, le-ltb, le-leb, lt-leb}
 use Rattle.std.specs.Bool.{MatchBool}
 use Rattle.std.specs.List.{range_with_len, HoldsAt, AllWithin}
@@ -23,8 +26,9 @@ use Rattle.bits.specs.Signs.{signed, fits, all_fit, numbers}
 use Rattle.bits.specs.inside.Words.{Within, leading, Ahead}
 use Rattle.bits.proofs.BitLaws.{bits-length, taken_below}
 use Rattle.bits.proofs.SignLaws.{signed_fits, numbers_fit, numbers-length}
-use Rattle.grid.specs.Limits.{on_grid, all_on_grid}
-use Rattle.grid.proofs.LimitLaws.{on_grid_size}
+use Rattle.grid.specs.Limits.{limit, on_grid, all_on_grid}
+use Rattle.grid.proofs.LimitLaws.{on_grid_size, all_on_grid_at}
+use Rattle.steps.proofs.StepLaws.{sums-length}
 use Rattle.steps.specs.Steps.{sums}
 use Rattle.steps.specs.inside.Asked.{Width, There}
 
@@ -53,13 +57,7 @@ pub step_there : {f : List ℕ} {at w k i : ℕ} → There f at w k → i < k �
 step_there {f} {at} {w} {k} {i} t h =
     record { some = t.width.some; few = omega (arith, t.width.few); room = omega (arith, room_for_one w i k h, t.room) }
 
--- so are both of a point
-pub both_there : {f : List ℕ} {at w : ℕ} (n i : ℕ) → There f at w (2 * n) → i < n → w ≤ 28 → Within f (at + w * (2 * i)) (2 * w)
-both_there {f} {at} {w} n i t h few =
-    let e : w * (2 * i + 2) ≤ w * (2 * n) = mul-le-mul_left w (omega arith) in
-    record { some = omega (arith, t.width.some); few = omega arith; room = omega (arith, e, t.room) }
-
--- in a word that begins with them
+-- both differences of a point, in a word that begins with them
 pub first_leading : {f : List ℕ} {at r : ℕ} (w : ℕ) → Ahead f at (2 * w) r → signed w (leading r w) ≡ difference f at w
 first_leading {f} {at} {r} w a =
     let n : r * 2 ^ 0 % 2 ^ 64 ≡ r = omega (arith, a.below) in
@@ -183,6 +181,21 @@ module _ (f : List ℕ) (at w k : ℕ) where
   pub none_off : (x y : ℤ) (i bound : ℕ) → k ≤ i → all_on_grid bound (sums x y (rest f at w k i)) ≡ true
   unfolding all_on_grid
   none_off x y i bound h = ap (all_on_grid bound) (no_sums x y i h)
+
+-- the numbers that follow x and y, by the bits of both
+abbrev pub asked : List ℕ → ℕ → ℕ → ℕ → ℕ → ℕ → List ℤ
+asked f at w k x y = sums (to_z w32 x) (to_z w32 y) (numbers w k (drop at (bits f)))
+
+module _ (f : List ℕ) (at w k : ℕ) where
+  pub asked_long : (x y : ℕ) → length (asked f at w k x y) ≡ k
+  asked_long x y = sums-length _ _ (numbers w k (drop at (bits f))) ∙ numbers-length w k (drop at (bits f))
+
+  pub asked_are : {x y : ℤ} → SFits w32 x → SFits w32 y → asked f at w k (of_z w32 x) (of_z w32 y) ≡ sums x y (numbers w k (drop at (bits f)))
+  asked_are p q = ap₂ (λ (x y : ℤ). sums x y (numbers w k (drop at (bits f)))) (to_z-of_z p) (to_z-of_z q)
+
+  pub asked_on : {x y : ℤ} → SFits w32 x → SFits w32 y → all_on_grid limit (sums x y (numbers w k (drop at (bits f)))) ≡ true → (i : ℕ)
+      → on_grid limit (get_or (asked f at w k (of_z w32 x) (of_z w32 y)) i (pos 0)) ≡ true
+  asked_on p q on i = all_on_grid_at limit (asked f at w k _ _) i (ap (all_on_grid limit) (asked_are p q) ∙ on)
 
 -- so far within the bound that no a and b differences of a width pass it: the numbers that follow are within it
 pub sums_near : (bound w a b : ℕ) (x y : ℤ) (l : List ℤ) → all_fit w l ≡ true → length l ≤ a + b → b ≤ a → a ≤ b + 1 → nat_abs x + a * 2 ^ (w - 1) ≤ bound → nat_abs y + b * 2 ^ (w - 1) ≤ bound

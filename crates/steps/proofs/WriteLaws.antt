@@ -50,9 +50,6 @@ or_below k a b = go (dec_le (suc a) q) (dec_le (suc b) q)
 abbrev pub Reached : List ℤ → ℕ → ℕ → Type 0
 Reached c all k = (w : ℕ) → all_fit w (differences c) ≡ (ltb all (2 ^ (w - 1)) && all_fit w (differences (drop k c)))
 
-pub reached_none : (c : List ℤ) → Reached c 0 0
-reached_none c w = sym (ap (λ (b : Bool). b && all_fit w (differences c)) (lt-ltb 0 (2 ^ (w - 1)) (pow_pos (w - 1))))
-
 module _ (c : List ℤ) (all k : ℕ) (so : Reached c all k) where
   pub reached_more : k + 2 < length c → Reached c (bit_or all (mag (step c k))) (k + 1)
   unfolding all_fit

@@ -1,5 +1,5 @@
 // The least rotation of a contour, by a race of two starts; and by those of two contours the smallest start from which one is the other.
-ghost use Rattle.std.specs.Prelude.{◌≡◌, ◌+◌, ◌*◌, ◌%◌, ◌<◌, ◌≤◌, max, length};
+ghost use Rattle.std.specs.Prelude.{◌≡◌, ◌+◌, ◌*◌, ◌%◌, ◌<◌, ◌≤◌, length};
 ghost use Rattle.grid.specs.Domain.{Contour};
 ghost use Rattle.turned.specs.Starts.{smallest_start};
 ghost use Rattle.turned.specs.inside.Words.{key as key_of, keys, word, from, Least, Apart};
@@ -28,13 +28,6 @@ fn key_at(row: &[i32], n: usize, x: usize) -> u64
     ensures { result ≡ word row.now n x }
 {
     key(grid::inner::point_at(row, round(x, n)))
-}
-
-// The larger of two numbers.
-pub fn larger(a: usize, b: usize) -> usize
-    ensures { result ≡ max a b }
-{
-    a.max(b)
 }
 
 // How far two rows agree, the first from position a on and the second from b on, of n points that both have there.

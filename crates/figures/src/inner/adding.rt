@@ -25,12 +25,10 @@ fn each(
     ensures { CountsAll rule points.now contours.now out.old result out.new }
 {
     let mut all = crate::none();
-    let mut i: usize = 0;
-    while i < contours.len() {
+    for i in 0..contours.len() {
         let own = buffer::inner::parts::named(points, contours, i);
         let more = entries::of_contour(rule, own, next, prev, mark, out);
         all = sums::sum(all, more);
-        i += 1;
     }
     all
 }

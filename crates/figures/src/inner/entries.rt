@@ -16,21 +16,13 @@ pub struct Halves {
     pub low: u32,
 }
 
-// Of an area below 0 both are rounded down, by how far it lies below -1.
+// Both are rounded down.
 fn split(area: i64) -> Halves
     ensures { (result.high ≡ high_of area) × (result.low ≡ low_of area) }
 {
-    if area < 0 {
-        let rest = (-1 - area) as u64;
-        return Halves {
-            high: -1 - (rest / 4_294_967_296) as i64,
-            low: (4_294_967_295 - rest % 4_294_967_296) as u32,
-        };
-    }
-    let size = area as u64;
     Halves {
-        high: (size / 4_294_967_296) as i64,
-        low: (size % 4_294_967_296) as u32,
+        high: area.div_euclid(4_294_967_296),
+        low: area.rem_euclid(4_294_967_296) as u32,
     }
 }
 

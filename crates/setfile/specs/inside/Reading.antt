@@ -1,5 +1,5 @@
 -- What the functions that read a file of either edition say to each other.
-use Rattle.std.specs.Prelude.{◌≡◌, ℕ, ◌+◌, ◌*◌, ◌/◌, ◌≤◌, Bool, true, false, not, ◌&&◌, List, [], ◌∷◌, ◌++◌, length, drop, ℤ, slice_set}
+use Rattle.std.specs.Prelude.{◌≡◌, ℕ, ◌+◌, ◌*◌, ◌/◌, ◌≤◌, Bool, true, false, not, ◌&&◌, List, [], ◌∷◌, ◌++◌, length, drop, ℤ, ◌==◌, nat_lt, slice_set}
 use Rattle.grid.specs.Limits.{all_on_grid}
 use Rattle.replies.specs.Ladder.{Rung, first_of, so_far}
 use Rattle.grid.specs.Domain.{off}
@@ -13,14 +13,19 @@ use Rattle.setfile.specs.declared.inner.filling.Open.{Open}
 use Rattle.bits.specs.Bits.{digit, bits}
 use Rattle.setfile.specs.Entries.{Entry, contours_of, shapes_of, Parsed, damage, read_contours}
 use Rattle.setfile.specs.Entries.Parsed.{carries, damaged}
-use Rattle.setfile.specs.Layouts.{contours_in}
+use Rattle.setfile.specs.Layouts.{contours_in, edition_of}
 use Rattle.setfile.specs.Format as Format
 use Rattle.setfile.specs.Format.{begins, points_in}
 use Rattle.setfile.specs.Edition2.{width_in}
-use Rattle.setfile.specs.Editions.{layout, bound, bad_head, parsed}
+use Rattle.setfile.specs.Editions.{layout, bound, is_second, bad_head, parsed}
 use Rattle.setfile.specs.Reading.{most_bytes, long, refusals}
 
--- the refusals of a file's length and head, where only edition 1 is taken
+-- the refusals of a file's length and head, where edition 2 is taken too or not
+abbrev pub refusals_where : Bool → List ℕ → List Rung
+refusals_where either f =
+    long (length f) ++ (nat_lt (length f) 2, 10) ∷ (not (edition_of f == 1) && not (either && is_second f), 9) ∷ []
+
+-- where only edition 1 is taken
 abbrev pub head_refusals : List ℕ → List Rung
 head_refusals f = long (length f) ++ Format.bad_head f
 

@@ -53,13 +53,15 @@ fn raised_bits(words: &[[u8; 4]]) -> u32
     any
 }
 
-// Whether each of these coordinates is on the narrow grid.
+// Whether each of these coordinates is on the narrow grid. It reads to the end, since LLVM then takes several in a step.
 fn each_on(words: &[[u8; 4]]) -> bool
     ensures { result ≡ list_all (λ w. on_grid narrow (coordinate w)) words.now }
 {
-    words
-        .iter()
-        .all(|word| bounds::on_grid(NARROW, i32::from_be_bytes(*word)))
+    let mut all = true;
+    for word in words {
+        all &= bounds::on_grid(NARROW, i32::from_be_bytes(*word));
+    }
+    all
 }
 
 // Whether k coordinates, from `at` on, are on the narrow grid. Only where one is at its end or off it are they read again.

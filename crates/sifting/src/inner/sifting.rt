@@ -41,14 +41,10 @@ fn survivors(row: &mut [i32], start: usize, to: usize, mark: &[u8]) -> usize
     ensures { Lowered row.old start to mark.now result row.new }
 {
     let mut kept: usize = 0;
-    let mut i: usize = 0;
-    while i < mark.len() {
-        if mark[i] < 2 {
+    for (i, m) in mark.iter().enumerate() {
+        if *m < 2 {
             put(row, start + i, to + kept);
             kept += 1;
-            i += 1;
-        } else {
-            i += 1;
         }
     }
     kept

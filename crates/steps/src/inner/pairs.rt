@@ -1,5 +1,5 @@
 // The four differences of two points more, as one number: each point is one number first, so that two are subtracted and not four.
-ghost use Rattle.std.specs.Prelude.{◌≡◌, true, ◌+◌, ◌-◌, ◌*◌, ◌^◌, ◌<◌, ◌≤◌, length, drop, pos, ◌+ℤ◌, ◌-ℤ◌};
+ghost use Rattle.std.specs.Prelude.{◌≡◌, true, ◌+◌, ◌-◌, ◌*◌, ◌^◌, ◌<◌, length, drop, pos, ◌+ℤ◌, ◌-ℤ◌};
 ghost use Rattle.integers.specs.Bound.{In};
 ghost use Rattle.bits.specs.Signs.{all_fit};
 ghost use Rattle.grid.specs.Limits.{limit, all_on_grid};

@@ -9,7 +9,7 @@ use Rattle.replies.proofs.RefusalLaws.{refusals_have_numbers}
 use Rattle.replies.proofs.VerdictLaws.{verdict_refused, verdict_given}
 use Rattle.ring.specs.declared.Rule.TheVariants.{Spike}
 use Rattle.clean.specs.Verdicts.{spike_free}
-use Rattle.clean.proofs.LookLaws.{box_passes}
+use Rattle.clean.proofs.VerdictLaws.{refused_either}
 use Rattle.clean.proofs.despike.has_no_spikes.Goals as goal
 
 pub returns-in_err-domain : goal.returns-in_err-domain

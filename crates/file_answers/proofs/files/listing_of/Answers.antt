@@ -12,5 +12,5 @@ list-length-requires c = no_listing_is_longer _
 pub slice_bounds-listing-end : goal.slice_bounds-listing-end
 slice_bounds-listing-end c = let e = c.list-length.ensures in front_within (listing _) _ _ _ e.0 e.1
 
-pub slice_bounds-checksum-end : goal.slice_bounds-checksum-end
-slice_bounds-checksum-end c = let e = c.list-length.ensures in sym (length-take-le _ _ (front_within (listing _) _ _ _ e.0 e.1))
+pub slice_bounds-of-end : goal.slice_bounds-of-end
+slice_bounds-of-end c = let e = c.list-length.ensures in sym (length-take-le _ _ (front_within (listing _) _ _ _ e.0 e.1))

@@ -2,9 +2,6 @@
 use Rattle.setfile.proofs.ReadingLaws.{judged, accepted, read_refused, read_done}
 use Rattle.setfile.proofs.reading.read.Goals as goal
 
-pub judge-file-requires : goal.judge-file-requires
-judge-file-requires c = c.is_second-second.ensures
-
 pub returns-then-first-ne0 : goal.returns-then-first-ne0
 returns-then-first-ne0 c = read_refused (judged c.args.out.now c.args.records.now c.args.groups.now c.is_second-second.ensures c.judge-file.ensures c.or_room-first.ensures) _ c.refused.ensures c.if-first-ne0.true
 

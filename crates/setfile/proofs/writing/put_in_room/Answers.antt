@@ -9,9 +9,6 @@ returns-then-bytes-length c =
     let s = c.args in
     rw c.nothing.ensures (no_room s.length (file_with (is_some s.widths) s.points.now s.contours.now s.shapes.now) s.bytes.now c.if-bytes-length.true)
 
-pub put_file-n-requires : goal.put_file-n-requires
-put_file-n-requires c = (c.requires.0 c.if-bytes-length.false, c.requires.1)
-
 pub returns : goal.returns
 returns c =
     let s = c.args in

@@ -2,9 +2,6 @@
 use Rattle.setfile.proofs.RefusedLaws.{refused_set, refused_carry, refused_none}
 use Rattle.setfile.proofs.writing.set_refused.Goals as goal
 
-pub shapes-set-requires : goal.shapes-set-requires
-shapes-set-requires c = c.requires
-
 pub returns-then-set-ne0 : goal.returns-then-set-ne0
 returns-then-set-ne0 c =
     let s = c.args in

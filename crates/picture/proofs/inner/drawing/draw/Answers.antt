@@ -6,46 +6,22 @@ use Rattle.report.proofs.ReportLaws.{Told, refusal_is, told_listable}
 use Rattle.picture.proofs.PictureLaws.{picture_refused, picture_drawn, told_points}
 use Rattle.picture.proofs.inner.drawing.draw.Goals as goal
 
--- the file is judged, and the room for its points
-told : (c : goal.After-put_line-arg-then-refusal-ne0-2-1) →
-    Told c.is_second-second.result c.args.bytes.now c.judge-file.result c.or_room-refusal.result
-told c =
-    record { own = c.is_second-second.ensures; judgement = c.judge-file.ensures; with_room = c.or_room-refusal.ensures }
-
--- the file is judged, and the room for its points
-told_2 : (c : goal.After-slice_known-then-refusal-ne0-1) →
-    Told c.is_second-second.result c.args.bytes.now c.judge-file.result c.or_room-refusal.result
-told_2 c =
-    record { own = c.is_second-second.ensures; judgement = c.judge-file.ensures; with_room = c.or_room-refusal.ensures }
-
--- the file is judged, and the room for its points
-told_3 : (c : goal.After-put_job-arg-1) →
-    Told c.is_second-second.result c.args.bytes.now c.judge-file.result c.or_room-refusal.result
-told_3 c =
-    record { own = c.is_second-second.ensures; judgement = c.judge-file.ensures; with_room = c.or_room-refusal.ensures }
-
--- the file is judged, and the room for its points
-told_4 : (c : goal.After-slice_known-2-1) →
-    Told c.is_second-second.result c.args.bytes.now c.judge-file.result c.or_room-refusal.result
-told_4 c =
-    record { own = c.is_second-second.ensures; judgement = c.judge-file.ensures; with_room = c.or_room-refusal.ensures }
-
 pub judge-file-requires : goal.judge-file-requires
 judge-file-requires c = c.is_second-second.ensures
 
 pub put_line-requires : goal.put_line-requires
 put_line-requires c =
-    omega (arith, rw (picture_refused _ _ (refusal_is (told c)) c.if-refusal-ne0.true) at c.requires)
+    omega (arith, rw (picture_refused _ _ (refusal_is (record { own = c.is_second-second.ensures; judgement = c.judge-file.ensures; with_room = c.or_room-refusal.ensures })) c.if-refusal-ne0.true) at c.requires)
 
 pub returns-then-refusal-ne0 : goal.returns-then-refusal-ne0
 returns-then-refusal-ne0 c =
-    rw (picture_refused _ _ (refusal_is (told_2 c)) c.if-refusal-ne0.true) (put_front c.put_line.ensures)
+    rw (picture_refused _ _ (refusal_is (record { own = c.is_second-second.ensures; judgement = c.judge-file.ensures; with_room = c.or_room-refusal.ensures })) c.if-refusal-ne0.true) (put_front c.put_line.ensures)
 
 pub put_job-requires : goal.put_job-requires
 put_job-requires c =
     let z = c.if-refusal-ne0.false in
-    record { second_value = ((told_3 c).own, told_listable (told_3 c) z, told_points (told_3 c) z); bytes_in_bounds = rw (picture_drawn _ (sym (refusal_is (told_3 c)) ∙ z)) at c.requires }
+    record { second_value = (c.is_second-second.ensures, told_listable (record { own = c.is_second-second.ensures; judgement = c.judge-file.ensures; with_room = c.or_room-refusal.ensures }) z, told_points (record { own = c.is_second-second.ensures; judgement = c.judge-file.ensures; with_room = c.or_room-refusal.ensures }) z); bytes_in_bounds = rw (picture_drawn _ (sym (refusal_is (record { own = c.is_second-second.ensures; judgement = c.judge-file.ensures; with_room = c.or_room-refusal.ensures })) ∙ z)) at c.requires }
 
 pub returns : goal.returns
 returns c =
-    rw (picture_drawn _ (sym (refusal_is (told_4 c)) ∙ c.if-refusal-ne0.false)) (put_front c.put_job.ensures)
+    rw (picture_drawn _ (sym (refusal_is (record { own = c.is_second-second.ensures; judgement = c.judge-file.ensures; with_room = c.or_room-refusal.ensures })) ∙ c.if-refusal-ne0.false)) (put_front c.put_job.ensures)

@@ -16,36 +16,6 @@ use Rattle.picture.proofs.ExtentLaws.{origin_on, apart_back}
 use Rattle.picture.proofs.inner.frame.put_offset.Goals as goal
 
 -- the numbers that are put
-words : (c : goal.After-struct_told-3-1) →
-    offset c.args.e
-    ≡ joined (signed (to_z w64 (of_z w64 c.between-by.result.dx)) ∷ space ∷ signed (to_z w64 (of_z w64 c.between-by.result.dy)) ∷ [])
-words c =
-    let k = c.requires.0 in
-    let x = x_on limit _ k.0 in
-    let y = y_on limit _ k.1 in
-    let x₀ = x_on limit _ origin_on in
-    let y₀ = y_on limit _ origin_on in
-    ap₂ (λ (a b : ℤ). signed a ++ space ++ signed b)
-    (sym (apart_back _ (pos 0) _ x x₀ (gone _ (pos 0) x x₀ (ap (λ (u : Edge). u.dx) c.between-by.ensures))))
-    (sym (apart_back _ (pos 0) _ y y₀ (gone _ (pos 0) y y₀ (ap (λ (u : Edge). u.dy) c.between-by.ensures))))
-    ∙ three_words _ _ _
-
--- the numbers that are put
-words_2 : (c : goal.After-put-arg-3-1) →
-    offset c.args.e
-    ≡ joined (signed (to_z w64 (of_z w64 c.between-by.result.dx)) ∷ space ∷ signed (to_z w64 (of_z w64 c.between-by.result.dy)) ∷ [])
-words_2 c =
-    let k = c.requires.0 in
-    let x = x_on limit _ k.0 in
-    let y = y_on limit _ k.1 in
-    let x₀ = x_on limit _ origin_on in
-    let y₀ = y_on limit _ origin_on in
-    ap₂ (λ (a b : ℤ). signed a ++ space ++ signed b)
-    (sym (apart_back _ (pos 0) _ x x₀ (gone _ (pos 0) x x₀ (ap (λ (u : Edge). u.dx) c.between-by.ensures))))
-    (sym (apart_back _ (pos 0) _ y y₀ (gone _ (pos 0) y y₀ (ap (λ (u : Edge). u.dy) c.between-by.ensures))))
-    ∙ three_words _ _ _
-
--- the numbers that are put
 words_3 : (c : goal.After-struct_told-4-1) →
     offset c.args.e
     ≡ joined (signed (to_z w64 (of_z w64 c.between-by.result.dx)) ∷ space ∷ signed (to_z w64 (of_z w64 c.between-by.result.dy)) ∷ [])
@@ -75,18 +45,6 @@ words_4 c =
     (sym (apart_back _ (pos 0) _ y y₀ (gone _ (pos 0) y y₀ (ap (λ (u : Edge). u.dy) c.between-by.ensures))))
     ∙ three_words _ _ _
 
-going : (c : goal.After-struct_told-3-1) →
-    let s = c.args in
-    Going s.at (offset s.e) s.text.now s.at s.text.now
-    (signed (to_z w64 (of_z w64 c.between-by.result.dx)) ∷ space ∷ signed (to_z w64 (of_z w64 c.between-by.result.dy)) ∷ [])
-going c = going_none c.args.at c.args.text.now _ (words c) c.requires.1
-
-going_2 : (c : goal.After-put-arg-3-1) →
-    let s = c.args in
-    Going s.at (offset s.e) s.text.now s.at s.text.now
-    (signed (to_z w64 (of_z w64 c.between-by.result.dx)) ∷ space ∷ signed (to_z w64 (of_z w64 c.between-by.result.dy)) ∷ [])
-going_2 c = going_none c.args.at c.args.text.now _ (words_2 c) c.requires.1
-
 going_3 : (c : goal.After-struct_told-4-1) →
     let s = c.args in
     Going s.at (offset s.e) s.text.now s.at s.text.now
@@ -104,13 +62,6 @@ between-by-requires c =
     let k = c.requires.0 in
     let p = passed _ _ (x_on limit _ k.0) (y_on limit _ k.1) in
     (and_both _ _ p.0 p.1, origin_on)
-
-pub put_signed-second-requires : goal.put_signed-second-requires
-put_signed-second-requires c = going_room (going c)
-
-pub put-third-requires : goal.put-third-requires
-put-third-requires c =
-    going_room (going_more (going_2 c) c.put_signed-second.ensures)
 
 pub put_signed-requires : goal.put_signed-requires
 put_signed-requires c =

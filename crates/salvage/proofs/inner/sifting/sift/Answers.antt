@@ -1,5 +1,6 @@
 -- `salvage::inner::sifting::sift` meets its contract.
-use Rattle.std.proofs.Common.{◌≡◌, ℕ, ◌+◌, ◌-◌, ◌*◌, List, ◌++◌, length, take, drop, sym, ap, ◌∙◌, ap₂, append_assoc, arith, length-take, length-drop, drop-drop}
+use Rattle.std.proofs.Common.{◌≡◌, ℕ, ◌+◌, ◌-◌, ◌*◌, List, length, take, drop, arith, length-take, length-drop}
+use Rattle.bits.proofs.PenLaws.{written}
 use Rattle.salvage.proofs.SiftLaws.{reason_is, sifts_kept, sifts_noted}
 use Rattle.salvage.proofs.inner.sifting.sift.Goals as goal
 
@@ -11,9 +12,7 @@ returns-then-wrong-eq0 c =
     let n : s.s.to + (2 + 8 * c.held-n.result) - s.s.to ≡ length part =
     omega (arith, length-take (s.s.at + (2 + 8 * c.held-n.result) - s.s.at) (drop s.s.at s.bytes.now), length-drop s.s.at s.bytes.now, c.requires.within, c.held-n.ensures) in
     sifts_kept s.bytes.now s.s s.i s.out.now s.list.now _ c.held-n.ensures _ judged c.if-wrong-eq0.true
-    (ap₂ (λ (l : List ℕ) (m : ℕ). take s.s.to s.out.now ++ (l ++ drop m (drop s.s.to s.out.now))) c.copy_from_slice.ensures.after n
-    ∙ ap (λ (r : List ℕ). take s.s.to s.out.now ++ (part ++ r)) (drop-drop (length part) s.s.to s.out.now)
-    ∙ sym (append_assoc (take s.s.to s.out.now) part (drop (s.s.to + length part) s.out.now)))
+    (rw c.copy_from_slice.ensures.after (written s.out.now part s.s.to _ n))
 
 pub returns : goal.returns
 returns c =

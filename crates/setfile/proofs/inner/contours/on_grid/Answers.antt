@@ -1,12 +1,9 @@
 -- `setfile::inner::contours::on_grid` meets its contract.
-use Rattle.std.proofs.Common.{Bool, List, ℤ, sym, ◌∙◌, ap₂, arith}
+use Rattle.std.proofs.Common.{Bool, List, ℤ, sym, ◌∙◌, ap₂}
 use Rattle.grid.specs.Limits.{all_on_grid}
 use Rattle.setfile.specs.Editions.{bound}
-use Rattle.setfile.proofs.ContourLaws.{whole_small, First, first_there, Second, second_there}
+use Rattle.setfile.proofs.ContourLaws.{first_there, second_there}
 use Rattle.setfile.proofs.inner.contours.on_grid.Goals as goal
-
-pub overflow_add-at : goal.overflow_add-at
-overflow_add-at c = let p = c.requires in omega (arith, p.0.here.within, p.0.here.short)
 
 pub on_grid-requires : goal.on_grid-requires
 on_grid-requires c = let e = second_there c.requires.0 c.requires.1 c.if-second.true in (e.stands, e.width)
@@ -15,15 +12,6 @@ pub returns-then-second : goal.returns-then-second
 returns-then-second c =
     c.on_grid.ensures
     ∙ ap₂ (λ (b : Bool) (p : List ℤ). all_on_grid (bound b) p) (sym c.if-second.true) (second_there c.requires.0 c.requires.1 c.if-second.true).points
-
-pub overflow_add-at-2 : goal.overflow_add-at-2
-overflow_add-at-2 c = let p = c.requires in omega (arith, p.0.here.within, p.0.here.short)
-
-pub overflow_mul-h : goal.overflow_mul-h
-overflow_mul-h c = let p = c.requires in omega (arith, (whole_small p.0 _ p.1).0)
-
-pub all_on-requires : goal.all_on-requires
-all_on-requires c = (first_there c.requires.0 c.requires.1 c.if-second.false).room
 
 pub returns : goal.returns
 returns c =

@@ -1,28 +1,16 @@
 -- `setfile::inner::contours::put` meets its contract.
-use Rattle.std.proofs.Common.{Bool, List, ℤ, sym, ap, ◌∙◌, ap₂, arith}
+use Rattle.std.proofs.Common.{Bool, List, ℤ, sym, ap, ◌∙◌, ap₂}
 use Rattle.grid.specs.Limits.{all_on_grid}
 use Rattle.rows.specs.Rows.{placed}
 use Rattle.setfile.specs.Editions.{bound}
-use Rattle.setfile.proofs.ContourLaws.{whole_small, First, first_there, Second, second_there}
+use Rattle.setfile.proofs.ContourLaws.{first_there, second_there}
 use Rattle.setfile.proofs.inner.contours.put.Goals as goal
-
-pub overflow_add-at : goal.overflow_add-at
-overflow_add-at c = let p = c.requires in omega (arith, p.0.here.within, p.0.here.short)
 
 pub points-requires : goal.points-requires
 points-requires c =
     let p = c.requires in
     let e = second_there c.requires.0 c.requires.1 c.if-second.true in
     (e.stands, e.width, ap₂ (λ (b : Bool) (p : List ℤ). all_on_grid (bound b) p) (sym c.if-second.true) e.points ∙ p.2, p.3)
-
-pub overflow_add-at-else-second : goal.overflow_add-at-else-second
-overflow_add-at-else-second c = let p = c.requires in omega (arith, p.0.here.within, p.0.here.short)
-
-pub overflow_mul-h : goal.overflow_mul-h
-overflow_mul-h c = let p = c.requires in omega (arith, (whole_small p.0 _ p.1).0)
-
-pub coordinates-requires : goal.coordinates-requires
-coordinates-requires c = ((first_there c.requires.0 c.requires.1 c.if-second.false).room, c.requires.3)
 
 pub returns-then-second : goal.returns-then-second
 returns-then-second c =

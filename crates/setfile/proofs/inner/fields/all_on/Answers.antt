@@ -1,5 +1,5 @@
 -- `setfile::inner::fields::all_on` meets its contract: the bits show it, or each coordinate is asked.
-use Rattle.std.proofs.Common.{◌≡◌, ℕ, ◌%◌, ◌<◌, ◌≤◌, ◌*◌, true, List, length, map, drop, ℤ, sym, ap, ◌∙◌, subst, arith, length-drop}
+use Rattle.std.proofs.Common.{◌≡◌, ℕ, ◌%◌, ◌<◌, ◌≤◌, ◌*◌, true, List, length, drop, sym, ap, ◌∙◌, subst, arith, length-drop}
 use Rattle.std.specs.List.{fold, list_all}
 use Rattle.std.specs.Simd.{first_chunks}
 use Rattle.bits.proofs.WordLaws.{EachByte, byte_drop}

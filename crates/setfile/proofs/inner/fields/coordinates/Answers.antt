@@ -1,12 +1,10 @@
 -- `setfile::inner::fields::coordinates` meets its contract: what is still to be written loses its first.
-use borrow.Author.Rules.{sfits_of}
-use Rattle.std.proofs.Common.{w32, ◌≡◌, ℕ, ◌+◌, ◌*◌, ◌<◌, ◌≤◌, List, [], ◌∷◌, map, length, get_or, drop, ℤ, refl, ap, ◌∙◌, sym, subst, add-one, arith, length-drop, drop-cons, drop_of_length-le, to_z-of_z}
+use Rattle.std.proofs.Common.{◌≡◌, ℕ, ◌+◌, ◌<◌, ◌≤◌, List, [], ◌∷◌, map, length, get_or, drop, ℤ, ap, ◌∙◌, sym, subst, add-one, arith, length-drop, drop-cons, drop_of_length-le}
 use lib.ListN.{length-map}
-use Rattle.std.specs.Simd.{first_chunks}
 use Rattle.bits.proofs.WordLaws.{byte_drop}
 use Rattle.rows.specs.Rows.{placed}
-use Rattle.setfile.specs.inside.Bytes.{coordinate, decoded}
-use Rattle.setfile.proofs.AheadLaws.{Ahead, ahead_all, ahead_one, ahead_none}
+use Rattle.setfile.specs.inside.Bytes.{coordinate}
+use Rattle.setfile.proofs.AheadLaws.{Ahead, ahead_all, ahead_none}
 use Rattle.setfile.proofs.FieldLaws.{decoded_words, words-length}
 use Rattle.setfile.proofs.inner.fields.coordinates.Goals as goal
 

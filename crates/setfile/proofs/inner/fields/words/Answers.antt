@@ -1,6 +1,5 @@
 -- `setfile::inner::fields::words` meets its contract.
-use Rattle.std.proofs.Common.{◌≡◌, ℕ, ◌+◌, ◌-◌, ◌*◌, ◌/◌, List, length, take, drop, ap₂, ◌∙◌, arith, length-drop, length-take}
-use Rattle.std.specs.Simd.{first_chunks}
+use Rattle.std.proofs.Common.{◌≡◌, ℕ, ◌+◌, ◌-◌, ◌*◌, ◌/◌, List, length, take, drop, ◌∙◌, arith, length-drop, length-take}
 use Rattle.setfile.proofs.FieldLaws.{part_words}
 use Rattle.setfile.proofs.inner.fields.words.Goals as goal
 

@@ -1,6 +1,5 @@
 -- `setfile::inner::filling::begun_shapes` meets its contract: the shape that is met is written where the next begins, and the last at the end.
-use Rattle.std.proofs.Common.{◌≡◌, ◌<◌, length, arith, length-set}
-use Rattle.setfile.specs.inside.Reading.{Whole}
+use Rattle.std.proofs.Common.{◌≡◌, arith}
 use Rattle.setfile.proofs.ContourLaws.{whole_small, whole_ends}
 use Rattle.setfile.proofs.RestLaws.{first_whole}
 use Rattle.setfile.proofs.FillLaws.{contour_there}
@@ -45,14 +44,8 @@ loop-i-preserved c =
     let next = shapes_next _ l.invariant.1 l.invariant.0 c.loop-i-test.true _ c.header_at-h.ensures _ c.size-at-in-loop-i.ensures _ _ e.0 e.1 in
     next
 
-pub offset_bounds-groups-k : goal.offset_bounds-groups-k
-offset_bounds-groups-k c = omega (arith, shapes_room _ c.loop-i.invariant.1 c.loop-i.invariant.0, c.loop-i.invariant.1.ahead.long)
-
 pub bounds-groups-k : goal.bounds-groups-k
 bounds-groups-k c = shapes_room _ c.loop-i.invariant.1 c.loop-i.invariant.0
-
-pub shape_of-groups : goal.shape_of-groups
-shape_of-groups c = simp length-set c.loop-i.invariant.1.ahead.long
 
 pub returns : goal.returns
 returns c =

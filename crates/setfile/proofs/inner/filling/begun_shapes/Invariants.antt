@@ -1,4 +1,4 @@
-use Rattle.std.proofs.Common.{◌-◌, ◌≤◌}
+use Rattle.std.proofs.Common.{◌≤◌}
 use Rattle.rows.specs.Rows.{front}
 use Rattle.buffer.specs.Spans.{rows}
 use Rattle.buffer.specs.Sets.{shape_spans}

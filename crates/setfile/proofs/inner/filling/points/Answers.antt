@@ -1,8 +1,7 @@
 -- `setfile::inner::filling::points` meets its contract: the rest of the file makes what is still to be written.
-use Rattle.std.proofs.Common.{◌≡◌, ◌+◌, ◌*◌, ◌≤◌, length, refl, ap, arith}
+use Rattle.std.proofs.Common.{◌≡◌, refl, ap, arith}
 use Rattle.buffer.specs.Sets.{joined}
 use Rattle.setfile.specs.declared.inner.headers.Header.{Header}
-use Rattle.setfile.specs.inside.Reading.{Whole}
 use Rattle.setfile.proofs.ContourLaws.{whole_small, whole_ends}
 use Rattle.setfile.proofs.FillLaws.{filling_all, filling_done, points_made, coming, contour_there, points_room, points_more}
 use Rattle.setfile.proofs.inner.filling.points.Goals as goal
@@ -42,9 +41,6 @@ overflow_add-to c =
 pub loop-preserved : goal.loop-preserved
 loop-preserved c =
     points_more c.loop.invariant c.loop-test.true _ c.header_at-h.ensures _ c.size-at.ensures _ c.put.ensures
-
-pub shape_of-out : goal.shape_of-out
-shape_of-out c = c.loop.invariant.ahead.long
 
 pub returns : goal.returns
 unfolding joined

@@ -1,4 +1,3 @@
-use Rattle.std.proofs.Common.{◌-◌, ◌≤◌}
 use Rattle.rows.specs.Rows.{front}
 use Rattle.buffer.specs.Sets.{joined}
 use Rattle.setfile.specs.Entries.{contours_of}

@@ -1,7 +1,7 @@
 -- `setfile::inner::filling::ranges` meets its contract: the rest of the file makes what is still to be written.
-use Rattle.std.proofs.Common.{◌≡◌, ◌<◌, ◌≤◌, length, refl, arith}
+use Rattle.std.proofs.Common.{◌≡◌, ◌≤◌, length, refl, arith}
 use Rattle.buffer.specs.Spans.{laid}
-use Rattle.setfile.specs.inside.Reading.{contained, Whole}
+use Rattle.setfile.specs.inside.Reading.{contained}
 use Rattle.setfile.proofs.ContourLaws.{whole_small, whole_ends}
 use Rattle.setfile.proofs.FillLaws.{filling_all, filling_done, contours_made, contours_made_length, contour_there, contour_counted, contours_room, contours_more}
 use Rattle.setfile.proofs.inner.filling.ranges.Goals as goal
@@ -21,9 +21,6 @@ overflow_add-end c =
     let w = contour_there c.loop-i.invariant.1 c.loop-i-test.true in
     omega (arith, (whole_small w _ c.header_at-h.ensures).0, c.loop-i.invariant.0, w.here.within, w.here.short)
 
-pub offset_bounds-records-i : goal.offset_bounds-records-i
-offset_bounds-records-i c = omega (arith, contours_room _ c.loop-i.invariant.1 c.loop-i-test.true, c.loop-i.invariant.1.ahead.long)
-
 pub bounds-records-i : goal.bounds-records-i
 bounds-records-i c = omega (arith, contours_room _ c.loop-i.invariant.1 c.loop-i-test.true)
 
@@ -42,9 +39,6 @@ loop-i-preserved c =
       omega (arith, l.invariant.0, contour_counted l.invariant.1 more _ c.header_at-h.ensures _ c.size-at.ensures),
       contours_more _ l.invariant.1 more _ c.header_at-h.ensures _ c.size-at.ensures,
     )
-
-pub shape_of-records : goal.shape_of-records
-shape_of-records c = c.loop-i.invariant.1.ahead.long
 
 pub returns : goal.returns
 unfolding laid

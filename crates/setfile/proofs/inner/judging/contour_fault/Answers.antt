@@ -36,12 +36,6 @@ module _ (s : Bool) (f : List ℕ) (at : ℕ) (within : at ≤ 8 * length f) whe
     ends : {z : ℕ} → z ≡ size_of s h → z ≤ 8 * length f - at → (layout s).size (from_bit f at) ≤ length (from_bit f at)
     ends g h = omega (arith, sized g, from-length f at within)
 
-pub overflow_mul-rest : goal.overflow_mul-rest
-overflow_mul-rest c = omega (arith, c.requires.0.short)
-
-pub overflow_sub-rest : goal.overflow_sub-rest
-overflow_sub-rest c = omega (arith, c.requires.0.within)
-
 pub returns-then-rest-header_size : goal.returns-then-rest-header_size
 returns-then-rest-header_size c =
     let s = c.args in
@@ -89,11 +83,6 @@ returns-then-rest-size c =
     s.second (headed s.second s.bytes.now s.at w c.header_size.ensures c.if-rest-header_size.false)
     (many s.second s.bytes.now s.at w c.header_at-h.ensures s.points false c.if-second-points.false)
     (omega (arith, sized s.second s.bytes.now s.at w c.header_at-h.ensures c.size.ensures, c.if-rest-size.true, from-length s.bytes.now s.at w))
-
-pub overflow_add-at : goal.overflow_add-at
-overflow_add-at c =
-    let p = c.requires in
-    omega (arith, p.0.within, p.0.short)
 
 pub width_fault-requires : goal.width_fault-requires
 width_fault-requires c =

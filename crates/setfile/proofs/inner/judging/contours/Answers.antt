@@ -1,10 +1,10 @@
 -- `setfile::inner::judging::contours` meets its contract: what is met so far and what is left make up the judgement of the whole.
-use Rattle.std.proofs.Common.{◌≡◌, ℕ, ◌+◌, ◌-◌, ◌≤◌, true, eqb, sym, ap, ◌∙◌, subst, ap₂, arith}
+use Rattle.std.proofs.Common.{◌≡◌, ℕ, ◌+◌, ◌-◌, true, eqb, sym, ap, ◌∙◌, subst, ap₂, arith}
 use Rattle.setfile.specs.declared.inner.judging.Met.{Met}
 use Rattle.setfile.specs.Entries.{Parsed}
 use Rattle.setfile.specs.Layouts.{contours_in}
 use Rattle.setfile.specs.Editions.{layout}
-use Rattle.setfile.specs.inside.Reading.{from_bit, Whole, none_met, Within, summed}
+use Rattle.setfile.specs.inside.Reading.{from_bit, none_met, Within, summed}
 use Rattle.setfile.proofs.ContourLaws.{right, whole}
 use Rattle.setfile.proofs.JudgeLaws.{judged_faulty, judged_more, within_more, none_left}
 use Rattle.setfile.proofs.inner.judging.contours.Goals as goal
@@ -16,9 +16,6 @@ loop-i-init c =
       record { here = c.requires; points_few = omega arith; shapes_few = omega arith },
       ap (λ (k : ℕ). summed s.second none_met 0 (contours_in (layout s.second) k true 0 (from_bit s.bytes.now 16))) e,
     )
-
-pub contour_fault-wrong-requires : goal.contour_fault-wrong-requires
-contour_fault-wrong-requires c = let w = c.loop-i.invariant.0 in (w.here, w.points_few)
 
 pub returns-then-wrong-ne0 : goal.returns-then-wrong-ne0
 returns-then-wrong-ne0 c =
@@ -48,9 +45,6 @@ loop-i-preserved c =
       within_more b f s.n l.i l.m l.invariant.0 (whole c.loop-i.invariant.0.here (eqb c.loop-i.i 0) c.loop-i.m.points (sym c.contour_fault-wrong.ensures ∙ c.if-wrong-ne0.false)) r.counted r.some,
       l.invariant.1 ∙ judged_more b f s.n l.i l.m (eqb l.i 0) c.loop-i-test.true (sym c.contour_fault-wrong.ensures ∙ c.if-wrong-ne0.false),
     )
-
-pub finished-requires : goal.finished-requires
-finished-requires c = c.loop-i.invariant.0
 
 pub returns : goal.returns
 returns c =

@@ -1,4 +1,4 @@
-use Rattle.std.proofs.Common.{◌≡◌, ◌-◌, ◌≤◌, true, eqb}
+use Rattle.std.proofs.Common.{◌≡◌, ◌-◌, true, eqb}
 use Rattle.setfile.specs.Layouts.{contours_in}
 use Rattle.setfile.specs.Editions.{layout}
 use Rattle.setfile.specs.inside.Reading.{from_bit, none_met, Within, summed}

@@ -1,13 +1,9 @@
 -- `setfile::inner::judging::finished` meets its contract.
-use Rattle.std.proofs.Common.{◌≡◌, sym, ap, ◌∙◌}
+use Rattle.std.proofs.Common.{sym, ap, ◌∙◌}
 use Rattle.replies.specs.Ladder.{first_of}
-use Rattle.setfile.specs.Layouts.{end_damage}
 use Rattle.setfile.specs.inside.Reading.{from_bit, on_or_refused}
 use Rattle.setfile.proofs.JudgeLaws.{left_over, all_met}
 use Rattle.setfile.proofs.inner.judging.finished.Goals as goal
-
-pub end_fault-wrong-requires : goal.end_fault-wrong-requires
-end_fault-wrong-requires c = let p = c.requires in (p.here.short, p.here.within)
 
 pub returns-then-wrong-ne0 : goal.returns-then-wrong-ne0
 returns-then-wrong-ne0 c =

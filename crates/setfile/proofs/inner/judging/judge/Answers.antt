@@ -1,9 +1,8 @@
 -- `setfile::inner::judging::judge` meets its contract.
-use Rattle.std.proofs.Common.{◌≡◌, ℕ, true, sym, ap, ◌∙◌}
-use Rattle.replies.specs.Ladder.{first_of}
+use Rattle.std.proofs.Common.{ℕ, true, sym, ap, ◌∙◌}
 use Rattle.setfile.specs.Layouts.{contours_in}
 use Rattle.setfile.specs.Editions.{layout}
-use Rattle.setfile.specs.inside.Reading.{either_refusals, from_bit, none_met, summed}
+use Rattle.setfile.specs.inside.Reading.{from_bit, none_met, summed}
 use Rattle.setfile.proofs.FaultLaws.{either_long}
 use Rattle.setfile.proofs.JudgeLaws.{judged_head, at_contours, judged_contours}
 use Rattle.setfile.proofs.inner.judging.judge.Goals as goal

@@ -29,18 +29,11 @@ module _ {named c : List ℤ} (e : named ≡ c) where
 pub loop-k-init : goal.loop-k-init
 loop-k-init c = (omega arith, refl, λ j l. absurd (omega arith), refl)
 
-pub named-contour-requires : goal.named-contour-requires
-named-contour-requires c = (c.requires.0 _ c.loop-k-test.true).0
-
 pub width-width-requires : goal.width-width-requires
 width-width-requires c = let n = (c.requires.0 _ c.loop-k-test.true).1 in rw (same_numbers c.named-contour.ensures) (n.even, n.on)
 
 pub overflow_cast-widths : goal.overflow_cast-widths
 overflow_cast-widths c = Fits-of_lt (omega (arith, narrow _ c.width-width.ensures))
-
-pub bounds-widths-k : goal.bounds-widths-k
-bounds-widths-k c =
-    omega (arith, c.loop-k.invariant.3, c.requires.2, c.loop-k-test.true)
 
 pub second_size-bits-requires : goal.second_size-bits-requires
 second_size-bits-requires c = (rw (same_numbers c.named-contour.ensures) (c.requires.0 _ c.loop-k-test.true).1.short, omega (arith, narrow _ c.width-width.ensures))
@@ -60,9 +53,6 @@ loop-k-preserved c =
       widths_more (λ (j : ℕ). contour_width (part p cs j)) c.loop-k.widths c.loop-k.k c.width-width.result (omega (arith, v.3, c.requires.2, h)) v.2 (c.width-width.ensures ∙ ap contour_width (same_numbers c.named-contour.ensures)),
       simp length-set v.3,
     )
-
-pub shape_of-widths : goal.shape_of-widths
-shape_of-widths c = c.loop-k.invariant.3
 
 pub returns : goal.returns
 returns c =

@@ -9,9 +9,6 @@ use Rattle.setfile.specs.Entries.{entry}
 use Rattle.setfile.proofs.PutLaws.{header_ready, body_ready, body_inked}
 use Rattle.setfile.proofs.inner.putting.put_contour_2.Goals as goal
 
-pub overflow_mul-head : goal.overflow_mul-head
-overflow_mul-head c = Fits-of_lt (omega (arith, c.from.ensures, byte_below c.args.begins))
-
 narrow : {w : ℕ} (l : List ℤ) → w ≡ contour_width l → w ≤ 32
 narrow {w} l e = rw e (width_within_32 (differences l))
 

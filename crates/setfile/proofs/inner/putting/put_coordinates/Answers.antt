@@ -18,8 +18,5 @@ loop-x-preserved c =
     let next = next_coordinate c.args.contour.now c.loop-x.x-index (c.from.ensures ∙ c.cast_unsigned.ensures) (search rules) c.loop-x-test.true in
     part_written c.loop-x.invariant next (record { is = c.spell.ensures; behind = omega (arith, spelled-length 4 c.from.result) })
 
-pub shape_of-bytes : goal.shape_of-bytes
-shape_of-bytes c = c.loop-x.invariant.long
-
 pub returns : goal.returns
 returns c = all_written c.loop-x.invariant (no_coordinate c.args.contour.now c.loop-x.x-index (omega arith))

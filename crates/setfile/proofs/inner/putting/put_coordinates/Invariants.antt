@@ -1,4 +1,4 @@
-use Rattle.std.proofs.Common.{◌-◌, length, drop}
+use Rattle.std.proofs.Common.{drop}
 use Rattle.setfile.specs.inside.Bytes.{coded_coordinates}
 use Rattle.setfile.proofs.WriteLaws.{Writing}
 use Rattle.setfile.proofs.inner.putting.put_coordinates.Given as goal

@@ -1,5 +1,5 @@
 -- `setfile::inner::putting::put_pair` meets its contract.
-use Rattle.std.proofs.Common.{ap, ◌∙◌, arith}
+use Rattle.std.proofs.Common.{◌∙◌, arith}
 use Rattle.bits.proofs.WordLaws.{spelled-length}
 use Rattle.bits.proofs.PenLaws.{written}
 use Rattle.setfile.proofs.WriteLaws.{spelled_two}

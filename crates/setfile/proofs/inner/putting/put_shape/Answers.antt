@@ -16,9 +16,6 @@ loop-k-init c =
     let pre = c.requires.2 in
     (rw (first_contour (layout (is_some s.widths)) s.points.now s.ranges.now s.from s.to) (none_inked _ _ _ pre.small pre.room), pre.few)
 
-pub named-contour-requires : goal.named-contour-requires
-named-contour-requires c = (c.requires.0 _ c.loop-k-test.true).0
-
 pub width_at-width-requires : goal.width_at-width-requires
 width_at-width-requires c = width_there c.args.widths c.args.points.now c.args.ranges.now c.requires.1 c.loop-k-test.true
 
@@ -55,9 +52,6 @@ loop-k-preserved c =
           i.wrote,
       i.few,
     )
-
-pub shape_of-bytes : goal.shape_of-bytes
-shape_of-bytes c = c.loop-k.invariant.0.wrote.long
 
 pub returns : goal.returns
 returns c =

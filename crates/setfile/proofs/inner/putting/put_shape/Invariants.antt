@@ -1,4 +1,4 @@
-use Rattle.std.proofs.Common.{◌-◌, ◌≤◌, eqb}
+use Rattle.std.proofs.Common.{◌≤◌, eqb}
 use Rattle.setfile.specs.Layouts.{all_coded}
 use Rattle.setfile.specs.Editions.{layout}
 use Rattle.setfile.specs.inside.Writing.{most_kept, between, shape_bits}

@@ -30,9 +30,6 @@ loop-from-preserved c =
       c.put_shape-behind.ensures.few,
     )
 
-pub shape_of-bytes : goal.shape_of-bytes
-shape_of-bytes c = c.loop-from.invariant.0.wrote.long
-
 pub returns : goal.returns
 returns c =
     let s = c.args in

@@ -1,4 +1,4 @@
-use Rattle.std.proofs.Common.{◌-◌, ◌≤◌, length, drop}
+use Rattle.std.proofs.Common.{◌≤◌, drop}
 use Rattle.setfile.specs.inside.Writing.{most_kept, shapes_bits}
 use Rattle.setfile.proofs.WriteLaws.{Inking}
 use Rattle.std.specs.Option.{is_some}
