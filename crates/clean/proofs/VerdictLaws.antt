@@ -1,8 +1,8 @@
 -- The verdicts as a whole.
-use mathlib.Core.Path.{◌≡◌, refl, sym, ap}
+use mathlib.Core.Path.{◌≡◌, sym, ap}
 use mathlib.Core.Bool.{Bool, false, not, ◌&&◌}
 use mathlib.Core.List.{List}
-use Prim.Native.Nat.{ℕ, zero, suc, ◌<◌, ◌≤◌}
+use Prim.Native.Nat.{◌<◌, ◌≤◌}
 use native.Mathlib.Omega.{arith}
 use lib.ListN.{length}
 use lib.IntN.{ℤ}
@@ -11,7 +11,6 @@ use Rattle.grid.specs.Points.{points}
 use Rattle.grid.specs.Corners.{distinct_neighbours, corners, some, aligned_at}
 use Rattle.grid.specs.Domain.{count}
 use Rattle.grid.proofs.RowLaws.{points_count}
-use Rattle.replies.specs.Verdicts.{verdict}
 use Rattle.ring.specs.declared.Rule.{Rule}
 use Rattle.ring.specs.declared.Rule.TheVariants.{Collinear, Spike}
 use Rattle.ring.specs.Rule.{goes_at}
@@ -38,8 +37,3 @@ module _ (row : List ℤ) where
   pub passes_few : (rule : Rule) → count row < 3 → false ≡ passes rule (points row)
   passes_few Collinear h = simple_few h
   passes_few Spike h = spikes_few h
-
--- a refusal's verdict is no, whatever is asked
-pub refused_either : (k r : ℕ) (b : Bool) → (k ≡ 0 → ⊥) → k ≡ r → verdict k false ≡ verdict r b
-refused_either zero r b n e = absurd (n refl)
-refused_either (suc k) r b n e = ap (λ (j : ℕ). verdict j b) e

@@ -11,15 +11,12 @@ use crate::inner::verdicts;
 use replies::Refusal;
 use ring::Rule;
 
-// Whether the contour has no spikes, equal neighbours aside. A box has none.
+// Whether the contour has no spikes, equal neighbours aside.
 pub fn has_no_spikes(points: &[i32]) -> Result<bool, Refusal>
     ensures { answered result ≡ spike_free points.now }
 {
     grid::domain(points)?;
-    if grid::inner::boxes::is_box(points, points.len() / 2) {
-        return Ok(true);
-    }
-    Ok(verdicts::no_spikes(points))
+    Ok(verdicts::passes(Rule::Spike, points))
 }
 
 // The contour without its spikes and its equal neighbours.

@@ -11,16 +11,12 @@ use crate::inner::verdicts;
 use replies::Refusal;
 use ring::Rule;
 
-// Whether the contour has three or more points, and no vertex whose two edges have cross 0. Most contours are boxes, of
-// which it is known.
+// Whether the contour has three or more points, and no vertex whose two edges have cross 0.
 pub fn is_simple(points: &[i32]) -> Result<bool, Refusal>
     ensures { answered result ≡ simple_verdict points.now }
 {
     grid::domain(points)?;
-    if grid::inner::boxes::is_box(points, points.len() / 2) {
-        return Ok(true);
-    }
-    Ok(verdicts::all_turn(points))
+    Ok(verdicts::passes(Rule::Collinear, points))
 }
 
 // The contour without its collinear points.

@@ -1,9 +1,7 @@
 // Whether every contour of a set passes the verdict that goes with a rule.
 ghost use Rattle.std.specs.Prelude.{◌≡◌, ◌<◌, [], length, slice_index_or};
-ghost use Rattle.grid.specs.Limits.{limit};
 ghost use Rattle.grid.specs.Points.{points as points_of};
 ghost use Rattle.replies.specs.Ladder.{first_of};
-ghost use Rattle.grid.specs.Domain.{domain};
 ghost use Rattle.replies.specs.Verdicts.{answered};
 ghost use Rattle.buffer.specs.Spans.{span, spans};
 ghost use Rattle.buffer.specs.Sets.{contour, contours};
@@ -15,26 +13,12 @@ use buffer::inner::parts;
 use replies::Refusal;
 use ring::Rule;
 
-// Whether a contour passes. A box does, by either rule.
-pub fn passes(rule: Rule, contour: &[i32]) -> bool
-    requires { first_of (domain limit contour.now) ≡ 0 }
-    ensures { result ≡ passes_by rule (points_of contour.now) }
-{
-    if grid::inner::boxes::is_box(contour, contour.len() / 2) {
-        return true;
-    }
-    match rule {
-        Rule::Collinear => clean::inner::verdicts::all_turn(contour),
-        Rule::Spike => clean::inner::verdicts::no_spikes(contour),
-    }
-}
-
 // Whether contour number k passes, of a set that no call refuses.
 fn named_passes(rule: Rule, points: &[i32], ranges: &[[usize; 2]], k: usize) -> bool
     requires { (first_of (refusals points.now ranges.now) ≡ 0) × (k < length ranges.now) }
     ensures { result ≡ passes_by rule (points_of (contour points.now (span (slice_index_or ranges.now k [])))) }
 {
-    passes(rule, parts::named(points, ranges, k))
+    clean::inner::verdicts::passes(rule, parts::named(points, ranges, k))
 }
 
 // Whether every contour passes, of a set that no call refuses.
