@@ -1,5 +1,5 @@
 -- `figures::inner::sums::possible` meets its contract, test by test.
-use mathlib.Core.Path.{◌≡◌, sym, ◌∙◌, ap}
+use mathlib.Core.Path.{sym, ◌∙◌, ap}
 use mathlib.Core.Bool.{Bool, ◌&&◌}
 use Prim.Native.Nat.{◌-◌}
 use lib.IntN.{ℤ, pos, neg_ℤ}
@@ -7,8 +7,8 @@ use lib.Signed.{le_z}
 use mir.Syntax.{w64}
 use mir.Facts.{to_z-of_z}
 use borrow.Author.Rules.{sfits_of}
-use Rattle.figures.specs.Joining.{most_high, possible}
-use Rattle.figures.proofs.PossibleLaws.{high_tests, not_before, not_after, not_decisions, by_high}
+use Rattle.figures.specs.Joining.{most_high}
+use Rattle.figures.proofs.PossibleLaws.{not_before, not_after, not_decisions, by_high}
 use Rattle.figures.proofs.inner.sums.possible.Goals as goal
 
 pub returns-then-f-gt4294901760 : goal.returns-then-f-gt4294901760
