@@ -2,11 +2,11 @@
 use mathlib.Core.Path.{◌≡◌, refl, sym, ◌∙◌, ap, ap₂, subst}
 use mathlib.Core.Bool.{Bool}
 use mathlib.Core.List.{List, [], ◌∷◌, ◌++◌, append_assoc, append-nil}
-use Prim.Native.Nat.{ℕ, suc, ◌+◌, ◌-◌, ◌*◌, ◌/◌, ◌%◌, ◌^◌, ◌<◌, ◌≤◌}
+use Prim.Native.Nat.{ℕ, ◌+◌, ◌-◌, ◌*◌, ◌/◌, ◌%◌, ◌^◌, ◌<◌, ◌≤◌}
 use native.Mathlib.Nat.{mod-lt, mul-le-mul_right}
 use native.Mathlib.Omega.{arith}
 use lib.ListN.{length, take, drop, set, length-append}
-use lib.Seq.{take_at, drop_at, drop-drop, length-take-le, sets-eq}
+use lib.Seq.{take_at, drop_at, drop-drop, length-take-le}
 use lib.Pow.{pow-add, pow_pos, shl_exact, shr_lt}
 use borrow.Rule.Slice.PartMut.{put_mid}
 use Rattle.std.proofs.lemmas.Nat.{one_shl}
@@ -112,18 +112,6 @@ written row d at n e =
     ap (λ (k : ℕ). take at row ++ (d ++ drop k (drop at row))) e
     ∙ ap (λ (l : List _). take at row ++ (d ++ l)) (drop-drop (length d) at row)
     ∙ sym (append_assoc (take at row) d (drop (at + length d) row))
-
--- four bytes that are stored one by one
-pub four_stored : (row : List ℕ) (at n : ℕ) → at + 4 ≤ length row
-    → set (set (set (set row at (n / 16777216 % 256)) (at + 1) (n / 65536 % 256)) (at + 2) (n / 256 % 256)) (at + 3) (n % 256) ≡ placed at (spelled 4 n) row
-unfolding spelled
-four_stored row at n h =
-    let a : at + 1 ≡ suc at = omega arith in
-    let b : at + 2 ≡ suc (suc at) = omega arith in
-    let d : at + 3 ≡ suc (suc (suc at)) = omega arith in
-    let z : n ≡ n / 1 = omega arith in
-    rw (a, b, d) (ap (λ (m : ℕ). set (set (set (set row at (n / 16777216 % 256)) (suc at) (n / 65536 % 256)) (suc (suc at)) (n / 256 % 256)) (suc (suc (suc at))) (m % 256)) z
-    ∙ sets-eq (n / 16777216 % 256 ∷ n / 65536 % 256 ∷ n / 256 % 256 ∷ n / 1 % 256 ∷ []) row at h)
 
 -- a field that fills four bytes
 pub wrote_four : (p : Pen) (row exit : List ℕ) (w n h r : ℕ) → Ready p → Space row p w → n < 2 ^ w → h ≡ p.kept * 2 ^ w % 2 ^ 64 + n → p.width + w ≡ 32 + r

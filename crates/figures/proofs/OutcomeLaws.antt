@@ -1,5 +1,5 @@
 -- What adding a set comes to.
-use mathlib.Core.Path.{◌≡◌, refl, ◌∙◌, ap}
+use mathlib.Core.Path.{◌≡◌, refl, sym, ◌∙◌, ap}
 use mathlib.Core.Bool.{true, false}
 use mathlib.Core.List.{List, [], ◌∷◌, ◌++◌}
 use Prim.Native.Nat.{ℕ, zero, suc, ◌<◌, ◌≤◌}
@@ -53,6 +53,10 @@ module _ (p : List ℤ) (ranges : List (List ℕ)) (l : Lent) where
   pub first_refusal : (asked r : ℕ) → asked ≡ first_of (refusals p ranges)
       → r ≡ first_of (so_far asked ++ (scratch (count p) (length l.next) (length l.prev) (length l.mark) ++ room (leb (length p) (length l.out)))) → r ≡ first_of rungs
   first_refusal asked r e g = so_far_then (refusals p ranges) (lacking p l) tt asked r e g
+
+  pub none_refused : (asked r : ℕ) → asked ≡ first_of (refusals p ranges)
+      → r ≡ first_of (so_far asked ++ (scratch (count p) (length l.next) (length l.prev) (length l.mark) ++ room (leb (length p) (length l.out)))) → r ≡ 0 → first_of rungs ≡ 0
+  none_refused asked r e g z = sym (first_refusal asked r e g) ∙ z
 
   -- it has a reply number
   pub refusal_small : first_of rungs < numbers

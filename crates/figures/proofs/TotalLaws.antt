@@ -4,7 +4,7 @@ use mathlib.Core.List.{List, [], ◌∷◌, ◌++◌, append_assoc, append-nil}
 use Prim.Native.Nat.{ℕ, zero, suc, ◌+◌, ◌<◌, ◌≤◌}
 use native.Mathlib.Omega.{arith}
 use native.Mathlib.Numerals.{add-one}
-use lib.ListN.{length, get_or, set, take, drop, length-append, length-drop}
+use lib.ListN.{length, get_or, set, take, drop}
 use lib.Seq.{drop-cons, drop-length, take-suc, take-length, length-take-le, set_at, get_or_at}
 use Rattle.std.specs.List.{sum_by}
 use Rattle.std.proofs.lemmas.List.Recursion.{is_sum_by}
@@ -67,8 +67,3 @@ module _ (a b : List ℕ) (e : length a ≡ length b) where
   so_far_at i h =
       let x = added_up a b in
       rw (drop-cons a i 0 h) (get_or_at (take i x) (get_or a i 0) (drop (suc i) a) 0 i (length-take-le i x (omega (arith, added-length a b e))))
-
-  pub so_far_length : (i : ℕ) → i ≤ length a → length (so_far a b i) ≡ length a
-  so_far_length i h =
-      let x = added_up a b in
-      omega (arith, length-append (take i x) (drop i a), length-take-le i x (omega (arith, added-length a b e)), length-drop i a)

@@ -1,10 +1,9 @@
 -- Which edges count, and their parity along a contour.
 use mathlib.Core.Path.{◌≡◌, refl, sym, ◌∙◌, ap}
-use mathlib.Core.Bool.{Bool, true, false, not, xor, beq, true≢false}
+use mathlib.Core.Bool.{Bool, true, false, not, xor}
 use mathlib.Core.List.{List, [], ◌∷◌}
 use Prim.Native.Nat.{ℕ, zero, suc, ◌+◌, ◌-◌, ◌<◌, ◌≤◌}
 use native.Mathlib.Omega.{arith}
-use native.Mathlib.Decide.{dec_lt}
 use lib.ListN.{length, drop}
 use lib.IntN.{ℤ, pos, ◌-ℤ◌, ◌*ℤ◌}
 use lib.Signed.{lt_z}
@@ -271,3 +270,7 @@ nothing_contained p row h = go (points row) (omega (arith, points_count row))
     go : (l : List Point) → length l ≡ 0 → false ≡ contained p l
     go [] e = refl
     go (o ∷ l) e = absurd (omega arith)
+
+-- the side of a point, read as another that it equals
+pub side_is : (p : Point) {a b : Point} {r : Bool} → r ≡ above p a → a ≡ b → r ≡ above p b
+side_is p e f = e ∙ ap (above p) f

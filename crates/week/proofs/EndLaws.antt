@@ -13,7 +13,12 @@ use Rattle.replies.specs.Ladder.{first_of}
 use Rattle.setfile.specs.Editions.{layout}
 use Rattle.setfile.specs.inside.Reading.{from_bit, At, header_size}
 use Rattle.setfile.proofs.ContourLaws.{from-length}
-use Rattle.week.specs.Files.{is_there, or_none, bits_of_next, unless_none, bit_behind, bytes_by, head_refusals, own_length}
+use Rattle.std.specs.Int.{div_ceil}
+use Rattle.week.specs.Files.{is_there, or_none, bits_of_next, unless_none, bit_behind, bytes_by, whole_bytes, head_refusals, own_length}
+
+-- the bytes that so many bits fill
+pub filled_bytes : (n : ℕ) → div_ceil n 8 ≡ whole_bytes n
+filled_bytes n = omega arith
 
 -- the contour in front
 module _ (s : Bool) (l : List Bool) where

@@ -29,9 +29,8 @@ fn by_place(
     let n = reader.numbers;
     let k = reader.contours;
     let m = reader.shapes;
-    let place = reader.place;
-    match place {
-        Place::Head(_) => writing::damaged(1, out, words),
+    match reader.place {
+        Place::Head(_) | Place::NoHead => writing::damaged(1, out, words),
         Place::Start => {
             writing::write(
                 second,
@@ -42,12 +41,9 @@ fn by_place(
                 words,
             )
         }
-        Place::Word(_, _) => writing::damaged(k + 2, out, words),
-        Place::Space => writing::damaged(k + 2, out, words),
-        Place::Dash => writing::damaged(k + 2, out, words),
-        Place::Number(_, _) => writing::damaged(k + 2, out, words),
-        Place::NoHead => writing::damaged(1, out, words),
-        Place::NoLine => writing::damaged(k + 2, out, words),
+        Place::Word(..) | Place::Space | Place::Dash | Place::Number(..) | Place::NoLine => {
+            writing::damaged(k + 2, out, words)
+        }
         Place::Refused(number) => writing::refused(number, out, words),
     }
 }

@@ -14,7 +14,7 @@ pub fn refused(number: u32, out: &mut [u8], words: &mut [u8]) -> Lengths
     ensures { leaving result out.new words.new
         ≡ outcome (refusing number) out.old words.old }
 {
-    let said = text::put_line(words, 0, b"refused ", number as u64);
+    let said = text::put_line(words, 0, b"refused ", u64::from(number));
     Lengths {
         bytes: 0,
         words: said,

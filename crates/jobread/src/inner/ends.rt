@@ -10,15 +10,7 @@ use crate::{Place, Reader};
 pub fn moved(reader: Reader, place: Place) -> Reader
     ensures { result ≡ moved_to reader place }
 {
-    Reader {
-        place,
-        begins: reader.begins,
-        start: reader.start,
-        numbers: reader.numbers,
-        contours: reader.contours,
-        shapes: reader.shapes,
-        first: reader.first,
-    }
+    Reader { place, ..reader }
 }
 
 // Behind the first letter of a line.
@@ -28,11 +20,7 @@ fn opened(reader: Reader, begins: bool) -> Reader
     Reader {
         place: Place::Word(begins, 1),
         begins,
-        start: reader.start,
-        numbers: reader.numbers,
-        contours: reader.contours,
-        shapes: reader.shapes,
-        first: reader.first,
+        ..reader
     }
 }
 
@@ -53,13 +41,7 @@ pub fn start(reader: Reader, c: u8) -> Reader
 fn slot(begins: bool, m: usize) -> usize
     ensures { result ≡ slot_of begins m }
 {
-    if begins {
-        return m;
-    }
-    if m == 0 {
-        return 0;
-    }
-    m - 1
+    if begins { m } else { m.saturating_sub(1) }
 }
 
 // Which contour begins its shape.
@@ -90,12 +72,11 @@ fn ended(reader: Reader, contours: &mut [[usize; 2]], shapes: &mut [[usize; 2]])
     shapes[k] = [first, n + 1];
     Reader {
         place: Place::Start,
-        begins: reader.begins,
         start: end,
-        numbers: reader.numbers,
         contours: n + 1,
         shapes: k + 1,
         first,
+        ..reader
     }
 }
 
@@ -124,15 +105,9 @@ pub fn counted(reader: Reader) -> Reader
     requires { reader.numbers < 131072 }
     ensures { result ≡ counted_of reader }
 {
-    let place = reader.place;
     Reader {
-        place,
-        begins: reader.begins,
-        start: reader.start,
         numbers: reader.numbers + 1,
-        contours: reader.contours,
-        shapes: reader.shapes,
-        first: reader.first,
+        ..reader
     }
 }
 

@@ -8,24 +8,21 @@ use crate::Place;
 // The largest size of a number.
 pub const LARGEST: usize = 2147483647;
 
-// What a character is worth as a digit; 10 where it is none.
+// What a character is worth as a digit; 10 where it is none, by the definition in specs/Places.
 pub fn digit(c: u8) -> usize
     ensures { result ≡ digit_of c }
 {
-    if (48 <= c) & (c <= 57) {
-        return (c - 48) as usize;
+    if c.is_ascii_digit() {
+        return usize::from(c - b'0');
     }
     10
 }
 
-// Letter number k of a word; 0 behind its last.
+// Letter number k of a word; 0 behind its last, which specs/Places asks for.
 pub fn letter(word: &[u8], k: usize) -> u8
     ensures { result ≡ get_or word.now k 0 }
 {
-    if word.len() <= k {
-        return 0;
-    }
-    word[k]
+    word.get(k).copied().unwrap_or(0)
 }
 
 // Behind k characters of the line of the edition.

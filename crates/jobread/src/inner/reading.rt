@@ -59,17 +59,14 @@ fn step(
     ensures { state_of result points.new contours.new shapes.new
         ≡ step_of (state_of reader points.old contours.old shapes.old) c }
 {
-    let place = reader.place;
-    match place {
+    match reader.place {
         Place::Head(k) => ends::moved(reader, places::head(k, c)),
         Place::Start => ends::start(reader, c),
         Place::Word(begins, k) => ends::word(reader, begins, k, c, contours, shapes),
         Place::Space => ends::moved(reader, places::space(c)),
         Place::Dash => ends::moved(reader, places::dash(c)),
         Place::Number(below, size) => number(reader, below, size, c, points, contours, shapes),
-        Place::NoHead => reader,
-        Place::NoLine => reader,
-        Place::Refused(_) => reader,
+        Place::NoHead | Place::NoLine | Place::Refused(_) => reader,
     }
 }
 
@@ -93,10 +90,8 @@ pub fn read(
         shapes: 0,
         first: 0,
     };
-    let mut i: usize = 0;
-    while i < text.len() {
-        reader = step(reader, text[i], points, contours, shapes);
-        i += 1;
+    for c in text {
+        reader = step(reader, *c, points, contours, shapes);
     }
     reader
 }

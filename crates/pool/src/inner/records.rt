@@ -51,6 +51,7 @@ pub fn find(records: &[[usize; 4]], n: usize, press: usize, k: usize) -> Option<
 }
 
 // The newest of a press among the first n records: its number from 1, or 0.
+// No Option: `Newest` says it of a number, and the crate shift rests on that contract.
 pub fn newest(records: &[[usize; 4]], n: usize, press: usize) -> usize
     requires { n ≤ length records.now }
     ensures { Newest press n records.now result }

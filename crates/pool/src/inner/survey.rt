@@ -7,6 +7,7 @@ ghost use Rattle.pool.specs.inside.Surveys.{Surveyed, share_of};
 use crate::inner::records;
 
 // What a survey finds: whether the records are sound, and then the points and what each press holds.
+// No Option: the promise `Surveyed` speaks of the four fields, and the crate shift changes them.
 #[derive(Clone, Copy)]
 pub struct Survey {
     pub sound: bool,

@@ -33,19 +33,18 @@ fn more(found: Survey, second: bool, n: usize) -> Survey
     ensures { result ≡ with_more second n found }
 {
     let size = records::holding(n);
+    let points = found.points + n;
     if second {
         return Survey {
-            sound: found.sound,
-            points: found.points + n,
-            first: found.first,
+            points,
             second: found.second + size,
+            ..found
         };
     }
     Survey {
-        sound: found.sound,
-        points: found.points + n,
+        points,
         first: found.first + size,
-        second: found.second,
+        ..found
     }
 }
 
@@ -55,19 +54,18 @@ fn less(found: Survey, second: bool, n: usize) -> Survey
     ensures { result ≡ with_less second n found }
 {
     let size = records::holding(n);
+    let points = found.points - n;
     if second {
         return Survey {
-            sound: found.sound,
-            points: found.points - n,
-            first: found.first,
+            points,
             second: found.second - size,
+            ..found
         };
     }
     Survey {
-        sound: found.sound,
-        points: found.points - n,
+        points,
         first: found.first - size,
-        second: found.second,
+        ..found
     }
 }
 
@@ -173,7 +171,7 @@ pub fn clean(
 fn as_result(yes: bool) -> usize
     ensures { result ≡ yes_or_no yes }
 {
-    if yes { 1 } else { 0 }
+    usize::from(yes)
 }
 
 // A point is asked of a press's contours.

@@ -30,14 +30,12 @@ fn bit_behind(second: bool, bytes: &[u8], n: usize) -> usize
     ensures { result ≡ bit_behind second n 16 (from_bit bytes.now 16) }
 {
     let mut at: usize = 16;
-    let mut i: usize = 0;
-    while i < n {
+    for _ in 0..n {
         let size = size_at(second, bytes, at);
         if size == 0 {
             return 0;
         }
         at += size;
-        i += 1;
     }
     at
 }
@@ -52,7 +50,7 @@ pub fn own_length(bytes: &[u8]) -> usize
     }
     let second = head::is_second(bytes);
     let n = head::promised(bytes);
-    (bit_behind(second, bytes, n) + 7) / 8
+    bit_behind(second, bytes, n).div_ceil(8)
 }
 
 // The same of a window, which may show one byte more than a file has.

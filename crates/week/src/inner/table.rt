@@ -16,7 +16,7 @@ fn put_told(text: &mut [u8], at: usize, word: &[u8], totals: &[u32], reply: usiz
     ensures { Put at (told_of word.now totals.now reply)
         text.old result text.new }
 {
-    text::put_line(text, at, word, totals[reply] as u64)
+    text::put_line(text, at, word, u64::from(totals[reply]))
 }
 
 // Puts what became of the contours.

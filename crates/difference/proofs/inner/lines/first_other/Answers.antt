@@ -1,5 +1,4 @@
 -- `difference::inner::lines::first_other` meets its contract: where keys differ, points do.
-use native.Mathlib.Omega.{arith}
 use Rattle.difference.proofs.LineLaws.{other_is}
 use Rattle.difference.proofs.inner.lines.first_other.Goals as goal
 

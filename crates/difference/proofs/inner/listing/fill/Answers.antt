@@ -18,9 +18,9 @@ loop-k-preserved c =
     let many = lines-length s.points.now s.ranges.now s.others.now s.other_ranges.now in
     let all = written-length s.points.now s.ranges.now s.others.now s.other_ranges.now in
     let h : k < length due = omega (arith, many, c.requires.2.larger, c.loop-k-test.true) in
-    let e : row c.line_at-line.result ≡ get_or (written due) k [] = ap row c.line_at-line.ensures ∙ sym (map_at row due k [] same h) in
+    let e : c.row.result ≡ get_or (written due) k [] = c.row.ensures ∙ ap row c.line_at-line.ensures ∙ sym (map_at row due k [] same h) in
     let z : 0 + k ≡ k = omega arith in
-    subst (λ (i : ℕ). Copied s.listing.now 0 (written due) (set c.loop-k.listing i (row c.line_at-line.result)) (k + 1)) z
+    subst (λ (i : ℕ). Copied s.listing.now 0 (written due) (set c.loop-k.listing i c.row.result) (k + 1)) z
     (copied_more _ _ _ c.loop-k.invariant [] _ (omega (arith, all, c.requires.2.larger, c.requires.2.room)) (omega (arith, all, c.requires.2.larger, c.loop-k-test.true)) e)
 
 pub returns : goal.returns

@@ -1,13 +1,9 @@
 -- `figures::inner::sums::sum` meets its contract.
 use Prim.Native.Nat.{◌/◌, ◌+◌, ◌^◌}
 use native.Mathlib.Omega.{arith}
-use borrow.Author.Rules.{rules}
 use Rattle.figures.proofs.PossibleLaws.{possible_means}
 use Rattle.figures.proofs.SumLaws.{highs_fit, carry_fits, carry_is, sum_is}
 use Rattle.figures.proofs.inner.sums.sum.Goals as goal
-
-pub add_totals-requires : goal.add_totals-requires
-add_totals-requires c = (search rules, c.requires.few)
 
 pub overflow_add-high : goal.overflow_add-high
 overflow_add-high c = highs_fit (possible_means c.args.f c.requires.first).high (possible_means c.args.g c.requires.second).high

@@ -10,8 +10,9 @@ use Rattle.setfile.proofs.FaultLaws.{either_long}
 use Rattle.setfile.proofs.JudgeLaws.{at_contours}
 use Rattle.setfile.proofs.ContourLaws.{from-length}
 use Rattle.week.specs.Files.{head_refusals, bit_behind, whole_bytes}
-use Rattle.week.proofs.EndLaws.{not_told, told, ends_within}
+use Rattle.week.proofs.EndLaws.{not_told, told, ends_within, filled_bytes}
 use Rattle.week.proofs.inner.ending.own_length.Goals as goal
+use Rattle.week.proofs.inner.ending.own_length.Goals.{After-bit_behind, After-is_second-second}
 
 pub returns-then-either_refused-ne0 : goal.returns-then-either_refused-ne0
 returns-then-either_refused-ne0 c =
@@ -19,51 +20,32 @@ returns-then-either_refused-ne0 c =
     record { value = not_told s.bytes.now _ c.either_refused.ensures c.if-either_refused-ne0.true; upper_bound = omega arith }
 
 -- the head is not refused
-headed : (c : goal.After-is_second-second) → first_of (head_refusals c.args.bytes.now) ≡ 0
+headed : (c : After-is_second-second) → first_of (head_refusals c.args.bytes.now) ≡ 0
 headed c = sym c.either_refused.ensures ∙ c.if-either_refused-ne0.false
 
--- the head is not refused
-headed_2 : (c : goal.After-promised-n) → first_of (head_refusals c.args.bytes.now) ≡ 0
-headed_2 c = sym c.either_refused.ensures ∙ c.if-either_refused-ne0.false
-
--- the head is not refused
-headed_3 : (c : goal.After-bit_behind) → first_of (head_refusals c.args.bytes.now) ≡ 0
-headed_3 c = sym c.either_refused.ensures ∙ c.if-either_refused-ne0.false
-
 pub promised-n-requires : goal.promised-n-requires
-promised-n-requires c = either_long c.args.bytes.now (headed c)
+promised-n-requires c = either_long c.args.bytes.now (headed (goal.at.promised-n-requires c).After-is_second-second)
 
 -- behind the head
-begins : (c : goal.After-promised-n) →
+begins : (c : After-is_second-second) →
     let s = c.args in
     At c.is_second-second.result s.bytes.now 16
 begins c =
     let s = c.args in
-    at_contours c.is_second-second.result s.bytes.now c.is_second-second.ensures (headed_2 c)
-
--- behind the head
-begins_2 : (c : goal.After-bit_behind) →
-    let s = c.args in
-    At c.is_second-second.result s.bytes.now 16
-begins_2 c =
-    let s = c.args in
-    at_contours c.is_second-second.result s.bytes.now c.is_second-second.ensures (headed_3 c)
+    at_contours c.is_second-second.result s.bytes.now c.is_second-second.ensures (headed c)
 
 pub bit_behind-requires : goal.bit_behind-requires
-bit_behind-requires c = begins c
+bit_behind-requires c = begins (goal.at.bit_behind-requires c).After-is_second-second
 
 -- the bit that is answered lies within the file
-within : (c : goal.After-bit_behind) →
+within : (c : After-bit_behind) →
     let s = c.args in
     c.bit_behind.result ≤ 8 * length s.bytes.now
 within c =
     let s = c.args in
     let b = c.is_second-second.result in
-    let a = begins_2 c in
+    let a = at_contours b s.bytes.now c.is_second-second.ensures (sym c.either_refused.ensures ∙ c.if-either_refused-ne0.false) in
     omega (arith, c.bit_behind.ensures, ends_within b c.promised-n.result 16 (from_bit s.bytes.now 16), from-length s.bytes.now 16 a.within)
-
-pub overflow_add-result : goal.overflow_add-result
-overflow_add-result c = omega (arith, within c, (begins_2 c).short)
 
 pub returns : goal.returns
 returns c =
@@ -71,9 +53,10 @@ returns c =
     let f = s.bytes.now in
     record {
       value =
-          ap whole_bytes
+          c.div_ceil.ensures ∙ filled_bytes c.bit_behind.result
+          ∙ ap whole_bytes
           (c.bit_behind.ensures
           ∙ ap₂ (λ (b : Bool) (n : ℕ). bit_behind b n 16 (from_bit f 16)) c.is_second-second.ensures c.promised-n.ensures)
           ∙ told f _ c.either_refused.ensures c.if-either_refused-ne0.false;
-      upper_bound = omega (arith, within c);
+      upper_bound = omega (arith, c.div_ceil.ensures, within (goal.at.returns c).After-bit_behind);
     }
