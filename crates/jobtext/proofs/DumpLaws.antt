@@ -6,8 +6,7 @@ use Prim.Native.Nat.{ℕ, zero, suc}
 use Rattle.replies.specs.Ladder.{first_of}
 use Rattle.setfile.specs.Editions.{is_second}
 use Rattle.setfile.specs.Reading.{refusals}
-use Rattle.setfile.specs.declared.inner.judging.Judged.{Judged}
-use Rattle.setfile.specs.inside.Reading.{contained, Judgement, Readable}
+use Rattle.setfile.specs.inside.Reading.{Judged, contained, Judgement, Readable}
 use Rattle.report.specs.Text.{decimal, line_end, refused}
 use Rattle.jobtext.specs.Text.{text, dumped_by, dumped}
 

@@ -12,7 +12,6 @@ use Rattle.grid.proofs.LimitLaws.{all_on_wider}
 use Rattle.replies.specs.Ladder.{first_of}
 use Rattle.replies.proofs.LadderLaws.{clear_of}
 use Rattle.buffer.specs.Sets.{joined}
-use Rattle.setfile.specs.declared.inner.judging.Judged.{Judged}
 use Rattle.setfile.specs.Editions.{bound}
 use Rattle.setfile.proofs.HoldLaws.{bound_within}
 use Rattle.report.specs.Text.{decimal, line_end, refused}

@@ -17,12 +17,11 @@ use Rattle.replies.proofs.LadderLaws.First.{here, past}
 use Rattle.grid.proofs.LimitLaws.{narrow_within, all_on_wider, on_taken, on_dropped}
 use Rattle.buffer.specs.Sets.{joined, Even}
 use Rattle.buffer.proofs.Theorems.{points_total}
-use Rattle.setfile.specs.declared.inner.judging.Judged.{Judged}
 use Rattle.setfile.specs.Entries.{Entry, damage, read_contours}
 use Rattle.setfile.specs.Layouts.{promised}
 use Rattle.setfile.specs.Editions.{bound, is_second, parsed}
 use Rattle.setfile.specs.Reading.{refusals}
-use Rattle.setfile.specs.inside.Reading.{Judgement}
+use Rattle.setfile.specs.inside.Reading.{Judged, Judgement}
 use Rattle.setfile.proofs.SizeLaws.{promised_few}
 use Rattle.report.specs.Text.{decimal, line_end, heading, refused}
 use Rattle.report.specs.Listing.{lines, rule_of, most_listed, job, listing_refusals, listing}

@@ -7,10 +7,10 @@ use Rattle.setfile.proofs.writing.put_in_room.Goals as goal
 pub returns-then-bytes-length : goal.returns-then-bytes-length
 returns-then-bytes-length c =
     let s = c.args in
-    rw c.nothing.ensures (no_room s.length (file_with (is_some s.widths) s.points.now s.contours.now s.shapes.now) s.bytes.now c.if-bytes-length.true)
+    (no_room s.length (file_with (is_some s.widths) s.points.now s.contours.now s.shapes.now) s.bytes.now c.if-bytes-length.true)
 
 pub returns : goal.returns
 returns c =
     let s = c.args in
     put_there s.length (file_with (is_some s.widths) s.points.now s.contours.now s.shapes.now) s.bytes.now c.if-bytes-length.false _ _
-    c.put_file-n.ensures.1 c.put_file-n.ensures.0
+    c.put_file.ensures.1 c.put_file.ensures.0

@@ -1,8 +1,8 @@
--- `setfile::inner::head::refused_where` meets its contract.
+-- `setfile::inner::head::check_where` meets its contract.
 use Rattle.std.proofs.Common.{ℕ, ◌/◌, ap, ◌∙◌}
 use Rattle.setfile.proofs.ByteLaws.{edition_by_pair}
 use Rattle.setfile.proofs.FaultLaws.{over_long, head_short, head_edition, head_right}
-use Rattle.setfile.proofs.inner.head.refused_where.Goals as goal
+use Rattle.setfile.proofs.inner.head.check_where.Goals as goal
 
 pub returns-then-bytes-gt-MOST_BYTES : goal.returns-then-bytes-gt-MOST_BYTES
 returns-then-bytes-gt-MOST_BYTES c = over_long c.args.either c.args.bytes.now c.if-bytes-gt-MOST_BYTES.true
