@@ -53,8 +53,8 @@ fn with_shapes(before: Answer, set: Set<'_>) -> Answer {
         .word(parts::of_shapes(set))
 }
 
-// A packing or an addition in rows of given lengths, full of canaries. What is added is the numbers behind the set's, with
-// these ranges.
+// A packing or an addition in rows of given lengths, full of canaries. What is added is the numbers behind the set's,
+// with these ranges.
 pub fn lent(head: [usize; HEAD], set: Set<'_>, ranges: &[[usize; 2]]) -> Answer {
     let mut out = [-7i32; SET_NUMBERS];
     let mut records = [[7usize; 2]; SET];

@@ -19,7 +19,7 @@ pub fn begin() -> Told {
 }
 
 impl Told {
-    // With the reply of one call more.
+    // With the reply of one call more. No row of a case has so many calls that their count wraps.
     pub fn with(self, reply: u32) -> Told {
         Told {
             last: reply,

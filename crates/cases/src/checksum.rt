@@ -1,5 +1,5 @@
 // The checksum of a row: from 0 on, each number is added to 31 times what was there, modulo 2^32.
-use crate::float;
+use std::num::f64_to_bits_with_nan;
 
 // What a checksum can be made of.
 pub trait Summed {
@@ -65,10 +65,10 @@ impl Summed for u64 {
     }
 }
 
-// By its bits.
+// By its bits, of a NaN by one pattern.
 impl Summed for f64 {
     fn added_to(&self, sum: u32) -> u32 {
-        float::to_bits(*self).added_to(sum)
+        f64_to_bits_with_nan(*self).added_to(sum)
     }
 }
 

@@ -1,8 +1,8 @@
 // The entries of a row, as they are read.
 ghost use Rattle.std.specs.Prelude.{◌<◌, ◌≤◌, IfOk, length};
 
-use crate::float;
 use crate::line::{Damage, LARGEST, Line};
+use std::num::f64_from_bits_with_nan;
 
 // An entry that a line can say to stand several times.
 pub trait Entry: Copy {
@@ -33,7 +33,7 @@ impl Entry for f64 {
         for _ in 0..16 {
             bits = bits << 4 | u64::from(line.hex_digit()?);
         }
-        Ok(float::of_bits(bits))
+        Ok(f64_from_bits_with_nan(bits))
     }
 }
 
@@ -129,7 +129,7 @@ fn read_times<T: Copy>(line: &mut Line<'_>, row: &mut [T], count: usize) -> Resu
     Ok(end)
 }
 
-// Fills the row with its first `count` entries, over and over.
+// Fills the row with its first `count` entries, over and over: an entry is read where an earlier round may have written it.
 fn repeat<T: Copy>(row: &mut [T], count: usize) {
     for i in count..row.len() {
         row[i] = row[i - count];

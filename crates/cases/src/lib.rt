@@ -5,7 +5,6 @@ pub mod answer;
 pub mod case;
 pub mod checksum;
 pub mod entries;
-pub mod float;
 pub mod given;
 pub mod kind;
 pub mod line;

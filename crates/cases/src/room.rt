@@ -1,4 +1,5 @@
-// The longest rows that can be lent (to a set, to the records of what is read of a file, and to anything else), and parts of rows.
+// The longest rows that can be lent (to a set, to the records of what is read of a file, and to anything else), and parts
+// of rows.
 pub const SET: usize = 550;
 
 pub const SET_NUMBERS: usize = 1100;

@@ -27,8 +27,8 @@ pub fn begin<R: Read>(stream: R) -> Source<R> {
 }
 
 impl<R: Read> Source<R> {
-    // Reads the next line into the front of `line`, and answers its length; none at the end of the list. One without an end
-    // there fills it.
+    // Reads the next line into the front of `line`, and answers its length; none at the end of the list. One without an
+    // end there fills it.
     pub fn read_line(&mut self, line: &mut [u8]) -> io::Result<Option<usize>> {
         for (length, place) in line.iter_mut().enumerate() {
             match self.byte()? {

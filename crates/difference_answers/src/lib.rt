@@ -7,8 +7,8 @@ use cases::given::Set;
 use cases::room::SET;
 use cases::{answer, room};
 
-// Two sets compared, with a listing of given length, full of canaries. The second one's numbers are behind those of the first,
-// and its contours stand as the shapes.
+// Two sets compared, with a listing of given length, full of canaries. The second one's numbers are behind those of the
+// first, and its contours stand as the shapes.
 pub fn lent(head: [usize; HEAD], sets: Set<'_>) -> Answer {
     let mut listing = [[7usize; 2]; SET];
     let listing = room::front_mut(&mut listing, head[0]);

@@ -7,8 +7,8 @@ use cases::given::Set;
 use cases::room;
 use figures::{Added, Figures};
 
-// Adds the sets of the records and numbers that are given, as the shapes say, and answers what was told and the figures after
-// the last.
+// Adds the sets of the records and numbers that are given, as the shapes say, and answers what was told and the figures
+// after the last.
 pub fn make(
     form: usize,
     given: Set<'_>,
@@ -31,8 +31,8 @@ pub fn make(
     (told, figures)
 }
 
-// The walk of a call: in form 0 always the one that removes collinear points, in 1 never, in 2 in turn from the first call on,
-// in 3 from the second on.
+// The walk of a call: in form 0 always the one that removes collinear points, in 1 never, in 2 in turn from the first call
+// on, in 3 from the second on.
 fn walk(form: usize, call: usize) -> Walk {
     match form {
         0 => Walk::Simplified,

@@ -63,8 +63,8 @@ fn brought_back(exported: Answer, drawn: Drawn, rows: &mut Rows) -> Answer {
     answer
 }
 
-// Brings a drawing into rows that are filled with canaries, and puts behind the answer what is said and the checksums of the
-// rows after it.
+// Brings a drawing into rows that are filled with canaries, and puts behind the answer what is said and the checksums of
+// the rows after it.
 fn import(
     before: Answer,
     kinds: &[u8],
@@ -79,8 +79,8 @@ fn import(
     (answer.sum(out).sum(records), packed)
 }
 
-// Gives a set back into rows that are filled with canaries, and puts behind the answer what is said and the checksums of the
-// rows after it.
+// Gives a set back into rows that are filled with canaries, and puts behind the answer what is said and the checksums of
+// the rows after it.
 fn export(
     before: Answer,
     points: &[i32],

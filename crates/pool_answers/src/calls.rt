@@ -1,4 +1,5 @@
-// The calls of a history, one after the other. A call is two pairs: 0 to add or else to remove, and the press; and of the numbers the start and the end of the contour that is added.
+// The calls of a history, one after the other. A call is two pairs: 0 to add or else to remove, and the press; and of the
+// numbers the start and the end of the contour that is added.
 use answers::told;
 use answers::told::Told;
 use cases::room;

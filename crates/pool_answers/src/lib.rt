@@ -10,8 +10,8 @@ use cases::given::Set;
 use cases::room::{LONG, LONG_NUMBERS};
 use cases::{answer, room};
 
-// Calls in rows of given lengths, full of canaries behind the records that are given. Each of these is two pairs of the case's
-// contours, and the calls stand as its shapes.
+// Calls in rows of given lengths, full of canaries behind the records that are given. Each of these is two pairs of the
+// case's contours, and the calls stand as its shapes.
 pub fn lent(head: [usize; HEAD], set: Set<'_>) -> Answer {
     let mut points = [-7i32; LONG_NUMBERS];
     let mut row = [[7usize; 4]; LONG];
