@@ -1,9 +1,9 @@
--- `salvage::inner::sifting::reason` meets its contract.
+-- `salvage::inner::sifting::check` meets its contract.
 use Rattle.replies.proofs.LadderLaws.{first_is}
 use Rattle.replies.proofs.LadderLaws.First.{here, past, foot}
 use Rattle.std.proofs.Common.{ap}
 use Rattle.std.proofs.Common.{not}
-use Rattle.salvage.proofs.inner.sifting.reason.Goals as goal
+use Rattle.salvage.proofs.inner.sifting.check.Goals as goal
 
 pub returns-then-not-on : goal.returns-then-not-on
 returns-then-not-on c = first_is _ _ (here (ap not c.if-not-on.true))
