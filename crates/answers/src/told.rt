@@ -1,6 +1,7 @@
 // What calls in a row are told: the last reply, how many there were, and all of them in one checksum.
 use cases::answer::Answer;
 use cases::checksum;
+use replies::Refusal;
 
 #[derive(Clone, Copy)]
 pub struct Told {
@@ -20,7 +21,8 @@ pub fn begin() -> Told {
 
 impl Told {
     // With the reply of one call more.
-    pub fn with(self, reply: u32) -> Told {
+    pub fn with<T: Copy>(self, answer: Result<T, Refusal>) -> Told {
+        let reply = replies::told(answer);
         Told {
             last: reply,
             count: self.count.wrapping_add(1),
