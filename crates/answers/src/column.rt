@@ -1,27 +1,20 @@
 // Columns of what the library answers.
-use area::Area;
-use buffer::{Counted, Packed};
+use buffer::{Packed, Sizes};
 use cases::answer::{Answer, Column};
 use cases::checksum;
-use replies::Verdict;
+use replies::Refusal;
 
-// The number of a reply that is no answer.
-pub fn refusal(reply: u32) -> Column {
-    Column::Refusal(u64::from(reply))
+// The number of a refusal.
+pub fn refusal(refusal: Refusal) -> Column {
+    Column::Refusal(u64::from(refusal.number()))
 }
 
-pub fn verdict(verdict: Verdict) -> Column {
-    if verdict.reply != replies::DONE {
-        return refusal(verdict.reply);
-    }
-    Column::Verdict(verdict.yes)
+pub fn verdict(answer: Result<bool, Refusal>) -> Column {
+    answer.map_or_else(refusal, Column::Verdict)
 }
 
-pub fn area(area: Area) -> Column {
-    if area.reply != replies::DONE {
-        return refusal(area.reply);
-    }
-    signed(area.value)
+pub fn area(answer: Result<i64, Refusal>) -> Column {
+    answer.map_or_else(refusal, signed)
 }
 
 pub fn signed(value: i64) -> Column {
@@ -31,11 +24,8 @@ pub fn signed(value: i64) -> Column {
     Column::Number(value.unsigned_abs())
 }
 
-pub fn counted(counted: Counted) -> Column {
-    if counted.reply != replies::DONE {
-        return refusal(counted.reply);
-    }
-    Column::Number(counted.count as u64)
+pub fn counted(answer: Result<usize, Refusal>) -> Column {
+    answer.map_or_else(refusal, |count| Column::Number(count as u64))
 }
 
 // How many numbers a part has, and their checksum.
@@ -44,7 +34,8 @@ pub fn with_part(answer: Answer, part: &[i32]) -> Answer {
     answer.amount(part.len()).joined(sum as usize)
 }
 
-pub fn with_packed(answer: Answer, packed: Packed) -> Answer {
+pub fn with_packed(answer: Answer, packed: Result<Sizes, Refusal>) -> Answer {
+    let packed = Packed::from(packed);
     answer
         .word(packed.reply)
         .amount(packed.points)

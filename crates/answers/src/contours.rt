@@ -5,13 +5,14 @@ use cases::answer::Answer;
 use cases::case::HEAD;
 use cases::room::{LONG, LONG_NUMBERS, SET, SET_NUMBERS};
 use cases::{answer, checksum, room};
-use clean::Cleaned;
+use clean::{Cleaned, Cleaning};
+use replies::Refusal;
 
 // What is told of a cleaning: what the library answers, the checksums of the rows of scratch and of the output, and the
 // length and the checksum of the part that is handed out.
 #[derive(Clone, Copy)]
 struct Told {
-    cleaned: Cleaned,
+    cleaned: Result<Cleaning, Refusal>,
     scratch: [u32; 3],
     out: u32,
     length: usize,
@@ -28,8 +29,8 @@ pub fn asked(point: [i32; 2], points: &[i32]) -> Answer {
 pub fn located(point: [i32; 2], points: &[i32]) -> Answer {
     let located = path::locate(points, point[0], point[1]);
     answer::begin()
-        .word(located.reply)
-        .word(u32::from(located.place))
+        .word(replies::told(located))
+        .word(u32::from(located.unwrap_or(path::OUTSIDE)))
 }
 
 fn with_areas(points: &[i32]) -> Answer {
@@ -64,19 +65,19 @@ fn cleaning(walk: Walk, points: &[i32]) -> Told {
 // With how many points were kept, the decisions, the turns and the checksum of what is handed out; of a collapsed contour
 // with its reply, the decisions and the turns.
 fn with_summary(answer: Answer, told: Told) -> Answer {
-    let cleaned = told.cleaned;
-    match cleaned.reply {
-        replies::DONE => with_walk(answer.amount(cleaned.points), cleaned).joined(
-            told.part as usize,
-        ),
-        replies::COLLAPSED => with_walk(answer.word(cleaned.reply), cleaned),
-        _ => answer.with(column::refusal(cleaned.reply)),
+    let cleaning = match told.cleaned {
+        Ok(cleaning) => cleaning,
+        Err(refusal) => return answer.with(column::refusal(refusal)),
+    };
+    match cleaning.kept {
+        Some(points) => with_walk(answer.amount(points), cleaning).joined(told.part as usize),
+        None => with_walk(answer.word(replies::COLLAPSED), cleaning),
     }
 }
 
 // With the decisions and the turns of a walk.
-fn with_walk(answer: Answer, cleaned: Cleaned) -> Answer {
-    answer.joined(cleaned.decisions).joined(cleaned.turns)
+fn with_walk(answer: Answer, cleaning: Cleaning) -> Answer {
+    answer.joined(cleaning.decisions).joined(cleaning.turns)
 }
 
 fn in_short_rows(walk: Walk, points: &[i32]) -> Told {
@@ -113,7 +114,7 @@ fn after_cleaning(walk: Walk, points: &[i32], scratch: Scratch<'_>, out: &mut [i
         Walk::Simplified => clean::simple::simplified(points, next, prev, mark, out),
         Walk::Despiked => clean::despike::despiked(points, next, prev, mark, out),
     };
-    let part = clean::kept_part(points, out, cleaned.points);
+    let part = clean::kept_part(points, out, Cleaned::from(cleaned).points);
     Told {
         cleaned,
         scratch: [checksum::of(next), checksum::of(prev), checksum::of(mark)],
@@ -127,7 +128,7 @@ fn after_cleaning(walk: Walk, points: &[i32], scratch: Scratch<'_>, out: &mut [i
 pub fn lent(head: [usize; HEAD], points: &[i32]) -> Answer {
     let lengths = [head[1], head[2], head[3], head[4]];
     let told = in_long_rows(Walk::from(head[0]), points, lengths);
-    with_sums(of_cleaned(told.cleaned), told)
+    with_sums(of_cleaned(Cleaned::from(told.cleaned)), told)
 }
 
 fn of_cleaned(cleaned: Cleaned) -> Answer {

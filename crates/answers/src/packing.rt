@@ -1,12 +1,13 @@
 // The kinds of sets that are asked, packed and added to.
 use crate::lent::Output;
 use crate::{column, parts};
-use buffer::Packed;
+use buffer::Sizes;
 use cases::answer::{Answer, Column};
 use cases::case::HEAD;
 use cases::given::Set;
 use cases::room::{SET, SET_NUMBERS};
 use cases::{answer, room};
+use replies::Refusal;
 
 // Every question about a set, as a contour set and as a shape set.
 pub fn asked(set: Set<'_>) -> Answer {
@@ -87,7 +88,7 @@ fn pack(
     more: &[i32],
     ranges: &[[usize; 2]],
     to: &mut Output<'_>,
-) -> Packed {
+) -> Result<Sizes, Refusal> {
     match form {
         0..=3 => pack_contours(form, set, more, to.out, to.records),
         4 => buffer::shapes::set_with_contour(set.points, to.out, to.records, to.groups),
@@ -125,7 +126,7 @@ fn pack_contours(
     more: &[i32],
     out: &mut [i32],
     records: &mut [[usize; 2]],
-) -> Packed {
+) -> Result<Sizes, Refusal> {
     let Set {
         points,
         contours,

@@ -28,8 +28,7 @@ fn with_shape(start: u32, set: Set<'_>, s: usize) -> u32 {
         contours,
         shapes,
     } = set;
-    let inside = buffer::shapes::contours_in(points, contours, shapes, s);
-    let count = inside.count;
+    let count = buffer::shapes::contours_in(points, contours, shapes, s).unwrap_or(0);
     (0..=count).fold(count.added_to(start), |sum, c| {
         let part = buffer::shapes::contour_of(points, contours, shapes, s, c);
         with_part(sum, part)

@@ -1,6 +1,7 @@
 // What calls in a row are told: the last reply, how many there were, and all of them in one checksum.
 use cases::answer::Answer;
 use cases::checksum;
+use replies::Refusal;
 
 #[derive(Clone, Copy)]
 pub struct Told {

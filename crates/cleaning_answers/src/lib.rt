@@ -3,13 +3,13 @@
 
 use answers::column;
 use answers::lent::{Output, Scratch, Walk};
-use buffer::Counted;
 use cases::answer::Answer;
 use cases::case::HEAD;
 use cases::given::Set;
 use cases::room::{SET, SET_NUMBERS};
 use cases::{answer, room};
-use sets::CleanedSet;
+use replies::Refusal;
+use sets::{CleanedSet, SetCleaning};
 
 // Every question about a set and a point.
 pub fn asked(point: [i32; 2], set: Set<'_>) -> Answer {
@@ -71,11 +71,16 @@ fn with_fates(answer: Answer, head: [usize; HEAD], set: Set<'_>, walk: Walk) -> 
     };
     let fates = room::front_mut(&mut fates, head[5]);
     let told = tell(walk, set, &mut scratch, fates);
-    let counts = answer.word(told.reply).amount(told.count);
+    let counts = answer.word(replies::told(told)).amount(told.unwrap_or(0));
     scratch.sums(counts).sum(fates)
 }
 
-fn tell(walk: Walk, set: Set<'_>, scratch: &mut Scratch<'_>, fates: &mut [u8]) -> Counted {
+fn tell(
+    walk: Walk,
+    set: Set<'_>,
+    scratch: &mut Scratch<'_>,
+    fates: &mut [u8],
+) -> Result<usize, Refusal> {
     let Set {
         points,
         contours,
@@ -126,7 +131,7 @@ fn in_rows(head: [usize; HEAD], set: Set<'_>, walk: Walk, grouped: bool) -> Answ
     } else {
         clean_shape(walk, set, &mut scratch, &mut output)
     };
-    output.sums(scratch.sums(of_cleaned(cleaned)))
+    output.sums(scratch.sums(of_cleaned(CleanedSet::from(cleaned))))
 }
 
 fn of_cleaned(cleaned: CleanedSet) -> Answer {
@@ -144,7 +149,7 @@ fn clean_shape(
     set: Set<'_>,
     scratch: &mut Scratch<'_>,
     to: &mut Output<'_>,
-) -> CleanedSet {
+) -> Result<SetCleaning, Refusal> {
     let Set {
         points,
         contours,
@@ -177,7 +182,7 @@ fn clean_shapes(
     set: Set<'_>,
     scratch: &mut Scratch<'_>,
     to: &mut Output<'_>,
-) -> CleanedSet {
+) -> Result<SetCleaning, Refusal> {
     let Set {
         points,
         contours,

@@ -6,6 +6,7 @@ use cases::case::HEAD;
 use cases::given::Set;
 use cases::room::SET;
 use cases::{answer, room};
+use difference::Compared;
 
 // Two sets compared, with a listing of given length, full of canaries. The second one's numbers are behind those of the
 // first, and its contours stand as the shapes.
@@ -13,7 +14,8 @@ pub fn lent(head: [usize; HEAD], sets: Set<'_>) -> Answer {
     let mut listing = [[7usize; 2]; SET];
     let listing = room::front_mut(&mut listing, head[0]);
     let (points, others) = room::parted(sets.points, head[1]);
-    let compared = difference::compare(points, sets.contours, others, sets.shapes, listing);
+    let answered = difference::compare(points, sets.contours, others, sets.shapes, listing);
+    let compared = Compared::from(answered);
     answer::begin()
         .word(compared.reply)
         .word(compared.refused)

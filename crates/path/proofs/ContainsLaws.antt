@@ -1,6 +1,6 @@
 -- Which edges count, and their parity along a contour.
 use mathlib.Core.Path.{◌≡◌, refl, sym, ◌∙◌, ap}
-use mathlib.Core.Bool.{Bool, true, false, not, xor}
+use mathlib.Core.Bool.{Bool, true, false, not, xor, true≢false}
 use mathlib.Core.List.{List, [], ◌∷◌}
 use Prim.Native.Nat.{ℕ, zero, suc, ◌+◌, ◌-◌, ◌<◌, ◌≤◌}
 use native.Mathlib.Omega.{arith}
@@ -186,45 +186,6 @@ module _ (row : List ℤ) (p : Point) {n : ℕ} (c : Contour row n) where
 
     pub changing_done : n ≤ i → sofar ≡ contained p (points row)
     changing_done h = counted_all row p c counted h
-
--- one side, or the other
-pub one_side : (t up : Bool) → beq t up ≡ true → t ≡ up
-one_side true true e = refl
-one_side false false e = refl
-one_side true false e = absurd (true≢false (sym e))
-one_side false true e = absurd (true≢false (sym e))
-
-pub other_side : (t up : Bool) → beq t up ≡ false → t ≡ not up
-other_side true false e = refl
-other_side false true e = refl
-other_side true true e = absurd (true≢false e)
-other_side false false e = absurd (true≢false e)
-
-module _ (row : List ℤ) (n i : ℕ) (p : Point) (up : Bool) where
-  -- a loop that looks for a point on the other side
-  pub record Passing (here : ℕ) : Type 0 where
-    pub from : i ≤ here
-    pub within : here ≤ n
-    pub skipped : (j : ℕ) → i ≤ j → j < here → above p (at row j) ≡ up
-
-  pub passing_none : i ≤ n → Passing i
-  passing_none h = record { from = omega arith; within = h; skipped = λ j l m. absurd (omega arith) }
-
-  module _ {here : ℕ} (x : Passing here) where
-    pub passing_more : here < n → above p (at row here) ≡ up → Passing (here + 1)
-    passing_more h e = record { from = omega (arith, x.from); within = omega arith; skipped = λ j l m. go j l m (dec_lt j here) }
-      where
-        go : (j : ℕ) → i ≤ j → j < here + 1 → Dec (j < here) → above p (at row j) ≡ up
-        go j l m (yes k) = x.skipped j l k
-        go j l m (no k) = let f : j ≡ here = omega arith in rw f e
-
-    pub passing_found : above p (at row here) ≡ not up → Across row n i p up here
-    passing_found e = record { from = x.from; within = x.within; skipped = x.skipped; changed = λ h. e }
-
-    pub passing_out : n ≤ here → Across row n i p up n
-    passing_out h =
-        let e : here ≡ n = omega (arith, x.within) in
-        record { from = omega (arith, x.from); within = omega arith; skipped = λ j l m. x.skipped j l (omega arith); changed = λ k. absurd (omega arith) }
 
 -- the refusals of an asked point, one by one
 module _ (row : List ℤ) (p : Point) (e : first_of (domain limit row) ≡ 0) where

@@ -14,7 +14,7 @@ pub fn make(
     let mut told = told::begin();
     for [who, which] in steps.as_chunks::<2>().0 {
         let second = who[1] != 0;
-        let reply = if who[0] != 0 {
+        let answer = if who[0] != 0 {
             pool::remove(points, records, contours, second)
         } else {
             pool::add(
@@ -25,7 +25,7 @@ pub fn make(
                 room::part(numbers, *which),
             )
         };
-        told = told.with(reply);
+        told = told.with(answer);
     }
     told
 }

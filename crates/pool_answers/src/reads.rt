@@ -30,7 +30,7 @@ fn with_press(
     before
         .with(column::counted(own))
         .with(column::counted(held))
-        .word(by_number(points, records, contours, second, own.count))
+        .word(by_number(points, records, contours, second, own.unwrap_or(0)))
 }
 
 // The first contours of a press, the last and the one past the end, in one checksum.

@@ -66,9 +66,9 @@ pub fn of_contour(
         out,
     );
     let decisions = cleaned.decisions as u64;
-    if cleaned.reply != 0 {
-        return of_entry(7, n as u64, 0, decisions, 0);
-    }
+    let Some(kept) = cleaned.kept else {
+        return of_entry(replies::COLLAPSED as usize, n as u64, 0, decisions, 0);
+    };
     let area = area::inner::doubled_area(contour);
-    of_entry(0, n as u64, cleaned.points as u64, decisions, area)
+    of_entry(0, n as u64, kept as u64, decisions, area)
 }
