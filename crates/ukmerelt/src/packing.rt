@@ -81,5 +81,7 @@ pub fn ukm_add_shape(
         more.now ranges.now
         out.old records.old groups.old }
 {
-    Packed::from(buffer::shapes::add_shape(points, contours, shapes, more, ranges, out, records, groups))
+    Packed::from(buffer::shapes::add_shape(
+        points, contours, shapes, more, ranges, out, records, groups,
+    ))
 }
