@@ -1,5 +1,5 @@
 -- `shift::inner::reading::with_press` meets its contract.
-use mathlib.Core.Path.{sym, subst}
+use mathlib.Core.Path.{refl, sym, subst}
 use Prim.Native.Nat.{ℕ}
 use lib.IntN.{pos}
 use Rattle.shift.specs.inside.Heads.{HeadsAs}
@@ -7,10 +7,10 @@ use Rattle.shift.proofs.ReadingLaws.{press_short, press_beyond, press_ok, press_
 use Rattle.shift.proofs.inner.reading.with_press.Goals as goal
 
 pub returns-then-row-lt2 : goal.returns-then-row-lt2
-returns-then-row-lt2 c = press_short c.args.row.now _ c.requires c.if-row-lt2.true _ c.none.ensures
+returns-then-row-lt2 c = press_short c.args.row.now _ c.requires c.if-row-lt2.true _ refl
 
 pub returns-then-press-gt1 : goal.returns-then-press-gt1
-returns-then-press-gt1 c = press_beyond c.args.row.now _ c.bits-press.ensures _ c.requires c.if-press-gt1.true _ c.none-then-press-gt1.ensures
+returns-then-press-gt1 c = press_beyond c.args.row.now _ c.bits-press.ensures _ c.requires c.if-press-gt1.true _ refl
 
 pub returns-then-kind-eq1 : goal.returns-then-kind-eq1
 returns-then-kind-eq1 c = remove_whole c.args.row.now _ c.bits-press.ensures c.if-press-gt1.false _ c.if-kind-eq1.true _ c.if_there.ensures
