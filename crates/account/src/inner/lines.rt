@@ -4,14 +4,15 @@ ghost use Rattle.report.specs.inside.Lines.{Put};
 ghost use Rattle.account.specs.Words.{why, line as line_of, lines as lines_of, counts as counts_of};
 ghost use Rattle.account.specs.inside.Lines.{Numbers};
 
+use replies::Refusal;
 use report::inner::text;
 
-// Puts why a contour is dropped.
+// Puts why a contour is dropped, by the number that the list of the salvage has.
 fn put_reason(text: &mut [u8], at: usize, reason: usize) -> usize
     requires { at + length (why reason) ≤ length text.old }
     ensures { Put at (why reason) text.old result text.new }
 {
-    if reason == 3 {
+    if reason == Refusal::OffGrid as usize {
         return text::put(text, at, b"off the grid");
     }
     text::put(text, at, b"no shape")
