@@ -60,9 +60,13 @@ module _ {K T R : Type 0} (Learnt : K → T → R → T → Type 0) where
   abbrev pub Answers : (T → R) → Type 0
   Answers rule = Follows (λ x e. x) rule
 
-  -- it allows no outcome that another function does not, to which it hands its arguments, and whose answers it hands on as C has them
-  abbrev pub HandsOn : {S : Type 0} → (S → R) → (K → T → S → T → Type 0) → Type 0
-  HandsOn told Other = (κs : K) (a : T) (x : _) (e : T) → Learnt κs a (told x) e → Other κs a x e
+  -- it allows no outcome that another function does not, to which it hands its arguments
+  abbrev pub HandsOn : (K → T → R → T → Type 0) → Type 0
+  HandsOn Other = (κs : K) (a : T) (x : R) (e : T) → Learnt κs a x e → Other κs a x e
+
+  -- the same where it answers as C is told what the other answers
+  abbrev pub HandsOnAs : {S : Type 0} → (S → R) → (K → T → S → T → Type 0) → Type 0
+  HandsOnAs told Other = (κs : K) (a : T) (x : _) (e : T) → Learnt κs a (told x) e → Other κs a x e
 
 -- Of every call that hands out a part of a row:
 module _ {K T : Type 0} (Learnt : K → T → Bor (List ℤ) → T → Type 0) where
