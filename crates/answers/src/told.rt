@@ -21,7 +21,8 @@ pub fn begin() -> Told {
 
 impl Told {
     // With the reply of one call more. No row of a case has so many calls that their count wraps.
-    pub fn with(self, reply: u32) -> Told {
+    pub fn with<T: Copy>(self, answer: Result<T, Refusal>) -> Told {
+        let reply = replies::told(answer);
         Told {
             last: reply,
             count: self.count.wrapping_add(1),

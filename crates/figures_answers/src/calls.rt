@@ -5,7 +5,8 @@ use answers::told;
 use answers::told::Told;
 use cases::given::Set;
 use cases::room;
-use figures::{Added, Figures};
+use figures::Figures;
+use replies::Refusal;
 
 // Adds the sets of the records and numbers that are given, as the shapes say, and answers what was told and the figures
 // after the last.
@@ -25,8 +26,8 @@ pub fn make(
             shapes: &[],
         };
         let added = add(walk(form, i), figures, set, scratch, out);
-        told = told.with(added.reply);
-        figures = added.figures;
+        told = told.with(added);
+        figures = added.unwrap_or(figures);
     }
     (told, figures)
 }
@@ -42,7 +43,13 @@ fn walk(form: usize, call: usize) -> Walk {
     }
 }
 
-fn add(walk: Walk, f: Figures, set: Set<'_>, scratch: &mut Scratch<'_>, out: &mut [i32]) -> Added {
+fn add(
+    walk: Walk,
+    f: Figures,
+    set: Set<'_>,
+    scratch: &mut Scratch<'_>,
+    out: &mut [i32],
+) -> Result<Figures, Refusal> {
     let Set {
         points,
         contours,

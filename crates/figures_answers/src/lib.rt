@@ -50,6 +50,6 @@ fn of_told(told: Told, f: Figures) -> Answer {
 fn with_joined(answer: Answer, f: Figures, g: Figures) -> Answer {
     let joined = figures::joined(f, g);
     answer
-        .word(joined.reply)
-        .word(words::checksum(joined.figures))
+        .word(replies::told(joined))
+        .word(words::checksum(joined.unwrap_or(f)))
 }

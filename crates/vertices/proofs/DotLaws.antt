@@ -1,6 +1,6 @@
 -- The dots of vertices, by the marks of their points.
 use mathlib.Core.Path.{◌≡◌, refl, sym, ◌∙◌, ap, ap₂}
-use mathlib.Core.Bool.{Bool, true, false}
+use mathlib.Core.Bool.{Bool, false}
 use mathlib.Core.List.{List, [], ◌∷◌, append_assoc, append-nil}
 use Prim.Native.Nat.{ℕ, zero, suc, ◌*◌, ◌<◌}
 use native.Mathlib.Omega.{arith}
@@ -15,7 +15,7 @@ use Rattle.buffer.specs.Sets.{joined}
 use Rattle.ring.specs.Walk.{removed}
 use Rattle.report.specs.Text.{signed, space}
 use Rattle.report.specs.inside.Lines.{Put}
-use Rattle.vertices.specs.Vertices.{Vertex, vertices, dot, dot_if}
+use Rattle.vertices.specs.Vertices.{Vertex, vertices, dot}
 use Rattle.vertices.specs.inside.Marks.{survive}
 
 abbrev pub vertex : Point → Bool → Vertex

@@ -5,10 +5,9 @@ use mathlib.Core.List.{List, [], ◌++◌, append_assoc, append-nil, map-append}
 use Prim.Native.Nat.{ℕ, ◌+◌, ◌*◌, ◌≤◌, ◌<◌}
 use native.Mathlib.Omega.{arith}
 use lib.Dec.{ltb}
-use lib.ListN.{length, take, drop, set, replicate, length-set, length-drop}
-use lib.Seq.{drop-length, take_all}
+use lib.ListN.{length, take, length-drop}
+use lib.Seq.{take_all}
 use lib.IntN.{ℤ}
-use borrow.Author.Fill.{fill_none, fill_more}
 use Rattle.grid.specs.Domain.{count, Contour}
 use Rattle.ring.specs.Walk.{removed}
 use Rattle.buffer.specs.Sets.{joined}

@@ -8,6 +8,7 @@ use crate::{CONTOURS, Lengths, NUMBERS};
 use jobread::inner::{places, reading};
 use jobread::{Place, Reader};
 use jobtext::TEXT;
+use replies::Refusal;
 
 // What is made of the rows, by where the reader is at the end of the text.
 fn by_place(
@@ -44,7 +45,7 @@ fn by_place(
         Place::Word(..) | Place::Space | Place::Dash | Place::Number(..) | Place::NoLine => {
             writing::damaged(k + 2, out, words)
         }
-        Place::Refused(number) => writing::refused(number, out, words),
+        Place::Refused(refusal) => writing::refused(refusal, out, words),
     }
 }
 
@@ -55,7 +56,7 @@ pub fn pack(text: &[u8], out: &mut [u8], words: &mut [u8]) -> Lengths
         ≡ packing text.now out.old words.old }
 {
     if TEXT < text.len() {
-        return writing::refused(replies::TOO_MANY, out, words);
+        return writing::refused(Refusal::TooMany, out, words);
     }
     let mut points = [0i32; NUMBERS];
     let mut contours = [[0usize; 2]; CONTOURS];

@@ -5,6 +5,7 @@ ghost use Rattle.jobread.specs.inside.Rows.{lines_of, Ranges};
 
 use crate::inner::places;
 use crate::{Place, Reader};
+use replies::Refusal;
 
 // The reader, elsewhere.
 pub fn moved(reader: Reader, place: Place) -> Reader
@@ -63,7 +64,7 @@ fn ended(reader: Reader, contours: &mut [[usize; 2]], shapes: &mut [[usize; 2]])
         return moved(reader, Place::NoLine);
     }
     if (contours.len() <= n) | (shapes.len() <= m) {
-        return moved(reader, Place::Refused(replies::CANT_CARRY));
+        return moved(reader, Place::Refused(Refusal::CantCarry));
     }
     let end = reader.numbers / 2;
     let first = opens(reader.begins, n, reader.first);

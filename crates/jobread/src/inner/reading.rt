@@ -5,6 +5,7 @@ ghost use Rattle.jobread.specs.inside.Rows.{state_of, Rooms};
 
 use crate::inner::{ends, places};
 use crate::{Place, Reader};
+use replies::Refusal;
 
 // A number, by its sign and its size.
 fn value(below: bool, size: usize) -> i32
@@ -37,11 +38,11 @@ fn number(
         return ends::moved(reader, places::number(below, size, d));
     }
     if places::LARGEST < size {
-        return ends::moved(reader, Place::Refused(replies::OFF_GRID));
+        return ends::moved(reader, Place::Refused(Refusal::OffGrid));
     }
     let n = reader.numbers;
     if points.len() <= n {
-        return ends::moved(reader, Place::Refused(replies::TOO_MANY));
+        return ends::moved(reader, Place::Refused(Refusal::TooMany));
     }
     points[n] = value(below, size);
     ends::behind(ends::counted(reader), c, contours, shapes)

@@ -22,14 +22,14 @@ pub struct Progress {
 fn note(kept: Kept, at: Progress, records: &mut [[usize; 4]], tool: usize, press: usize) -> Progress
     requires { Notable kept at press records.old }
     ensures { noted result records.new
-        ≡ noting kept.stays kept at tool press records.old }
+        ≡ noting kept at tool press records.old }
 {
     let decisions = at.decisions + kept.decisions;
-    if !kept.stays {
+    let Some(points) = kept.points else {
         return Progress { decisions, ..at };
-    }
-    let end = at.points + kept.points;
-    let size = records::holding(kept.points);
+    };
+    let end = at.points + points;
+    let size = records::holding(points);
     records[at.contours] = [at.points, end, tool, press];
     Progress {
         contours: at.contours + 1,

@@ -2,6 +2,7 @@
 use mathlib.Core.Path.{◌≡◌, sym, ◌∙◌, ap}
 use mathlib.Core.Logic.{◌⊎◌, inl, inr}
 use Prim.Native.Nat.{ℕ}
+use Rattle.replies.specs.declared.refusal.Refusal.{Refusal}
 use Rattle.jobread.specs.declared.Place.{Place}
 use Rattle.jobread.specs.declared.Reader.{Reader}
 use Rattle.jobread.specs.declared.Place.TheVariants.{NoHead, NoLine, Refused}
@@ -11,7 +12,7 @@ use Rattle.jobread.proofs.RowLaws.{started, same_points, word_numbers}
 use Rattle.jobread.proofs.inner.reading.step.Goals as goal
 
 -- what is damaged or refused stays so
-stays : (p : Place) (s : State) (c : ℕ) → (p ≡ NoHead) ⊎ ((p ≡ NoLine) ⊎ ((r : ℕ) × p ≡ Refused r)) → s ≡ step_at p s c
+stays : (p : Place) (s : State) (c : ℕ) → (p ≡ NoHead) ⊎ ((p ≡ NoLine) ⊎ ((r : Refusal) × p ≡ Refused r)) → s ≡ step_at p s c
 stays p s c (inl e) = ap (λ (p : Place). step_at p s c) (sym e)
 stays p s c (inr (inl e)) = ap (λ (p : Place). step_at p s c) (sym e)
 stays p s c (inr (inr (r, e))) = ap (λ (p : Place). step_at p s c) (sym e)

@@ -1,5 +1,3 @@
-use Prim.Native.Nat.{◌-◌}
-use lib.ListN.{length}
 use Rattle.picture.specs.Picture.{coordinate}
 use Rattle.vertices.proofs.WritingLaws.{Writing}
 use Rattle.picture.proofs.inner.outlines.put_coordinates.Given as goal
