@@ -1,11 +1,12 @@
 // The kinds of drawings in millimetres brought in, and of sets given back as drawings.
 use answers::column;
-use buffer::Packed;
+use buffer::Sizes;
 use cases::answer::Answer;
 use cases::case::Case;
 use cases::given::Rows;
 use cases::{answer, room};
 use drawing::Drawn;
+use replies::Refusal;
 
 // A drawing brought into rows of given lengths, and given back into rows just as long as needed.
 pub fn coming(case: Case, rows: &mut Rows) -> Answer {
@@ -16,19 +17,19 @@ pub fn coming(case: Case, rows: &mut Rows) -> Answer {
         room::front_mut(&mut rows.numbers, case.head[0]),
         room::front_mut(&mut rows.records, case.head[1]),
     );
-    if packed.reply != replies::DONE {
-        return answer;
+    match packed {
+        Ok(sizes) => given_back(answer, sizes, rows),
+        Err(_) => answer,
     }
-    given_back(answer, packed, rows)
 }
 
-fn given_back(imported: Answer, packed: Packed, rows: &mut Rows) -> Answer {
-    let numbers = packed.points.saturating_mul(2);
-    let commands = packed.points.saturating_add(packed.contours);
+fn given_back(imported: Answer, sizes: Sizes, rows: &mut Rows) -> Answer {
+    let numbers = sizes.points.saturating_mul(2);
+    let commands = sizes.points.saturating_add(sizes.contours);
     let (answer, _) = export(
         imported,
         room::front(&rows.numbers, numbers),
-        room::front(&rows.records, packed.contours),
+        room::front(&rows.records, sizes.contours),
         room::front_mut(&mut rows.bytes, commands),
         room::front_mut(&mut rows.floats, numbers),
     );
@@ -44,20 +45,20 @@ pub fn going(case: Case, rows: &mut Rows) -> Answer {
         room::front_mut(&mut rows.bytes, case.head[0]),
         room::front_mut(&mut rows.floats, case.head[1]),
     );
-    if drawn.reply != replies::DONE {
-        return answer;
+    match drawn {
+        Ok(sizes) => brought_back(answer, sizes, rows),
+        Err(_) => answer,
     }
-    brought_back(answer, drawn, rows)
 }
 
 // Each contour with points took one command more than it has points.
-fn brought_back(exported: Answer, drawn: Drawn, rows: &mut Rows) -> Answer {
-    let contours = drawn.commands.saturating_sub(drawn.floats / 2);
+fn brought_back(exported: Answer, sizes: drawing::answer::Sizes, rows: &mut Rows) -> Answer {
+    let contours = sizes.commands.saturating_sub(sizes.floats / 2);
     let (answer, _) = import(
         exported,
-        room::front(&rows.bytes, drawn.commands),
-        room::front(&rows.floats, drawn.floats),
-        room::front_mut(&mut rows.numbers, drawn.floats),
+        room::front(&rows.bytes, sizes.commands),
+        room::front(&rows.floats, sizes.floats),
+        room::front_mut(&mut rows.numbers, sizes.floats),
         room::front_mut(&mut rows.records, contours),
     );
     answer
@@ -71,7 +72,7 @@ fn import(
     floats: &[f64],
     out: &mut [i32],
     records: &mut [[usize; 2]],
-) -> (Answer, Packed) {
+) -> (Answer, Result<Sizes, Refusal>) {
     out.fill(-7);
     records.fill([7; 2]);
     let packed = drawing::import(kinds, floats, out, records);
@@ -87,13 +88,17 @@ fn export(
     contours: &[[usize; 2]],
     kinds: &mut [u8],
     floats: &mut [f64],
-) -> (Answer, Drawn) {
+) -> (Answer, Result<drawing::answer::Sizes, Refusal>) {
     kinds.fill(7);
     floats.fill(-7.0);
     let drawn = drawing::export(points, contours, kinds, floats);
-    let answer = before
+    let answer = with_drawn(before, Drawn::from(drawn));
+    (answer.sum(kinds).sum(floats), drawn)
+}
+
+fn with_drawn(answer: Answer, drawn: Drawn) -> Answer {
+    answer
         .word(drawn.reply)
         .amount(drawn.commands)
-        .amount(drawn.floats);
-    (answer.sum(kinds).sum(floats), drawn)
+        .amount(drawn.floats)
 }

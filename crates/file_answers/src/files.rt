@@ -5,7 +5,9 @@ use cases::case::HEAD;
 use cases::given::Set;
 use cases::room::{LONG, LONG_NUMBERS, READ};
 use cases::{answer, checksum, room};
+use replies::Refusal;
 use salvage::Salvaged;
+use setfile::answer::Carried;
 use setfile::{Read, Written};
 
 // The listing of a file: how long it is, and the checksum of its text.
@@ -37,16 +39,16 @@ fn after_reading(file: &[u8], output: Output<'_>) -> Answer {
     } = output;
     let read = setfile::read(file, out, records, groups);
     let listed = listing_of(file);
-    let answer = fields_of(read)
+    let answer = fields_of(Read::from(read))
         .sum(out)
         .sum(records)
         .sum(groups)
         .amount(listed.length)
         .joined(listed.sum as usize);
-    if read.reply != replies::DONE {
-        return answer;
+    match read {
+        Ok(carried) => with_read(answer, file.len(), carried, out, records, groups),
+        Err(_) => answer,
     }
-    with_read(answer, file.len(), read, out, records, groups)
 }
 
 fn fields_of(read: Read) -> Answer {
@@ -72,17 +74,18 @@ fn listing_of(file: &[u8]) -> Listed {
 fn with_read(
     answer: Answer,
     length: usize,
-    read: Read,
+    carried: Carried,
     out: &[i32],
     records: &[[usize; 2]],
     groups: &[[usize; 2]],
 ) -> Answer {
+    let sizes = carried.sizes;
     let set = Set {
-        points: room::front(out, read.points.saturating_mul(2)),
-        contours: room::front(records, read.contours),
-        shapes: room::front(groups, read.shapes),
+        points: room::front(out, sizes.points.saturating_mul(2)),
+        contours: room::front(records, sizes.contours),
+        shapes: room::front(groups, sizes.shapes),
     };
-    with_written(answer, read.edition, length, set)
+    with_written(answer, carried.edition, length, set)
 }
 
 // A set written as a file of an edition into a row of a given length, full of canaries.
@@ -93,11 +96,11 @@ pub fn written(edition: u32, head: [usize; HEAD], set: Set<'_>) -> Answer {
 fn with_written(before: Answer, edition: u32, length: usize, set: Set<'_>) -> Answer {
     let mut row = [7u8; LONG];
     let row = room::front_mut(&mut row, length);
-    let written = in_edition(edition, set, row);
+    let written = Written::from(in_edition(edition, set, row));
     before.word(written.reply).amount(written.bytes).sum(row)
 }
 
-fn in_edition(edition: u32, set: Set<'_>, row: &mut [u8]) -> Written {
+fn in_edition(edition: u32, set: Set<'_>, row: &mut [u8]) -> Result<usize, Refusal> {
     match edition {
         2 => setfile::write_2(set.points, set.contours, set.shapes, row),
         _ => setfile::write(set.points, set.contours, set.shapes, row),
@@ -111,7 +114,7 @@ pub fn mended(head: [usize; HEAD], file: &[u8]) -> Answer {
     let out = room::front_mut(&mut out, head[0]);
     let list = room::front_mut(&mut list, head[1]);
     let salvaged = salvage::mend(file, out, list);
-    of_salvaged(salvaged).sum(out).sum(list)
+    of_salvaged(Salvaged::from(salvaged)).sum(out).sum(list)
 }
 
 fn of_salvaged(salvaged: Salvaged) -> Answer {
