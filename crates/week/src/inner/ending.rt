@@ -45,7 +45,7 @@ pub fn own_length(bytes: &[u8]) -> usize
     ensures value { result ≡ own_length_of bytes.now }
     ensures upper_bound { result ≤ length bytes.now }
 {
-    if head::either_refused(bytes) != 0 {
+    if head::check_either(bytes).is_err() {
         return 0;
     }
     let second = head::is_second(bytes);

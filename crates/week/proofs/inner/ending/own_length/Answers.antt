@@ -5,6 +5,7 @@ use Prim.Native.Nat.{ℕ, ◌*◌, ◌≤◌}
 use native.Mathlib.Omega.{arith}
 use lib.ListN.{length}
 use Rattle.replies.specs.Ladder.{first_of}
+use Rattle.replies.proofs.RefusalLaws.{told_by}
 use Rattle.setfile.specs.inside.Reading.{from_bit, At}
 use Rattle.setfile.proofs.FaultLaws.{either_long}
 use Rattle.setfile.proofs.JudgeLaws.{at_contours}
@@ -14,14 +15,14 @@ use Rattle.week.proofs.EndLaws.{not_told, told, ends_within, filled_bytes}
 use Rattle.week.proofs.inner.ending.own_length.Goals as goal
 use Rattle.week.proofs.inner.ending.own_length.Goals.{After-bit_behind, After-is_second-second}
 
-pub returns-then-either_refused-ne0 : goal.returns-then-either_refused-ne0
-returns-then-either_refused-ne0 c =
+pub returns-then-is_err : goal.returns-then-is_err
+returns-then-is_err c =
     let s = c.args in
-    record { value = not_told s.bytes.now _ c.either_refused.ensures c.if-either_refused-ne0.true; upper_bound = omega arith }
+    record { value = not_told s.bytes.now _ c.check_either.ensures ((told_by _).0 (sym c.is_err.ensures.value ∙ c.if-is_err.true)); upper_bound = omega arith }
 
 -- the head is not refused
 headed : (c : After-is_second-second) → first_of (head_refusals c.args.bytes.now) ≡ 0
-headed c = sym c.either_refused.ensures ∙ c.if-either_refused-ne0.false
+headed c = sym c.check_either.ensures ∙ (told_by _).1 (sym c.is_err.ensures.value ∙ c.if-is_err.false)
 
 pub promised-n-requires : goal.promised-n-requires
 promised-n-requires c = either_long c.args.bytes.now (headed (goal.at.promised-n-requires c).After-is_second-second)
@@ -44,7 +45,7 @@ within : (c : After-bit_behind) →
 within c =
     let s = c.args in
     let b = c.is_second-second.result in
-    let a = at_contours b s.bytes.now c.is_second-second.ensures (sym c.either_refused.ensures ∙ c.if-either_refused-ne0.false) in
+    let a = at_contours b s.bytes.now c.is_second-second.ensures (sym c.check_either.ensures ∙ (told_by _).1 (sym c.is_err.ensures.value ∙ c.if-is_err.false)) in
     omega (arith, c.bit_behind.ensures, ends_within b c.promised-n.result 16 (from_bit s.bytes.now 16), from-length s.bytes.now 16 a.within)
 
 pub returns : goal.returns
@@ -57,6 +58,6 @@ returns c =
           ∙ ap whole_bytes
           (c.bit_behind.ensures
           ∙ ap₂ (λ (b : Bool) (n : ℕ). bit_behind b n 16 (from_bit f 16)) c.is_second-second.ensures c.promised-n.ensures)
-          ∙ told f _ c.either_refused.ensures c.if-either_refused-ne0.false;
+          ∙ told f _ c.check_either.ensures ((told_by _).1 (sym c.is_err.ensures.value ∙ c.if-is_err.false));
       upper_bound = omega (arith, c.div_ceil.ensures, within (goal.at.returns c).After-bit_behind);
     }
