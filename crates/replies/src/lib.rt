@@ -1,4 +1,4 @@
-// The reply numbers. A call answers with the first whose condition holds, in the order 1, 2, 6, 3, 12, 4, 5, 8, 7; an import in the order 13, 14, 3, 2, 5, the first three by its first faulty command; an addition to a pool in the order 1, 2, 6, 3, 17, 5.
+// Refusals, and the reply numbers that C gets of them. A call answers with the first whose condition holds, in the order 1, 2, 6, 3, 12, 4, 5, 8, 7; an import in the order 13, 14, 3, 2, 5, the first three by its first faulty command; an addition to a pool in the order 1, 2, 6, 3, 17, 5.
 //
 // | No. | Given exactly when | Leaves |
 // |---|---|---|
@@ -23,53 +23,14 @@
 // | 18 | removing with none left | all unchanged |
 #![tactic(auto)]
 
-ghost use Rattle.std.specs.Prelude.{◌≡◌, ◌++◌};
-ghost use Rattle.replies.specs.Ladder.{first_of, so_far, room as room_for};
-ghost use Rattle.replies.specs.Verdicts.{verdict as verdict_of};
+ghost use Rattle.std.specs.Prelude.{◌≡◌};
 
 mod refusal;
 
 pub use refusal::{Refusal, told};
 
-pub const DONE: u32 = 0;
-
-pub const ODD: u32 = 1;
-
-pub const TOO_MANY: u32 = 2;
-
-pub const OFF_GRID: u32 = 3;
-
-pub const SCRATCH: u32 = 4;
-
-pub const ROOM: u32 = 5;
-
-pub const RANGES: u32 = 6;
-
+// The reply of a cleaning that collapsed, which is no refusal.
 pub const COLLAPSED: u32 = 7;
-
-pub const EMPTY: u32 = 8;
-
-pub const EDITION: u32 = 9;
-
-pub const LENGTH: u32 = 10;
-
-pub const NO_SHAPE: u32 = 11;
-
-pub const CANT_CARRY: u32 = 12;
-
-pub const NO_DRAWING: u32 = 13;
-
-pub const NOT_FINITE: u32 = 14;
-
-pub const WIDTH: u32 = 15;
-
-pub const FILL: u32 = 16;
-
-pub const FULL: u32 = 17;
-
-pub const NONE_LEFT: u32 = 18;
-
-pub const FIGURES_FULL: u32 = 21;
 
 // The answer to a question of yes or no, as C has it: its reply number, and no where it is refused.
 #[repr(C)]
@@ -93,27 +54,4 @@ impl From<Result<bool, Refusal>> for Verdict {
             },
         }
     }
-}
-
-// No where it is refused, or the answer.
-pub fn answered(refusal: u32, yes: bool) -> Verdict
-    ensures { result ≡ verdict_of refusal yes }
-{
-    Verdict {
-        reply: refusal,
-        yes: (refusal == 0) & yes,
-    }
-}
-
-// A refusal so far, or 5 where there is no room.
-pub fn or_room(refusal: u32, room: bool) -> u32
-    ensures { result ≡ first_of (so_far refusal ++ room_for room) }
-{
-    if refusal != 0 {
-        return refusal;
-    }
-    if !room {
-        return ROOM;
-    }
-    DONE
 }

@@ -1,5 +1,5 @@
 // The writing of whole rows.
-ghost use Rattle.std.specs.Prelude.{◌≡◌, ◌+◌, ◌≤◌, length, replicate};
+ghost use Rattle.std.specs.Prelude.{◌≡◌, ◌+◌, ◌≤◌, length};
 ghost use Rattle.rows.specs.Rows.{placed};
 
 // Writes the elements of a row into another, from position `at` on.
@@ -8,18 +8,4 @@ pub fn copy<T: Copy>(from: &[T], out: &mut [T], at: usize)
     ensures { out.new ≡ placed at from.now out.old }
 {
     out[at..at + from.len()].copy_from_slice(from);
-}
-
-// Every entry becomes 0.
-pub fn zero(row: &mut [u32])
-    ensures { row.new ≡ replicate (length row.old) 0 }
-{
-    row.fill(0);
-}
-
-// The same, of bytes.
-pub fn zero_bytes(row: &mut [u8])
-    ensures { row.new ≡ replicate (length row.old) 0 }
-{
-    row.fill(0);
 }

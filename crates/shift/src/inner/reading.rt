@@ -35,7 +35,7 @@ fn bits(row: &[i32], i: usize) -> u32
     requires { i < length row.now }
     ensures { Bits row.now i result }
 {
-    integers::bits_32(row[i])
+    row[i].cast_unsigned()
 }
 
 // A head, if all its numbers are there.
