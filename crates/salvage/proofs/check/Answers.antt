@@ -1,16 +1,16 @@
 -- `salvage::check` meets its contract.
 use Rattle.std.proofs.lemmas.Result.{err_from_is_err_and}
-use Rattle.replies.proofs.RefusalLaws.{refusals_have_numbers}
+use Rattle.replies.proofs.RefusalLaws.{refused_so_far}
 use mathlib.Core.Path.{sym}
+use Rattle.setfile.specs.inside.Reading.{head_refusals}
 use Rattle.setfile.proofs.FaultLaws.{head_long}
-use Rattle.salvage.proofs.MendLaws.{refused_head, refused_room, not_refused}
+use Rattle.salvage.proofs.MendLaws.{refused_room, not_refused}
 use Rattle.salvage.proofs.check.Goals as goal
 
 pub returns-in_err-check : goal.returns-in_err-check
 returns-in_err-check c =
-    let s = c.args in
     let p = err_from_is_err_and c.from_residual.result c.from_residual.ensures.1 in
-    rw (p.1, p.2) (refused_head s.bytes.now s.out s.list _ c.in_err-check.ensures (refusals_have_numbers _))
+    rw (p.1, p.2) (refused_so_far (head_refusals c.args.bytes.now) _ _ c.in_err-check.ensures)
 
 pub promised-n-requires : goal.promised-n-requires
 promised-n-requires c = head_long c.args.bytes.now (sym c.in_ok-check.ensures)

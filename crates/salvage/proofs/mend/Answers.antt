@@ -1,7 +1,6 @@
 -- `salvage::mend` meets its contract: refused, or the sifted contours under their head.
 use Rattle.std.proofs.lemmas.Result.{err_from_is_err_and}
-use Rattle.replies.proofs.RefusalLaws.{refusals_have_numbers}
-use Rattle.std.proofs.Common.{◌≡◌, List, ℕ, length, refl, sym, ◌∙◌, arith}
+use Rattle.std.proofs.Common.{◌≡◌, List, ℕ, length, refl, sym, arith}
 use Rattle.replies.specs.Ladder.{first_of}
 use Rattle.bits.specs.Bits.{Bytes}
 use Rattle.setfile.specs.Layouts.{promised}
@@ -18,7 +17,7 @@ pub returns-in_err-check : goal.returns-in_err-check
 returns-in_err-check c =
     let s = c.args in
     let p = err_from_is_err_and c.from_residual.result c.from_residual.ensures.1 in
-    rw (p.1, p.2) (mend_refused s.bytes.now s.out.now s.dropped.now _ c.in_err-check.ensures (refusals_have_numbers _) refl)
+    rw (p.1, p.2) (mend_refused s.bytes.now s.out.now s.dropped.now _ c.in_err-check.ensures)
 
 pub promised-n-requires : goal.promised-n-requires
 promised-n-requires c =

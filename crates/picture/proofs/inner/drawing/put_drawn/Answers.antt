@@ -28,12 +28,6 @@ going f text p e z e_is z_is p_is h =
     (ap₂ (λ (e : Extent) (z : Sizes). drawn e z (shown f)) (sym is) (sym (z_is ∙ ap sizes is))
     ∙ shown_parts e z (shapes (job_shapes f)) (all_spots (job_vertices f))) (omega arith)
 
-pub extent_of-extent-requires : goal.extent_of-extent-requires
-extent_of-extent-requires c = c.requires.dotted.contour
-
-pub sizes_of-sizes-requires : goal.sizes_of-sizes-requires
-sizes_of-sizes-requires c = c.extent_of-extent.ensures.1
-
 pub put_opening-second_part-requires : goal.put_opening-second_part-requires
 put_opening-second_part-requires c =
     (c.extent_of-extent.ensures.1, c.sizes_of-sizes.ensures.1, omega (arith, going_room (going c.args.bytes.now c.args.text.now _ _ _ c.extent_of-extent.ensures.0 c.sizes_of-sizes.ensures.0 c.requires.dotted.is c.requires.bytes_in_bounds)))
@@ -42,9 +36,9 @@ pub put-third_part-requires : goal.put-third_part-requires
 put-third_part-requires c =
     (c.requires.dotted.listable.readable, c.requires.dotted.is, going_room (going_more (going c.args.bytes.now c.args.text.now _ _ _ c.extent_of-extent.ensures.0 c.sizes_of-sizes.ensures.0 c.requires.dotted.is c.requires.bytes_in_bounds) c.put_opening-second_part.ensures))
 
-pub put-fourth_part-requires : goal.put-fourth_part-requires
-put-fourth_part-requires c =
-    record { dotted = c.requires.dotted; bytes_in_bounds = going_room (going_more (going_more (going c.args.bytes.now c.args.text.now _ _ _ c.extent_of-extent.ensures.0 c.sizes_of-sizes.ensures.0 c.requires.dotted.is c.requires.bytes_in_bounds) c.put_opening-second_part.ensures) c.put-third_part.ensures) }
+pub put-fourth_part-requires-clause-bytes_in_bounds : goal.put-fourth_part-requires-clause-bytes_in_bounds
+put-fourth_part-requires-clause-bytes_in_bounds c =
+    going_room (going_more (going_more (going c.args.bytes.now c.args.text.now _ _ _ c.extent_of-extent.ensures.0 c.sizes_of-sizes.ensures.0 c.requires.dotted.is c.requires.bytes_in_bounds) c.put_opening-second_part.ensures) c.put-third_part.ensures)
 
 pub put_closing-requires : goal.put_closing-requires
 put_closing-requires c = (

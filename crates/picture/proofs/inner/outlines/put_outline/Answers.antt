@@ -12,9 +12,9 @@ returns-then-contour-eq0 c =
 pub put-second-requires : goal.put-second-requires
 put-second-requires c = going_room (going_none c.args.at c.args.text.now _ (outline_words c.args.contour.now c.if-contour-eq0.false) c.requires.contour_in_bounds)
 
-pub put_coordinates-third-requires : goal.put_coordinates-third-requires
-put_coordinates-third-requires c =
-    record { contour_value = c.requires.contour_value; contour_in_bounds = going_room (going_more (going_none c.args.at c.args.text.now _ (outline_words c.args.contour.now c.if-contour-eq0.false) c.requires.contour_in_bounds) c.put-second.ensures) }
+pub put_coordinates-third-requires-clause-contour_in_bounds : goal.put_coordinates-third-requires-clause-contour_in_bounds
+put_coordinates-third-requires-clause-contour_in_bounds c =
+    going_room (going_more (going_none c.args.at c.args.text.now _ (outline_words c.args.contour.now c.if-contour-eq0.false) c.requires.contour_in_bounds) c.put-second.ensures)
 
 pub put-requires : goal.put-requires
 put-requires c =

@@ -1,16 +1,10 @@
 -- `picture::inner::scale::bar` meets its contract: what is left of the definition is that of the length so far.
-use mathlib.Core.Path.{◌≡◌, refl, sym, ◌∙◌, ap}
+use mathlib.Core.Path.{◌≡◌, sym, ◌∙◌, ap}
 use Prim.Native.Nat.{ℕ, ◌+◌, ◌*◌, ◌-◌}
 use native.Mathlib.Omega.{arith}
 use Rattle.picture.specs.Frame.{bar_from}
 use Rattle.picture.proofs.ScaleLaws.{bar_long, bar_longer, bar_longest}
 use Rattle.picture.proofs.inner.scale.bar.Goals as goal
-
-pub loop-k-init : goal.loop-k-init
-loop-k-init c = (refl, omega arith)
-
-pub overflow_mul-width : goal.overflow_mul-width
-overflow_mul-width c = omega (arith, c.requires)
 
 pub returns-then-width-long : goal.returns-then-width-long
 returns-then-width-long c =

@@ -23,20 +23,20 @@ pub put-second-requires : goal.put-second-requires
 unfolding path class removed d
 put-second-requires c = going_room (going c.args.mark.now c.args.points.now c.args.at c.args.text.now c.requires.points_in_bounds)
 
-pub put-third-requires : goal.put-third-requires
+pub put-third-requires-clause-points_in_bounds : goal.put-third-requires-clause-points_in_bounds
 unfolding path class removed d
-put-third-requires c =
-    record { points_value = c.requires.points_value; points_in_bounds = going_room (going_more (going c.args.mark.now c.args.points.now c.args.at c.args.text.now c.requires.points_in_bounds) c.put-second.ensures) }
+put-third-requires-clause-points_in_bounds c =
+    going_room (going_more (going c.args.mark.now c.args.points.now c.args.at c.args.text.now c.requires.points_in_bounds) c.put-second.ensures)
 
 pub put-fourth-requires : goal.put-fourth-requires
 unfolding path class removed d kept
 put-fourth-requires c =
     going_room (going_more (going_more (going c.args.mark.now c.args.points.now c.args.at c.args.text.now c.requires.points_in_bounds) c.put-second.ensures) c.put-third.ensures)
 
-pub put-fifth-requires : goal.put-fifth-requires
+pub put-fifth-requires-clause-points_in_bounds : goal.put-fifth-requires-clause-points_in_bounds
 unfolding path class removed d kept
-put-fifth-requires c =
-    record { points_value = c.requires.points_value; points_in_bounds = going_room (going_more (going_more (going_more (going c.args.mark.now c.args.points.now c.args.at c.args.text.now c.requires.points_in_bounds) c.put-second.ensures) c.put-third.ensures) c.put-fourth.ensures) }
+put-fifth-requires-clause-points_in_bounds c =
+    going_room (going_more (going_more (going_more (going c.args.mark.now c.args.points.now c.args.at c.args.text.now c.requires.points_in_bounds) c.put-second.ensures) c.put-third.ensures) c.put-fourth.ensures)
 
 pub put-requires : goal.put-requires
 unfolding path class removed d kept
