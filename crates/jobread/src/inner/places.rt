@@ -1,5 +1,5 @@
 // What a character means, by where the reader is.
-ghost use Rattle.std.specs.Prelude.{◌≡◌, ◌<◌, get_or, unwrap_or, IfSome};
+ghost use Rattle.std.specs.Prelude.{◌≡◌, ◌<◌, get_or, slice_get, unwrap_or, IfSome};
 ghost use Rattle.jobtext.specs.Text.{word as word_of};
 ghost use Rattle.jobread.specs.Places.{digit as digit_of, after_head, begun as begun_by, after_space, after_dash, more as more_of, after_digit};
 
@@ -92,12 +92,10 @@ pub fn number(below: bool, size: usize, d: usize) -> Place
     Place::Number(below, more(size, d))
 }
 
-// Letter number k of the word of a contour, which begins a shape or not; 0 behind its last.
-pub fn word_letter(begins: bool, k: usize) -> u8
-    ensures { result ≡ get_or (word_of begins) k 0 }
+// Letter number k of the word of a contour, which begins a shape or not; none behind its last.
+pub fn word_letter(begins: bool, k: usize) -> Option<u8>
+    ensures { result ≡ slice_get (word_of begins) k }
 {
-    if begins {
-        return letter(b"shape", k);
-    }
-    letter(b"hole", k)
+    let word: &[u8] = if begins { b"shape" } else { b"hole" };
+    word.get(k).copied()
 }
