@@ -125,10 +125,9 @@ pub fn word(
     ensures { lines_of result contours.new shapes.new
         ≡ in_word begins k (lines_of reader contours.old shapes.old) c }
 {
-    let due = places::word_letter(begins, k);
-    if due == 0 {
+    let Some(due) = places::word_letter(begins, k) else {
         return behind(reader, c, contours, shapes);
-    }
+    };
     if c == due {
         return moved(reader, Place::Word(begins, k + 1));
     }

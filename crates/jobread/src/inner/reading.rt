@@ -33,8 +33,7 @@ fn number(
     ensures { state_of result points.new contours.new shapes.new
         ≡ in_number below size (state_of reader points.old contours.old shapes.old) c }
 {
-    let d = places::digit(c);
-    if d < 10 {
+    if let Some(d) = places::digit(c) {
         return ends::moved(reader, places::number(below, size, d));
     }
     if places::LARGEST < size {
