@@ -11,7 +11,7 @@ use Rattle.replies.specs.Refusals.{number}
 use Rattle.replies.proofs.RefusalLaws.{refusals_have_numbers}
 use Rattle.grid.specs.Domain.{count, domain, Contour}
 use Rattle.grid.proofs.DomainLaws.{in_domain}
-use Rattle.replies.proofs.LadderLaws.{first_is, stopped, onward, clear, cleared}
+use Rattle.replies.proofs.LadderLaws.{first_is, onward, clear, cleared}
 use Rattle.replies.proofs.LadderLaws.First.{here, past, foot}
 use Rattle.area.specs.declared.answer.Area.{Area}
 use Rattle.area.specs.Answers.{answer, answered, empty, refusals, doubled, half}

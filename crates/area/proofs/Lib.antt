@@ -1,4 +1,5 @@
 pub mod AnswerLaws
+pub mod ShareLaws
 pub mod Sums
 pub mod Theorems
 pub mod Removal

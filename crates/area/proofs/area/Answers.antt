@@ -1,5 +1,5 @@
 -- `area::area` meets its contract.
-use Rattle.std.proofs.Common.{sym, ◌∙◌, arith, to_z-of_z, w64, SFits}
+use Rattle.std.proofs.Common.{sym, arith, to_z-of_z, w64, SFits}
 use Rattle.std.proofs.lemmas.Result.{err_from_is_err_and}
 use borrow.Author.Rules.{sfits_of}
 use Rattle.area.proofs.AnswerLaws.{doubled_refused, doubled_done, half_of, half_fits}

@@ -1,5 +1,5 @@
 -- `area::check` meets its contract, refusal by refusal.
-use Rattle.std.proofs.Common.{sym, ◌∙◌}
+use Rattle.std.proofs.Common.{sym}
 use Rattle.std.proofs.lemmas.Result.{err_from_is_err_and}
 use Rattle.replies.proofs.RefusalLaws.{refused_so_far}
 use Rattle.area.proofs.AnswerLaws.{refused_empty, refused_none}
