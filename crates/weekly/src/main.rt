@@ -54,10 +54,9 @@ fn count_all<R: Read>(stream: &mut R, window: &mut [u8]) -> io::Result<Week>
         if week.files == FILES {
             return Ok(week);
         }
-        let k = ending::first_length(&window[..n]);
-        if k == 0 {
+        let Some(k) = ending::first_length(&window[..n]) else {
             return Ok(counting::count(week, &window[..n], true));
-        }
+        };
         week = counting::count(week, &window[..k], false);
         if week.full {
             return Ok(week);

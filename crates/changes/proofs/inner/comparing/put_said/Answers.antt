@@ -1,10 +1,10 @@
 -- `changes::inner::comparing::put_said` meets its contract: the listing that was filled is said line by line, and counted.
 use mathlib.Core.Path.{◌≡◌, sym, ◌∙◌, ap}
 use mathlib.Core.List.{List}
-use Prim.Native.Nat.{ℕ, ◌≤◌}
+use Prim.Native.Nat.{ℕ}
 use native.Mathlib.Omega.{arith}
 use lib.ListN.{length, take, length-append}
-use lib.Seq.{take_at, length-take-le}
+use lib.Seq.{take_at}
 use Rattle.difference.specs.Lines.{lines_of, written}
 use Rattle.difference.proofs.ListLaws.{written-length}
 use Rattle.report.specs.inside.Lines.{Put}
@@ -26,12 +26,6 @@ due_long c =
 listed : (c : After-fill) → take c.max-n.result c.fill.new.listing ≡ due c
 listed c = ap (take c.max-n.result) c.fill.ensures ∙ take_at (due c) _ c.max-n.result (due_long c)
 
-within : (c : After-fill) → c.max-n.result ≤ length c.fill.new.listing
-within c = omega (arith, due_long c, ap length c.fill.ensures ∙ length-append (due c) _)
-
-pub slice_bounds-put-end : goal.slice_bounds-put-end
-slice_bounds-put-end c = sym (length-take-le _ _ (within (goal.at.slice_bounds-put-end c).After-fill))
-
 pub put-behind-requires : goal.put-behind-requires
 put-behind-requires c =
     let f = (goal.at.put-behind-requires c).After-fill in
@@ -39,9 +33,6 @@ put-behind-requires c =
       places = rw (listed f) c.requires.comparable.places;
       listing_in_bounds = rw (listed f) (omega (arith, c.requires.other_ranges_in_bounds, length-append (lines 1 (due f)) (counts (due f))));
     }
-
-pub slice_bounds-put-end-2 : goal.slice_bounds-put-end-2
-slice_bounds-put-end-2 c = sym (length-take-le _ _ (within (goal.at.slice_bounds-put-end-2 c).After-fill))
 
 pub put-requires : goal.put-requires
 put-requires c =

@@ -13,8 +13,5 @@ pub loop-i-preserved : goal.loop-i-preserved
 loop-i-preserved c =
     telling_more c.loop-i.invariant c.loop-i-test.true c.put_line-behind.ensures
 
-pub shape_of-text : goal.shape_of-text
-shape_of-text c = c.loop-i.invariant.going.long
-
 pub returns : goal.returns
 returns c = telling_all c.loop-i.invariant c.loop-i-test.false
