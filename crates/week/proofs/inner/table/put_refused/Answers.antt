@@ -1,6 +1,5 @@
 -- `week::inner::table::put_refused` meets its contract: line by line.
 use mathlib.Core.Path.{refl}
-use native.Mathlib.Omega.{arith}
 use Rattle.buffer.specs.Sets.{joined}
 use Rattle.report.proofs.PutLaws.{Going, going_none, going_room, going_more, going_all}
 use Rattle.week.specs.Table.{refused_lines}
@@ -14,19 +13,19 @@ begun c = let s = c.args in going_none s.at s.text.now (refused_lines s.totals.n
 
 pub put_told-second-requires : goal.put_told-second-requires
 put_told-second-requires c =
-    record { reply_in_bounds = omega (arith, c.requires.in_bounds); reply_in_bounds_2 = going_room (begun (goal.at.put_told-second-requires c).Start) }
+    record { in_bounds = c.requires.in_bounds; text_in_bounds = going_room (begun (goal.at.put_told-second-requires c).Start) }
 
 pub put_told-third-requires : goal.put_told-third-requires
 put_told-third-requires c =
-    record { reply_in_bounds = omega (arith, c.requires.in_bounds); reply_in_bounds_2 = going_room (going_more (begun (goal.at.put_told-third-requires c).Start) c.put_told-second.ensures) }
+    record { in_bounds = c.requires.in_bounds; text_in_bounds = going_room (going_more (begun (goal.at.put_told-third-requires c).Start) c.put_told-second.ensures) }
 
 pub put_told-fourth-requires : goal.put_told-fourth-requires
 put_told-fourth-requires c =
-    record { reply_in_bounds = omega (arith, c.requires.in_bounds); reply_in_bounds_2 = going_room (going_more (going_more (begun (goal.at.put_told-fourth-requires c).Start) c.put_told-second.ensures) c.put_told-third.ensures) }
+    record { in_bounds = c.requires.in_bounds; text_in_bounds = going_room (going_more (going_more (begun (goal.at.put_told-fourth-requires c).Start) c.put_told-second.ensures) c.put_told-third.ensures) }
 
 pub put_told-requires : goal.put_told-requires
 put_told-requires c =
-    record { reply_in_bounds = omega (arith, c.requires.in_bounds); reply_in_bounds_2 = going_room (going_more (going_more (going_more (begun (goal.at.put_told-requires c).Start) c.put_told-second.ensures) c.put_told-third.ensures) c.put_told-fourth.ensures) }
+    record { in_bounds = c.requires.in_bounds; text_in_bounds = going_room (going_more (going_more (going_more (begun (goal.at.put_told-requires c).Start) c.put_told-second.ensures) c.put_told-third.ensures) c.put_told-fourth.ensures) }
 
 pub returns : goal.returns
 returns c =
