@@ -12,7 +12,9 @@ ghost use Rattle.area.specs.Answers.{refusals, answered, doubled, half};
 pub use answer::Area;
 use replies::Refusal;
 
-// What an area asks of a contour: its first refusal, if any.
+// What an area asks of a contour: its first refusal, if any. It is made anew for each call, since on boxes a call costs as
+// much as the test.
+#[inline(always)]
 pub fn check(points: &[i32]) -> Result<(), Refusal>
     ensures { told result ≡ first_of (refusals points.now) }
 {

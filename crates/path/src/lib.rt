@@ -70,7 +70,9 @@ pub fn is_clockwise_ordered(points: &[i32]) -> Result<bool, Refusal>
     Ok(area::inner::doubled_area(points) <= 0)
 }
 
-// The contour's domain, and then the asked point's.
+// The contour's domain, and then the asked point's. It is made anew for each call, since on boxes a call costs as much as
+// the test.
+#[inline(always)]
 fn check(points: &[i32], p: Point) -> Result<(), Refusal>
     ensures { told result ≡ first_of (refusals p points.now) }
 {

@@ -45,7 +45,8 @@ fn onward(points: &[i32], n: usize, first: usize, begun: Edge, met: usize, start
     3 <= kept && !grid::inner::reverses(to, closing)
 }
 
-// The same from the front.
+// The same from the front. It is made anew for each call, which costs less than one on a few points.
+#[inline(always)]
 pub fn none_reverses(points: &[i32], n: usize) -> bool
     requires { Contour points.now n × (3 ≤ n) }
     ensures { result ≡ spike_free_distinct (distinct_neighbours (points_of points.now)) }

@@ -33,7 +33,9 @@ pub fn no_spikes(points: &[i32]) -> bool
     look::none_reverses(points, n)
 }
 
-// Whether it passes the verdict that goes with a rule. Most contours are boxes, which pass both.
+// Whether it passes the verdict that goes with a rule. Most contours are boxes, which pass both. It is made anew for each
+// call, so that the rule is known there.
+#[inline(always)]
 pub fn passes(rule: Rule, points: &[i32]) -> bool
     requires { first_of (domain limit points.now) ≡ 0 }
     ensures { result ≡ passes_of rule (points_of points.now) }
