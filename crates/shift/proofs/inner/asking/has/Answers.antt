@@ -4,7 +4,7 @@ use Rattle.grid.specs.Points.{points}
 use Rattle.path.specs.Locate.{location}
 use Rattle.sifting.specs.inside.Sifting.{lying}
 use Rattle.shift.specs.inside.Asking.{ruled_by}
-use Rattle.shift.proofs.AskingLaws.{deciding_all, deciding_past, deciding_out, deciding_more, deciding_none}
+use Rattle.shift.proofs.AskingLaws.{deciding_past, deciding_out, deciding_more, deciding_none}
 use Rattle.shift.proofs.inner.asking.has.Goals as goal
 use Rattle.shift.proofs.inner.asking.has.Goals.{then-own-press+else-rules_out, else-own-press}
 
@@ -13,9 +13,6 @@ among : (records : List (List ℕ)) (n i : ℕ) → n ≤ length records → i <
 among records n i fit h =
     let l : i < n = omega (arith, length-take-le n records fit) in
     (l, get_or-take n records i [] l)
-
-pub loop-start-init : goal.loop-start-init
-loop-start-init c = λ fit. deciding_all _ _ _ _ _ fit
 
 pub returns-then-rules_out : goal.returns-then-rules_out
 returns-then-rules_out c =
