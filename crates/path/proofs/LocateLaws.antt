@@ -11,10 +11,9 @@ use Rattle.integers.specs.Linear.{num, at as of, ◌:-◌ as ◌less◌}
 use Rattle.integers.proofs.Equal.{eq_z_true}
 use Rattle.integers.proofs.Linear.{lt_fails, lt_means, lt_denies, same_parts}
 use Rattle.integers.proofs.Logic.{and_right, or_left, or_right}
-use Rattle.grid.specs.Limits.{limit}
 use Rattle.grid.specs.declared.Point.{Point}
-use Rattle.grid.specs.Points.{at, on, points, same}
-use Rattle.grid.specs.Domain.{count, domain, Contour}
+use Rattle.grid.specs.Points.{at, points, same}
+use Rattle.grid.specs.Domain.{count, Contour}
 use Rattle.replies.specs.declared.refusal.Refusal.{Refusal}
 use Rattle.replies.specs.Ladder.{first_of}
 use Rattle.replies.specs.Refusals.{number}

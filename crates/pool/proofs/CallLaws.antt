@@ -10,7 +10,7 @@ use lib.IntN.{ℤ}
 use borrow.Author.Tests.{not-false, leb-true, eqb-false}
 use Rattle.integers.proofs.Logic.{and_left, and_right}
 use Rattle.replies.specs.Ladder.{Rung, first_of, room}
-use Rattle.replies.proofs.LadderLaws.{First, first_is, clear, stopped, onward}
+use Rattle.replies.proofs.LadderLaws.{First, first_is, clear, onward}
 use Rattle.replies.proofs.LadderLaws.First.{here, past, foot}
 use Rattle.grid.specs.Limits.{limit}
 use Rattle.grid.specs.Domain.{count}

@@ -26,7 +26,7 @@ use Rattle.sets.specs.declared.inner.contour.Tried.{Tried}
 use Rattle.sets.specs.declared.inner.shapes.Total.{Total}
 use Rattle.sets.specs.Fates.{ShapeFate, shape_fate, shapes_fate}
 use Rattle.sets.specs.Fates.ShapeFate.{stands, fallen}
-use Rattle.sets.specs.Outcome.{answer, cleaned_as, Lent, Outcome, lent, leaving, enough, lacking, outcome, cleaned_shape, shape_outcome, shapes_outcome}
+use Rattle.sets.specs.Outcome.{answer, cleaned_as, Lent, Outcome, lent, leaving, lacking, outcome, cleaned_shape, shape_outcome, shapes_outcome}
 use Rattle.sets.specs.inside.Contour.{reached, none_yet, Scratch}
 use Rattle.sets.specs.inside.Shape.{Tested, tested, run_shape, Zeroed, Room, Named, Going, shape_answer}
 use Rattle.sets.specs.inside.Shapes.{Grouped, grouped, run_shapes, Each}

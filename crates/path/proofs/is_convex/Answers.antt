@@ -1,9 +1,6 @@
 -- `path::is_convex` meets its contract.
-use mathlib.Core.Path.{◌≡◌, sym, ◌∙◌}
+use mathlib.Core.Path.{sym, ◌∙◌}
 use native.Mathlib.Omega.{arith}
-use Rattle.grid.specs.Limits.{limit}
-use Rattle.grid.specs.Domain.{domain}
-use Rattle.replies.specs.Ladder.{first_of}
 use Rattle.grid.proofs.DomainLaws.{in_domain}
 use Rattle.grid.proofs.AlongLaws.{none_distinct}
 use Rattle.replies.proofs.VerdictLaws.{verdict_refused, verdict_given}

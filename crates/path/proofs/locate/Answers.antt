@@ -1,13 +1,8 @@
 -- `path::locate` meets its contract.
-use Rattle.std.proofs.Common.{◌≡◌, sym, ◌∙◌, ap, arith, ℤ, w32, to_z, of_z, to_z-of_z, SFits}
+use Rattle.std.proofs.Common.{◌≡◌, sym, arith}
 use Rattle.std.proofs.lemmas.Result.{err_from_is_err_and}
-use Rattle.grid.specs.declared.Point.{Point}
-use Rattle.grid.specs.Points.{points}
 use Rattle.grid.specs.Domain.{count}
 use Rattle.grid.proofs.DomainLaws.{in_domain}
-use Rattle.path.specs.Contains.{refusals}
-use Rattle.path.specs.Locate.{location}
-use Rattle.replies.specs.Ladder.{first_of}
 use Rattle.path.proofs.ContainsLaws.{passed_on, asked_of_none}
 use Rattle.path.proofs.LocateLaws.{located_refused, located_given}
 use Rattle.path.proofs.locate.Goals as goal

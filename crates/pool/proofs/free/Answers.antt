@@ -1,6 +1,6 @@
 -- `pool::free` meets its contract.
 use borrow.Author.Tests.{not-true, not-false}
-use mathlib.Core.Path.{refl, ◌∙◌}
+use mathlib.Core.Path.{refl}
 use native.Mathlib.Omega.{arith}
 use Rattle.pool.specs.Lists.{free as free_of}
 use Rattle.pool.specs.Outcome.{free_count}

@@ -1,6 +1,5 @@
 -- `pool::held` meets its contract.
 use borrow.Author.Tests.{not-true, not-false}
-use mathlib.Core.Path.{◌∙◌}
 use Rattle.pool.specs.Lists.{held as held_of, own}
 use Rattle.pool.specs.Outcome.{number, held_count}
 use Rattle.pool.proofs.ReadLaws.{count_unsound, held_given}

@@ -1,7 +1,6 @@
 -- `sets::areas::area_two` meets its contract.
 use Rattle.std.proofs.lemmas.Result.{err_from_is_err_and}
 use Rattle.std.proofs.Common.{sym, ◌∙◌}
-use Rattle.sets.proofs.RefusalLaws.{contours_taken}
 use Rattle.sets.proofs.AreaLaws.{set_refused, set_taken}
 use Rattle.sets.proofs.areas.area_two.Goals as goal
 

@@ -1,7 +1,7 @@
 -- `sets::cleaning::clean_shapes` meets its contract: it refuses, or cuts the scratch to its length and hands all on.
 use Rattle.std.proofs.lemmas.Result.{err_from_is_err_and}
 use Rattle.replies.proofs.RefusalLaws.{refused_so_far}
-use Rattle.std.proofs.Common.{◌≡◌, ℕ, List, ℤ, sym, refl, ◌∙◌, arith, length-take-le}
+use Rattle.std.proofs.Common.{◌≡◌, ℕ, List, ℤ, sym, arith, length-take-le}
 use Rattle.replies.specs.Ladder.{first_of}
 use Rattle.grid.specs.Domain.{count}
 use Rattle.sets.specs.Outcome.{Lent, lent}
