@@ -81,7 +81,7 @@ module _ {row : List ℤ} {n : ℕ} (c : Contour row n) where
       (# 2 :* (# 5 :- # 1))
       (a.x ∷ a.y ∷ b.x ∷ b.y ∷ o.x ∷ o.y ∷ []) refl)
 
-  pub gathered_ends : 3 ≤ n → Gathered row n (int_wrap w64 (share row (n - 1) 0 1 +ℤ share row (n - 2) (n - 1) 0)) (n - 2)
+  pub gathered_ends : 2 ≤ n → Gathered row n (int_wrap w64 (share row (n - 1) 0 1 +ℤ share row (n - 2) (n - 1) 0)) (n - 2)
   gathered_ends h =
       let first = share row (n - 1) 0 1 in
       let end = share row (n - 2) (n - 1) 0 in

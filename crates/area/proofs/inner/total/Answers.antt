@@ -8,7 +8,7 @@ pub returns-then-n-lt3 : goal.returns-then-n-lt3
 returns-then-n-lt3 c = gathered_few c.requires.0 c.if-n-lt3.true
 
 pub loop-i-init : goal.loop-i-init
-loop-i-init c = rw (wrapping_add_is w64 c.share.result c.share-2.result (record { sfits = c.share.type_inv }) (record { sfits = c.share-2.type_inv }), c.share.ensures, c.share-2.ensures) (gathered_ends c.requires.0 c.if-n-lt3.false)
+loop-i-init c = rw (wrapping_add_is w64 c.share.result c.share-2.result (record { sfits = c.share.type_inv }) (record { sfits = c.share-2.type_inv }), c.share.ensures, c.share-2.ensures) (gathered_ends c.requires.0 (omega (arith, c.if-n-lt3.false)))
 
 pub loop-i-preserved : goal.loop-i-preserved
 loop-i-preserved c =
