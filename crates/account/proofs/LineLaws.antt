@@ -30,9 +30,13 @@ why_none r n = ap (λ (b : Bool). elim b [ true ↦ off_the_grid | false ↦ no_
 abbrev pub words : ℕ → ℕ → List (List ℕ)
 words k r = contour ∷ decimal k ∷ dropped_as ∷ why r ∷ line_end ∷ []
 
-pub line_words : (k r : ℕ) → line k r ≡ joined (words k r)
+line_words : (k r : ℕ) → line k r ≡ joined (words k r)
 unfolding line joined
 line_words k r = simp (append_assoc, append-nil)
+
+-- all are to be put
+pub line_begun : (at k r : ℕ) (text : List ℕ) → at + length (line k r) ≤ length text → Going at (line k r) text at text (words k r)
+line_begun at k r text h = going_none at text (words k r) (line_words k r) h
 
 why-length : (r : ℕ) → length (why r) ≤ 12
 unfolding why

@@ -1,157 +1,159 @@
-// The kinds `c`, `l`, `w` and `k`: contours.
+// The kinds of contours.
 use crate::column;
+use crate::lent::{Scratch, Walk};
 use cases::answer::Answer;
 use cases::case::HEAD;
 use cases::room::{LONG, LONG_NUMBERS, SET, SET_NUMBERS};
-use cases::{answer, marks, number, numbers, positions, room};
-use clean::Cleaned;
+use cases::{answer, checksum, room};
+use clean::{Cleaned, Cleaning};
+use replies::Refusal;
 
-// The kind `c`: every question about a contour and a point, and both cleanings.
-pub fn asked(head: [usize; HEAD], points: &[i32]) -> Answer {
-    let x = number::of_bits(head[0]);
-    let y = number::of_bits(head[1]);
-    let areas = with_areas(points);
-    let verdicts = with_verdicts(areas, points, x, y);
-    with_cleaning(with_cleaning(verdicts, 0, points), 1, points)
+// What is told of a cleaning: what the library answers, the checksums of the rows of scratch and of the output, and the
+// length and the checksum of the part that is handed out.
+#[derive(Clone, Copy)]
+struct Told {
+    cleaned: Result<Cleaning, Refusal>,
+    scratch: [u32; 3],
+    out: u32,
+    length: usize,
+    part: u32,
 }
 
-// The kind `l`: where a point lies to a contour.
-pub fn located(head: [usize; HEAD], points: &[i32]) -> Answer {
-    let x = number::of_bits(head[0]);
-    let y = number::of_bits(head[1]);
-    let located = path::locate(points, x, y);
-    let numbers = [located.reply as u64, located.place as u64];
-    answer::begin().numbers(&numbers)
+// Every question about a contour and a point, and both cleanings.
+pub fn asked(point: [i32; 2], points: &[i32]) -> Answer {
+    let answer = with_verdicts(with_areas(points), points, point);
+    with_both_cleanings(answer, points)
+}
+
+// Where a point lies to a contour.
+pub fn located(point: [i32; 2], points: &[i32]) -> Answer {
+    let located = path::locate(points, point[0], point[1]);
+    answer::begin()
+        .word(replies::told(located))
+        .word(u32::from(located.unwrap_or(path::OUTSIDE)))
 }
 
 fn with_areas(points: &[i32]) -> Answer {
-    let area_two = column::with_area(answer::begin(), area::area_two(points));
-    column::with_area(area_two, area::area(points))
+    answer::begin()
+        .with(column::area(area::area_two(points)))
+        .with(column::area(area::area(points)))
 }
 
-fn with_verdicts(areas: Answer, points: &[i32], x: i32, y: i32) -> Answer {
-    let mut answer = column::with_verdict(areas, path::is_clockwise_ordered(points));
-    answer = column::with_verdict(answer, path::is_convex(points));
-    answer = column::with_verdict(answer, path::contains_point(points, x, y));
-    answer = column::with_verdict(answer, clean::simple::is_simple(points));
-    column::with_verdict(answer, clean::despike::has_no_spikes(points))
+fn with_verdicts(answer: Answer, points: &[i32], point: [i32; 2]) -> Answer {
+    let contains = path::contains_point(points, point[0], point[1]);
+    answer
+        .with(column::verdict(path::is_clockwise_ordered(points)))
+        .with(column::verdict(path::is_convex(points)))
+        .with(column::verdict(contains))
+        .with(column::verdict(clean::simple::is_simple(points)))
+        .with(column::verdict(clean::despike::has_no_spikes(points)))
 }
 
-// With a cleaning in rows made for it: most contours are short, and long rows take long to make.
-fn with_cleaning(answer: Answer, form: usize, points: &[i32]) -> Answer {
+fn with_both_cleanings(answer: Answer, points: &[i32]) -> Answer {
+    let simplified = with_summary(answer, cleaning(Walk::Simplified, points));
+    with_summary(simplified, cleaning(Walk::Despiked, points))
+}
+
+// A cleaning in rows made for it: most contours are short, and long rows take long to make.
+fn cleaning(walk: Walk, points: &[i32]) -> Told {
     if points.len() <= SET_NUMBERS {
-        return with_summary(answer, in_short_rows(form, points));
+        return in_short_rows(walk, points);
     }
-    let head = [form, LONG, LONG, LONG, LONG_NUMBERS, 0, 0];
-    with_summary(answer, lent(head, points))
+    in_long_rows(walk, points, [LONG, LONG, LONG, LONG_NUMBERS])
 }
 
 // With how many points were kept, the decisions, the turns and the checksum of what is handed out; of a collapsed contour
 // with its reply, the decisions and the turns.
-fn with_summary(answer: Answer, cleaning: Answer) -> Answer {
-    let values = cleaning.values;
-    if values[0] == replies::COLLAPSED as u64 {
-        let collapsed = answer.with(b' ', values[0]);
-        let decisions = collapsed.with(b':', values[2]);
-        return decisions.with(b':', values[3]);
+fn with_summary(answer: Answer, told: Told) -> Answer {
+    let cleaning = match told.cleaned {
+        Ok(cleaning) => cleaning,
+        Err(refusal) => return answer.with(column::refusal(refusal)),
+    };
+    match cleaning.kept {
+        Some(points) => with_walk(answer.amount(points), cleaning).joined(told.part as usize),
+        None => with_walk(answer.word(replies::COLLAPSED), cleaning),
     }
-    if values[0] != replies::DONE as u64 {
-        return answer.with(b'!', values[0]);
-    }
-    let kept = answer.with(b' ', values[1]);
-    let decisions = kept.with(b':', values[2]);
-    let turns = decisions.with(b':', values[3]);
-    turns.with(b':', values[9])
 }
 
-fn in_short_rows(form: usize, points: &[i32]) -> Answer {
+// With the decisions and the turns of a walk.
+fn with_walk(answer: Answer, cleaning: Cleaning) -> Answer {
+    answer.joined(cleaning.decisions).joined(cleaning.turns)
+}
+
+fn in_short_rows(walk: Walk, points: &[i32]) -> Told {
     let mut next = [0u32; SET];
     let mut prev = [0u32; SET];
     let mut mark = [0u8; SET];
     let mut out = [0i32; SET_NUMBERS];
-    after_cleaning(form, points, &mut next, &mut prev, &mut mark, &mut out)
+    let scratch = Scratch {
+        next: &mut next,
+        prev: &mut prev,
+        mark: &mut mark,
+    };
+    after_cleaning(walk, points, scratch, &mut out)
 }
 
-fn clean(
-    form: usize,
-    points: &[i32],
-    next: &mut [u32],
-    prev: &mut [u32],
-    mark: &mut [u8],
-    out: &mut [i32],
-) -> Cleaned {
-    match form {
-        0 => clean::simple::simplified(points, next, prev, mark, out),
-        _ => clean::despike::despiked(points, next, prev, mark, out),
-    }
-}
-
-// The kind `w`: a cleaning in rows of given lengths, full of canaries.
-pub fn lent(head: [usize; HEAD], points: &[i32]) -> Answer {
+// A cleaning in rows of given lengths, full of canaries.
+fn in_long_rows(walk: Walk, points: &[i32], lengths: [usize; 4]) -> Told {
     let mut next = [7u32; LONG];
     let mut prev = [7u32; LONG];
     let mut mark = [7u8; LONG];
     let mut out = [-7i32; LONG_NUMBERS];
-    let next_end = room::at_most(head[1], LONG);
-    let prev_end = room::at_most(head[2], LONG);
-    let mark_end = room::at_most(head[3], LONG);
-    let out_end = room::at_most(head[4], LONG_NUMBERS);
-    after_cleaning(
-        head[0],
-        points,
-        &mut next[0..next_end],
-        &mut prev[0..prev_end],
-        &mut mark[0..mark_end],
-        &mut out[0..out_end],
-    )
+    let scratch = Scratch {
+        next: room::front_mut(&mut next, lengths[0]),
+        prev: room::front_mut(&mut prev, lengths[1]),
+        mark: room::front_mut(&mut mark, lengths[2]),
+    };
+    after_cleaning(walk, points, scratch, room::front_mut(&mut out, lengths[3]))
 }
 
-// What is answered of a cleaning in these rows: the reply, the points kept, the decisions, the turns, the checksums of the
-// rows, and the part that is handed out of them.
-fn after_cleaning(
-    form: usize,
-    points: &[i32],
-    next: &mut [u32],
-    prev: &mut [u32],
-    mark: &mut [u8],
-    out: &mut [i32],
-) -> Answer {
-    let cleaned = clean(form, points, next, prev, mark, out);
-    let sums = with_scratch(of_cleaned(cleaned), next, prev, mark);
-    with_kept(sums, cleaned.points, points, out)
+// A cleaning in these rows, and what is told of it and of them.
+fn after_cleaning(walk: Walk, points: &[i32], scratch: Scratch<'_>, out: &mut [i32]) -> Told {
+    let Scratch { next, prev, mark } = scratch;
+    let cleaned = match walk {
+        Walk::Simplified => clean::simple::simplified(points, next, prev, mark, out),
+        Walk::Despiked => clean::despike::despiked(points, next, prev, mark, out),
+    };
+    let part = clean::kept_part(points, out, Cleaned::from(cleaned).points);
+    Told {
+        cleaned,
+        scratch: [checksum::of(next), checksum::of(prev), checksum::of(mark)],
+        out: checksum::of(out),
+        length: part.len(),
+        part: checksum::of(part),
+    }
+}
+
+// The kind of a cleaning in rows of given lengths.
+pub fn lent(head: [usize; HEAD], points: &[i32]) -> Answer {
+    let lengths = [head[1], head[2], head[3], head[4]];
+    let told = in_long_rows(Walk::from(head[0]), points, lengths);
+    with_sums(of_cleaned(Cleaned::from(told.cleaned)), told)
 }
 
 fn of_cleaned(cleaned: Cleaned) -> Answer {
-    let numbers = [
-        cleaned.reply as u64,
-        cleaned.points as u64,
-        cleaned.decisions as u64,
-        cleaned.turns as u64,
-    ];
-    answer::begin().numbers(&numbers)
+    answer::begin()
+        .word(cleaned.reply)
+        .amount(cleaned.points)
+        .amount(cleaned.decisions)
+        .amount(cleaned.turns)
 }
 
-// The checksums of the rows of scratch.
-pub fn with_scratch(answer: Answer, next: &[u32], prev: &[u32], mark: &[u8]) -> Answer {
-    let sums = [
-        positions::checksum(next),
-        positions::checksum(prev),
-        marks::checksum(mark),
-    ];
-    answer.numbers(&sums)
+fn with_sums(answer: Answer, told: Told) -> Answer {
+    let scratch = told.scratch;
+    answer
+        .word(scratch[0])
+        .word(scratch[1])
+        .word(scratch[2])
+        .word(told.out)
+        .amount(told.length)
+        .joined(told.part as usize)
 }
 
-// The checksum of the output, and the part that is handed out of it.
-fn with_kept<'a>(answer: Answer, k: usize, points: &'a [i32], out: &'a [i32]) -> Answer {
-    let sum = answer.with(b' ', numbers::checksum(out));
-    column::with_part(sum, clean::kept_part(points, out, k))
-}
-
-// The kind `k`: what a cleaning kept, as a part of the contour or of the output behind it.
+// What a cleaning kept, as a part of the contour or of the output behind it.
 pub fn kept(head: [usize; HEAD], numbers: &[i32]) -> Answer {
     let k = head[0] % 4294967296 * 4294967296 + head[1] % 4294967296;
-    let end = numbers.len();
-    let middle = room::without(end, head[2]);
-    let part = clean::kept_part(&numbers[0..middle], &numbers[middle..end], k);
+    let (points, out) = room::parted(numbers, head[2]);
+    let part = clean::kept_part(points, out, k);
     column::with_part(answer::begin(), part)
 }

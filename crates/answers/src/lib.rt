@@ -3,5 +3,7 @@
 
 pub mod column;
 pub mod contours;
+pub mod lent;
 pub mod packing;
 pub mod parts;
+pub mod told;

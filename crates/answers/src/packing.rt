@@ -1,131 +1,141 @@
-// The kinds `s` and `p`: sets asked, packed and added to.
+// The kinds of sets that are asked, packed and added to.
+use crate::lent::Output;
 use crate::{column, parts};
-use buffer::Packed;
-use cases::answer::Answer;
+use buffer::Sizes;
+use cases::answer::{Answer, Column};
 use cases::case::HEAD;
+use cases::given::Set;
 use cases::room::{SET, SET_NUMBERS};
 use cases::{answer, room};
+use replies::Refusal;
 
-// The kind `s`: every question about a set, as a contour set and as a shape set.
-pub fn asked(points: &[i32], contours: &[[usize; 2]], shapes: &[[usize; 2]]) -> Answer {
-    let sound = buffer::ranges::sound(contours, points.len() / 2);
-    let first = with_contours(
-        column::with_yes_or_no(answer::begin(), sound),
+// Every question about a set, as a contour set and as a shape set.
+pub fn asked(set: Set<'_>) -> Answer {
+    with_shapes(with_contours(answer::begin(), set), set)
+}
+
+fn with_contours(before: Answer, set: Set<'_>) -> Answer {
+    let Set {
         points,
         contours,
-    );
-    let grouped = buffer::ranges::sound(shapes, contours.len());
-    with_shapes(
-        column::with_yes_or_no(first, grouped),
+        ..
+    } = set;
+    let sound = buffer::ranges::sound(contours, points.len() / 2);
+    let single = buffer::contours::is_single_contour(points, contours);
+    let numbers = buffer::contours::points_count(points, contours);
+    let ranges = buffer::contours::contours_count(points, contours);
+    let first = buffer::contours::first_contour(points, contours);
+    let answer = before
+        .with(Column::Verdict(sound))
+        .with(column::verdict(buffer::contours::is_empty(points, contours)))
+        .with(column::verdict(single))
+        .with(column::counted(numbers))
+        .with(column::counted(ranges));
+    column::with_part(answer, first).word(parts::of_contours(points, contours))
+}
+
+fn with_shapes(before: Answer, set: Set<'_>) -> Answer {
+    let Set {
         points,
         contours,
         shapes,
-    )
-}
-
-fn with_contours(sound: Answer, points: &[i32], contours: &[[usize; 2]]) -> Answer {
-    let mut answer = column::with_verdict(sound, buffer::contours::is_empty(points, contours));
-    answer = column::with_verdict(
-        answer,
-        buffer::contours::is_single_contour(points, contours),
-    );
-    answer = column::with_counted(answer, buffer::contours::points_count(points, contours));
-    answer = column::with_counted(answer, buffer::contours::contours_count(points, contours));
-    answer = column::with_part(answer, buffer::contours::first_contour(points, contours));
-    answer.with(b' ', parts::of_contours(points, contours))
-}
-
-fn with_shapes(
-    sound: Answer,
-    points: &[i32],
-    contours: &[[usize; 2]],
-    shapes: &[[usize; 2]],
-) -> Answer {
+    } = set;
+    let grouped = buffer::ranges::sound(shapes, contours.len());
     let empty = buffer::shapes::is_empty(points, contours, shapes);
     let numbers = buffer::shapes::points_count(points, contours, shapes);
     let ranges = buffer::shapes::contours_count(points, contours, shapes);
     let groups = buffer::shapes::shapes_count(points, contours, shapes);
-    let mut answer = column::with_verdict(sound, empty);
-    answer = column::with_counted(answer, numbers);
-    answer = column::with_counted(answer, ranges);
-    answer = column::with_counted(answer, groups);
-    answer.with(b' ', parts::of_shapes(points, contours, shapes))
+    before
+        .with(Column::Verdict(grouped))
+        .with(column::verdict(empty))
+        .with(column::counted(numbers))
+        .with(column::counted(ranges))
+        .with(column::counted(groups))
+        .word(parts::of_shapes(set))
 }
 
-// The kind `p`: a packing or an addition in rows of given lengths, full of canaries.
-pub fn lent(
-    head: [usize; HEAD],
-    numbers: &[i32],
-    ranges: &[[usize; 2]],
-    contours: &[[usize; 2]],
-    shapes: &[[usize; 2]],
-) -> Answer {
+// A packing or an addition in rows of given lengths, full of canaries. What is added is the numbers behind the set's,
+// with these ranges.
+pub fn lent(head: [usize; HEAD], set: Set<'_>, ranges: &[[usize; 2]]) -> Answer {
     let mut out = [-7i32; SET_NUMBERS];
     let mut records = [[7usize; 2]; SET];
     let mut groups = [[7usize; 2]; SET];
-    let out_end = room::at_most(head[1], SET_NUMBERS);
-    let records_end = room::at_most(head[2], SET);
-    let groups_end = room::at_most(head[3], SET);
-    let end = numbers.len();
-    let middle = room::without(end, head[4]);
-    after_packing(
-        head[0],
-        &numbers[0..middle],
-        contours,
-        shapes,
-        &numbers[middle..end],
-        ranges,
-        &mut out[0..out_end],
-        &mut records[0..records_end],
-        &mut groups[0..groups_end],
-    )
+    let output = Output {
+        out: room::front_mut(&mut out, head[1]),
+        records: room::front_mut(&mut records, head[2]),
+        groups: room::front_mut(&mut groups, head[3]),
+    };
+    let (points, more) = room::parted(set.points, head[4]);
+    after_packing(head[0], Set { points, ..set }, more, ranges, output)
 }
 
 // A packing or an addition, and the checksums of the rows after it.
 fn after_packing(
     form: usize,
-    points: &[i32],
-    contours: &[[usize; 2]],
-    shapes: &[[usize; 2]],
+    set: Set<'_>,
     more: &[i32],
     ranges: &[[usize; 2]],
-    out: &mut [i32],
-    records: &mut [[usize; 2]],
-    groups: &mut [[usize; 2]],
+    mut output: Output<'_>,
 ) -> Answer {
-    let packed = pack(
-        form, points, contours, shapes, more, ranges, out, records, groups,
-    );
-    column::with_shape_rows(
-        column::with_packed(answer::begin(), packed),
-        out,
-        records,
-        groups,
-    )
+    let packed = pack(form, set, more, ranges, &mut output);
+    output.sums(column::with_packed(answer::begin(), packed))
 }
 
 // Has the library pack in the form of that number: 0 to 3 into a contour set, from 4 on into a shape set.
 fn pack(
     form: usize,
-    points: &[i32],
-    contours: &[[usize; 2]],
-    shapes: &[[usize; 2]],
+    set: Set<'_>,
     more: &[i32],
     ranges: &[[usize; 2]],
+    to: &mut Output<'_>,
+) -> Result<Sizes, Refusal> {
+    match form {
+        0..=3 => pack_contours(form, set, more, to.out, to.records),
+        4 => buffer::shapes::set_with_contour(set.points, to.out, to.records, to.groups),
+        5 => buffer::shapes::set_with_shape(
+            set.points,
+            set.contours,
+            to.out,
+            to.records,
+            to.groups,
+        ),
+        6 => buffer::shapes::set_with_shapes(
+            set.points,
+            set.contours,
+            set.shapes,
+            to.out,
+            to.records,
+            to.groups,
+        ),
+        _ => buffer::shapes::add_shape(
+            set.points,
+            set.contours,
+            set.shapes,
+            more,
+            ranges,
+            to.out,
+            to.records,
+            to.groups,
+        ),
+    }
+}
+
+fn pack_contours(
+    form: usize,
+    set: Set<'_>,
+    more: &[i32],
     out: &mut [i32],
     records: &mut [[usize; 2]],
-    groups: &mut [[usize; 2]],
-) -> Packed {
+) -> Result<Sizes, Refusal> {
+    let Set {
+        points,
+        contours,
+        shapes,
+    } = set;
     match form {
         0 => buffer::contours::set_with_contour(points, out, records),
         1 => buffer::contours::set_with_shape(points, contours, out, records),
         2 => buffer::contours::set_with_shapes(points, contours, shapes, out, records),
-        3 => buffer::contours::add_contour(points, contours, more, out, records),
-        4 => buffer::shapes::set_with_contour(points, out, records, groups),
-        5 => buffer::shapes::set_with_shape(points, contours, out, records, groups),
-        6 => buffer::shapes::set_with_shapes(points, contours, shapes, out, records, groups),
-        _ => buffer::shapes::add_shape(
-            points, contours, shapes, more, ranges, out, records, groups,
-        ),
+        _ => buffer::contours::add_contour(points, contours, more, out, records),
     }
 }

@@ -1,46 +1,36 @@
 // The parts that a set hands out, all in one checksum: of each its length and the checksum of its numbers.
-use cases::{checksum, numbers};
+use cases::checksum;
+use cases::checksum::Summed;
+use cases::given::Set;
 
 // The checksum with one part more.
-pub fn with_part(sum: u64, part: &[i32]) -> u64 {
-    let length = checksum::with_count(sum, part.len());
-    checksum::added(length, numbers::checksum(part))
+pub fn with_part(sum: u32, part: &[i32]) -> u32 {
+    let length = part.len().added_to(sum);
+    checksum::added(length, checksum::of(part))
 }
 
 // The contours of a contour set by number, and the one past the end.
-pub fn of_contours(points: &[i32], contours: &[[usize; 2]]) -> u64 {
-    let mut sum: u64 = 0;
-    for k in 0..contours.len() {
-        sum = with_part(sum, buffer::contours::contour(points, contours, k));
-    }
-    let past = buffer::contours::contour(points, contours, contours.len());
-    with_part(sum, past)
+pub fn of_contours(points: &[i32], contours: &[[usize; 2]]) -> u32 {
+    (0..=contours.len()).fold(0, |sum, k| {
+        with_part(sum, buffer::contours::contour(points, contours, k))
+    })
 }
 
 // The shapes of a shape set by number, and the one past the end.
-pub fn of_shapes(points: &[i32], contours: &[[usize; 2]], shapes: &[[usize; 2]]) -> u64 {
-    let mut sum: u64 = 0;
-    for s in 0..shapes.len() {
-        sum = with_shape(sum, points, contours, shapes, s);
-    }
-    with_shape(sum, points, contours, shapes, shapes.len())
+pub fn of_shapes(set: Set<'_>) -> u32 {
+    (0..=set.shapes.len()).fold(0, |sum, s| with_shape(sum, set, s))
 }
 
 // The checksum with shape number s: how many contours it has, each of them, and the one past the end.
-fn with_shape(
-    start: u64,
-    points: &[i32],
-    contours: &[[usize; 2]],
-    shapes: &[[usize; 2]],
-    s: usize,
-) -> u64 {
-    let inside = buffer::shapes::contours_in(points, contours, shapes, s);
-    let count = inside.count;
-    let mut sum = checksum::with_count(start, count);
-    for c in 0..count {
+fn with_shape(start: u32, set: Set<'_>, s: usize) -> u32 {
+    let Set {
+        points,
+        contours,
+        shapes,
+    } = set;
+    let count = buffer::shapes::contours_in(points, contours, shapes, s).unwrap_or(0);
+    (0..=count).fold(count.added_to(start), |sum, c| {
         let part = buffer::shapes::contour_of(points, contours, shapes, s, c);
-        sum = with_part(sum, part);
-    }
-    let past = buffer::shapes::contour_of(points, contours, shapes, s, count);
-    with_part(sum, past)
+        with_part(sum, part)
+    })
 }

@@ -1,26 +1,27 @@
 -- What is answered, refusal by refusal.
-use Rattle.std.proofs.Common.{◌≡◌, ℕ, zero, suc, ◌/◌, ◌<◌, List, ℤ, pos, negsuc, neg_ℤ, refl, arith, w64, SFits, eq-eqb, ne_eqb}
+use Rattle.std.proofs.Common.{Err, ◌≡◌, ap, ◌∙◌, ℕ, zero, suc, ◌/◌, ◌<◌, List, ℤ, pos, negsuc, neg_ℤ, refl, arith, w64, SFits, eq-eqb, ne_eqb}
 use lib.Signed.{mag}
 use borrow.Author.Tests.{eqb-false}
 use Rattle.grid.specs.Limits.{limit}
 use Rattle.grid.specs.Points.{points}
 use Rattle.grid.specs.Area.{reported, halved}
+use Rattle.replies.specs.declared.refusal.Refusal.{Refusal}
 use Rattle.replies.specs.Ladder.{first_of}
+use Rattle.replies.specs.Refusals.{number}
+use Rattle.replies.proofs.RefusalLaws.{refusals_have_numbers}
 use Rattle.grid.specs.Domain.{count, domain, Contour}
 use Rattle.grid.proofs.DomainLaws.{in_domain}
-use Rattle.replies.proofs.LadderLaws.{first_is, stopped, onward, clear, cleared}
+use Rattle.replies.proofs.LadderLaws.{first_is, onward, clear, cleared}
 use Rattle.replies.proofs.LadderLaws.First.{here, past, foot}
-use Rattle.area.specs.Answers.{answer, empty, refusals, doubled, half}
+use Rattle.area.specs.declared.answer.Area.{Area}
+use Rattle.area.specs.Answers.{answer, answered, empty, refusals, doubled, half}
 
 pub answer_refused : (k : ℕ) (z : ℤ) → (k ≡ 0 → ⊥) → record { reply = k; value = pos 0 } ≡ answer k z
 answer_refused zero z n = absurd (n refl)
 answer_refused (suc k) z n = refl
 
 module _ (row : List ℤ) where
-  -- the refusals, one by one
-  pub refused_domain : (k : ℕ) → k ≡ first_of (domain limit row) → (k ≡ 0 → ⊥) → k ≡ first_of (refusals row)
-  refused_domain k e n = first_is (refusals row) k (stopped _ _ _ e n)
-
+  -- a contour with no points is refused
   module _ (e : first_of (domain limit row) ≡ 0) where
     pub refused_empty : count row ≡ 0 → 8 ≡ first_of (refusals row)
     refused_empty h = first_is (refusals row) 8 (onward _ _ _ tt e (here (eq-eqb _ _ h)))
@@ -35,14 +36,9 @@ module _ (row : List ℤ) where
       (in_domain row d.0, omega (arith, eqb-false (count row) 0 (clear (empty row) tt d.1).0))
 
   -- what is answered
-  module _ (k : ℕ) (e : k ≡ first_of (refusals row)) (n : k ≡ 0 → ⊥) where
-    pub doubled_refused : record { reply = k; value = pos 0 } ≡ doubled row
-    unfolding doubled
-    doubled_refused = rw (← e) (answer_refused k _ n)
-
-    pub half_refused : record { reply = k; value = pos 0 } ≡ half row
-    unfolding half
-    half_refused = rw (← e) (answer_refused k _ n)
+  pub doubled_refused : (r : Refusal) → number r ≡ first_of (refusals row) → answered (Err r) ≡ doubled row
+  unfolding doubled
+  doubled_refused r e = rw (← e) (answer_refused (number r) _ (refusals_have_numbers r))
 
   module _ (e : first_of (refusals row) ≡ 0) (z : ℤ) (h : z ≡ reported (points row)) where
     pub doubled_done : record { reply = 0; value = z } ≡ doubled row
@@ -57,6 +53,11 @@ module _ (row : List ℤ) where
 pub answer_half : (k : ℕ) (z : ℤ) → record { reply = (answer k z).reply; value = halved (answer k z).value } ≡ answer k (halved z)
 answer_half zero z = refl
 answer_half (suc k) z = refl
+
+-- the half is told where the doubled area is
+pub half_of : (row : List ℤ) (a : Area) → a ≡ doubled row → record { reply = a.reply; value = halved a.value } ≡ half row
+unfolding doubled half
+half_of row a e = ap (λ (x : Area). record { reply = x.reply; value = halved x.value }) e ∙ answer_half (first_of (refusals row)) (reported (points row))
 
 neg_mag : (m : ℕ) {H : ℕ} → m < H → mag (neg_ℤ (pos m)) < H
 neg_mag zero h = omega arith

@@ -1,13 +1,13 @@
 -- The sum of the shares along a contour, as a loop gathers it modulo 2^64: what it has, and what is left to add.
-use Rattle.std.proofs.Common.{◌≡◌, ℕ, zero, suc, ◌+◌, ◌-◌, ◌^◌, ◌<◌, ◌≤◌, List, [], ◌∷◌, drop, ℤ, pos, ◌+ℤ◌, ◌-ℤ◌, ◌*ℤ◌, sym, refl, ap, ◌∙◌, arith}
-use lib.IntN.{+ℤ_assoc, +ℤ_idl}
+use Rattle.std.proofs.Common.{◌≡◌, ℕ, zero, suc, ◌+◌, ◌-◌, ◌<◌, ◌≤◌, List, [], ◌∷◌, drop, ℤ, pos, negsuc, ◌+ℤ◌, ◌-ℤ◌, ◌*ℤ◌, sym, refl, ap, ◌∙◌, arith, w64, to_z}
+use Rattle.std.specs.Int.{int_wrap}
+use Rattle.std.proofs.lemmas.Int.{int_wrap-add_left}
 use Rattle.integers.specs.Modulo.{mod64}
 use Rattle.integers.specs.Polynomial.{#, ◌:+◌, ◌:-◌, ◌:*◌}
-use Rattle.integers.proofs.Modulo.{mod64_add, mod64_lt}
 use Rattle.integers.proofs.Polynomial.{ring}
 use Rattle.grid.specs.Points.{at, points}
 use Rattle.grid.specs.Edges.{cross}
-use Rattle.grid.specs.Area.{around, exact}
+use Rattle.grid.specs.Area.{around, exact, wrapped, reported}
 use Rattle.grid.specs.Domain.{Contour}
 use Rattle.grid.proofs.RowLaws.{points-length, points_more, points_done}
 use Rattle.area.specs.Shares.{share}
@@ -22,19 +22,20 @@ abbrev after : List ℤ → ℕ → ℕ → ℤ
 after row n i = onward row (i + 1) -ℤ (at row (i + 1)).x *ℤ (at row i).y +ℤ (at row 0).x *ℤ (at row (n - 1)).y
 
 -- a loop's sum, which lacks the shares of the positions from 1 to i
-pub record Gathered (row : List ℤ) (n sum i : ℕ) : Type 0 where
+pub record Gathered (row : List ℤ) (n : ℕ) (sum : ℤ) (i : ℕ) : Type 0 where
   pub high : i + 2 ≤ n
-  pub small : sum < 2 ^ 64
-  pub is : mod64 (exact (points row)) ≡ mod64 (pos sum +ℤ (after row n 0 -ℤ after row n i))
+  pub is : sum ≡ int_wrap w64 (exact (points row) -ℤ (after row n 0 -ℤ after row n i))
 
--- one term more
-added_on : (sum r : ℕ) (t rest all : ℤ) → r ≡ mod64 (pos sum +ℤ t) → all ≡ t +ℤ rest → mod64 (pos sum +ℤ all) ≡ mod64 (pos r +ℤ rest)
-added_on sum r t rest all e f = rw (e, f) (ap mod64 (sym (+ℤ_assoc (pos sum) t rest)) ∙ sym (mod64_add (pos sum +ℤ t) rest))
+-- the library's name for what is left of an integer in 64 bits
+wrap_is : (z : ℤ) → int_wrap w64 z ≡ wrapped z
+unfolding int_wrap wrapped mod64
+wrap_is (pos n) = refl
+wrap_is (negsuc n) = ap (to_z w64) (omega arith)
 
 module _ {row : List ℤ} {n : ℕ} (c : Contour row n) where
-  pub gathered_few : n < 3 → 0 ≡ mod64 (exact (points row))
-  unfolding mod64
-  gathered_few h = ap mod64 (sym (few_points (points row) (omega (arith, points-length c))))
+  pub gathered_few : n < 3 → pos 0 ≡ reported (points row)
+  unfolding wrapped mod64
+  gathered_few h = ap wrapped (sym (few_points (points row) (omega (arith, points-length c))))
 
   -- the first share, and the others
   whole : 2 ≤ n → exact (points row) ≡ share row (n - 1) 0 1 +ℤ after row n 0
@@ -80,41 +81,33 @@ module _ {row : List ℤ} {n : ℕ} (c : Contour row n) where
       (# 2 :* (# 5 :- # 1))
       (a.x ∷ a.y ∷ b.x ∷ b.y ∷ o.x ∷ o.y ∷ []) refl)
 
-  pub gathered_ends : (r s : ℕ) → 2 ≤ n → r ≡ mod64 (pos 0 +ℤ share row (n - 1) 0 1) → s ≡ mod64 (pos r +ℤ share row (n - 2) (n - 1) 0) → Gathered row n s (n - 2)
-  gathered_ends r s h e f = record {
-    high = omega arith;
-    small = rw f (mod64_lt (pos r +ℤ share row (n - 2) (n - 1) 0));
-    is =
-        let end = share row (n - 2) (n - 1) 0 in
-        let all = after row n 0 in
-        ap mod64 (sym (+ℤ_idl (exact (points row)))) ∙ added_on 0 r (share row (n - 1) 0 1) all (exact (points row)) e (whole h)
-        ∙ added_on r s end (all -ℤ end) all f (ring (# 0) (# 1 :+ (# 0 :- # 1)) (all ∷ end ∷ []) refl)
-        ∙ ap (λ (z : ℤ). mod64 (pos s +ℤ (all -ℤ z))) (sym (closing h));
-  }
+  pub gathered_ends : 2 ≤ n → Gathered row n (int_wrap w64 (share row (n - 1) 0 1 +ℤ share row (n - 2) (n - 1) 0)) (n - 2)
+  gathered_ends h =
+      let first = share row (n - 1) 0 1 in
+      let end = share row (n - 2) (n - 1) 0 in
+      let all = after row n 0 in
+      record {
+        high = omega arith;
+        is = ap (int_wrap w64) (rw (whole (omega arith), closing (omega arith)) (ring (# 0 :+ # 1) ((# 0 :+ # 2) :- (# 2 :- # 1)) (first ∷ end ∷ all ∷ []) refl));
+      }
 
-  pub gathered_more : (i sum r : ℕ) → Gathered row n sum i → 0 < i → r ≡ mod64 (pos sum +ℤ share row (i - 1) i (i + 1)) → Gathered row n r (i - 1)
-  gathered_more zero sum r g h e = absurd (omega arith)
-  gathered_more (suc j) sum r g h e =
+  pub gathered_more : (i : ℕ) (sum : ℤ) → Gathered row n sum i → 0 < i → Gathered row n (int_wrap w64 (sum +ℤ share row (i - 1) (i - 1 + 1) (i - 1 + 2))) (i - 1)
+  gathered_more zero sum g h = absurd (omega arith)
+  gathered_more (suc j) sum g h =
       let back : suc j - 1 ≡ j = omega arith in
       let here : suc j ≡ j + 1 = omega arith in
-      let two : suc j + 1 ≡ j + 2 = omega arith in
       let s = share row j (j + 1) (j + 2) in
+      let whole = exact (points row) in
       let all = after row n 0 in
       let rest = after row n (j + 1) in
-      let f : r ≡ mod64 (pos sum +ℤ s) = rw (back, two, here) at e in
       rw back
       (record {
         high = omega (arith, g.high);
-        small = rw f (mod64_lt (pos sum +ℤ s));
-        is = rw here at g.is
-            ∙ added_on sum r s (all -ℤ after row n j) (all -ℤ rest) f
-            (ring (# 0 :- # 2) (# 1 :+ (# 0 :- (# 1 :+ # 2))) (all ∷ s ∷ rest ∷ []) refl ∙ ap (λ (z : ℤ). s +ℤ (all -ℤ z)) (sym (next j (omega (arith, g.high)))));
+        is = ap (λ (z : ℤ). int_wrap w64 (z +ℤ s)) (rw here at g.is) ∙ int_wrap-add_left w64 (whole -ℤ (all -ℤ rest)) s
+            ∙ ap (int_wrap w64) (rw (next j (omega (arith, g.high))) (ring ((# 0 :- (# 1 :- # 2)) :+ # 3) (# 0 :- (# 1 :- (# 3 :+ # 2))) (whole ∷ all ∷ rest ∷ s ∷ []) refl));
       })
 
-  pub gathered_all : (i sum : ℕ) → Gathered row n sum i → i ≤ 0 → sum ≡ mod64 (exact (points row))
-  unfolding mod64
+  pub gathered_all : (i : ℕ) (sum : ℤ) → Gathered row n sum i → i ≤ 0 → sum ≡ reported (points row)
   gathered_all i sum g h =
       let e : i ≡ 0 = omega arith in
-      let all = after row n 0 in
-      let k : sum ≡ mod64 (pos sum) = omega (arith, g.small) in
-      k ∙ sym (rw e at g.is ∙ ap mod64 (ring (# 0 :+ (# 1 :- # 1)) (# 0) (pos sum ∷ all ∷ []) refl))
+      rw e at g.is ∙ ap (int_wrap w64) (ring (# 0 :- (# 1 :- # 1)) (# 0) (exact (points row) ∷ after row n 0 ∷ []) refl) ∙ wrap_is (exact (points row))

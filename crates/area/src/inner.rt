@@ -1,34 +1,21 @@
 // The doubled area of a contour that is not refused, one product a point.
-ghost use Rattle.std.specs.Prelude.{◌≡◌, ◌*◌, ◌^◌, ◌<◌, true, pos, ◌+ℤ◌, ◌*ℤ◌};
+ghost use Rattle.std.specs.Prelude.{◌≡◌, ◌*◌, ◌<◌, true, ◌*ℤ◌};
 ghost use Rattle.integers.specs.Bound.{In};
-ghost use Rattle.integers.specs.Modulo.{mod64};
 ghost use Rattle.grid.specs.Limits.{limit, on_grid};
 ghost use Rattle.grid.specs.Points.{points as points_of};
-ghost use Rattle.grid.specs.Area.{exact, reported};
+ghost use Rattle.grid.specs.Area.{reported};
 ghost use Rattle.replies.specs.Ladder.{first_of};
 ghost use Rattle.grid.specs.Domain.{Contour};
 ghost use Rattle.grid.specs.inside.Rows.{Vertices};
 ghost use Rattle.area.specs.Answers.{refusals};
 ghost use Rattle.area.specs.Shares.{share as share_of};
 
-// The sum of total and t modulo 2^64.
-fn added(total: u64, t: i64) -> u64
-    requires { In (2 ^ 62) t }
-    ensures { result ≡ mod64 (pos total +ℤ t) }
-{
-    if t < 0 {
-        std::num::wrapping_sub_u64(total, (0 - t) as u64)
-    } else {
-        std::num::wrapping_add_u64(total, t as u64)
-    }
-}
-
 // A coordinate times how far another goes.
 fn product(x: i32, dy: i64) -> i64
     requires { (on_grid limit x ≡ true) × In (2 * limit) dy }
     ensures { result ≡ x *ℤ dy }
 {
-    integers::wide(x) * dy
+    i64::from(x) * dy
 }
 
 // The x of a position, times how far y goes from the position before it to the one after it.
@@ -41,22 +28,17 @@ fn share(points: &[i32], before: usize, here: usize, after: usize) -> i64
     product(at.x, across.dy)
 }
 
-// The exact doubled area modulo 2^64: the shares of all positions add up to it.
-fn total(points: &[i32], n: usize) -> u64
+// The doubled area of a contour of n points, modulo 2^64: the shares of all positions add up to it.
+fn total(points: &[i32], n: usize) -> i64
     requires { Contour points.now n × (0 < n) }
-    ensures { result ≡ mod64 (exact (points_of points.now)) }
+    ensures { result ≡ reported (points_of points.now) }
 {
     if n < 3 {
         return 0;
     }
-    let mut sum = added(
-        added(0, share(points, n - 1, 0, 1)),
-        share(points, n - 2, n - 1, 0),
-    );
-    let mut i = n - 2;
-    while 0 < i {
-        sum = added(sum, share(points, i - 1, i, i + 1));
-        i -= 1;
+    let mut sum = share(points, n - 1, 0, 1).wrapping_add(share(points, n - 2, n - 1, 0));
+    for i in (0..n - 2).rev() {
+        sum = sum.wrapping_add(share(points, i, i + 1, i + 2));
     }
     sum
 }
@@ -66,5 +48,5 @@ pub fn doubled_area(points: &[i32]) -> i64
     requires { first_of (refusals points.now) ≡ 0 }
     ensures { result ≡ reported (points_of points.now) }
 {
-    integers::signed_64(total(points, points.len() / 2))
+    total(points, points.len() / 2)
 }

@@ -6,54 +6,37 @@ pub mod inner;
 
 ghost use Rattle.std.specs.Prelude.{◌≡◌};
 ghost use Rattle.replies.specs.Ladder.{first_of};
-ghost use Rattle.area.specs.Answers.{refusals, doubled, half};
+ghost use Rattle.replies.specs.Refusals.{told};
+ghost use Rattle.area.specs.Answers.{refusals, answered, doubled, half};
 
 pub use answer::Area;
+use replies::Refusal;
 
-// The number of the first refusal, or 0.
-pub fn refusal(points: &[i32]) -> u32
-    ensures { result ≡ first_of (refusals points.now) }
+// What an area asks of a contour: its first refusal, if any. It is made anew for each call, since on boxes a call costs as
+// much as the test.
+#[inline(always)]
+pub fn check(points: &[i32]) -> Result<(), Refusal>
+    ensures { told result ≡ first_of (refusals points.now) }
 {
-    let domain = grid::domain(points);
-    if domain != 0 {
-        return domain;
-    }
+    grid::domain(points)?;
     if points.len() / 2 == 0 {
-        return replies::EMPTY;
+        return Err(Refusal::Empty);
     }
-    replies::DONE
+    Ok(())
 }
 
 // The doubled area: counter-clockwise is positive.
-pub fn area_two(points: &[i32]) -> Area
-    ensures { result ≡ doubled points.now }
+pub fn area_two(points: &[i32]) -> Result<i64, Refusal>
+    ensures { answered result ≡ doubled points.now }
 {
-    let refused = refusal(points);
-    if refused != 0 {
-        return Area {
-            reply: refused,
-            value: 0,
-        };
-    }
-    Area {
-        reply: replies::DONE,
-        value: inner::doubled_area(points),
-    }
+    check(points)?;
+    Ok(inner::doubled_area(points))
 }
 
 // The area, cut toward zero.
-pub fn area(points: &[i32]) -> Area
-    ensures { result ≡ half points.now }
+pub fn area(points: &[i32]) -> Result<i64, Refusal>
+    ensures { answered result ≡ half points.now }
 {
-    let refused = refusal(points);
-    if refused != 0 {
-        return Area {
-            reply: refused,
-            value: 0,
-        };
-    }
-    Area {
-        reply: replies::DONE,
-        value: inner::doubled_area(points) / 2,
-    }
+    check(points)?;
+    Ok(inner::doubled_area(points) / 2)
 }

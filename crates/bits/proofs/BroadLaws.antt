@@ -1,20 +1,18 @@
 -- What a broad pen writes is what the pen writes that it is.
 use mathlib.Core.Path.{◌≡◌, sym, ◌∙◌, ap, ap₂, subst}
 use mathlib.Core.Bool.{Bool}
-use mathlib.Core.List.{List, ◌++◌}
+use mathlib.Core.List.{List}
 use Prim.Native.Nat.{ℕ, ◌+◌, ◌-◌, ◌*◌, ◌/◌, ◌%◌, ◌^◌, ◌<◌, ◌≤◌}
 use native.Mathlib.Nat.{mod-lt, mul_assoc, add-mul, mul-add-div_right, mul-add-mod_self_right}
 use native.Mathlib.Omega.{arith}
-use lib.ListN.{length, length-append}
+use lib.ListN.{length}
 use lib.Pow.{pow-add, pow_pos, shl_lt, shl_exact, shl-shr, shr_lt, shr-shr, low, mod-pow-add}
 use Rattle.bits.specs.declared.inner.pens.Pen.{Pen}
 use Rattle.bits.specs.declared.inner.broad.Broad.{Broad}
 use Rattle.rows.specs.Rows.{placed}
-use Rattle.rows.proofs.PlacedLaws.{placed_behind}
 use Rattle.bits.specs.Bits.{field, bits}
 use Rattle.bits.specs.inside.Words.{spelled}
 use Rattle.bits.specs.inside.Pens.{pen, Ready, Wrote, broad, narrowed, Fronted}
-use Rattle.bits.proofs.BitLaws.{field-append, bits-append}
 use Rattle.bits.proofs.WordLaws.{spelled-length, spelled_bits}
 use Rattle.bits.proofs.PenLaws.{up_below, wrote_up, wrote_out}
 
@@ -118,34 +116,16 @@ module _ (b : Broad) (row : List ℕ) (w n : ℕ) (f : Fronted b) (within : n < 
     pub swept_rest : Fronted (broad (b.at + 8) (n * 2 ^ (64 - r) % 2 ^ 64) r)
     swept_rest = fronted (b.at + 8) (n % 2 ^ r) r few (mod-lt n (pow_pos r)) _ (lost_of n r few)
 
-    module _ (mid exit : List ℕ) (room : b.at + 8 ≤ length row) (full : ℕ) (is : full ≡ b.kept + n / 2 ^ r)
-        (first : mid ≡ placed b.at (spelled 4 (full / 2 ^ 32)) row) (second : exit ≡ placed (b.at + 4) (spelled 4 full) mid) where
-      abbrev eight : List ℕ
-      eight = spelled 4 (full / 2 ^ 32) ++ spelled 4 full
-
-      long : length eight ≡ 8
-      long = length-append (spelled 4 (full / 2 ^ 32)) (spelled 4 full) ∙ ap₂ ◌+◌ (spelled-length 4 (full / 2 ^ 32)) (spelled-length 4 full)
-
-      whole : bits eight ≡ field (8 * length eight) ((m * 2 ^ w + n) / 2 ^ r)
-      whole =
-          let t : 8 * length eight ≡ 64 = ap (λ (i : ℕ). 8 * i) long in
-          bits-append (spelled 4 (full / 2 ^ 32)) (spelled 4 full)
-          ∙ ap₂ (λ (x y : List Bool). x ++ y) (spelled_bits 4 (full / 2 ^ 32)) (spelled_bits 4 full)
-          ∙ field-append 32 32 full
-          ∙ ap₂ field (sym t) (is ∙ sym full_is)
-
-      put : exit ≡ placed b.at eight row
-      put =
-          let l = spelled-length 4 (full / 2 ^ 32) in
-          second ∙ ap (placed (b.at + 4) (spelled 4 full)) first
-          ∙ placed_behind row b.at (spelled 4 (full / 2 ^ 32)) (spelled 4 full) (b.at + 4) (omega (arith, l)) (omega (arith, l))
-
-      pub swept_out : Wrote (narrowed b) (field w n) row (narrowed (broad (b.at + 8) (n * 2 ^ (64 - r) % 2 ^ 64) r)) exit
+    module _ (room : b.at + 8 ≤ length row) (full : ℕ) (is : full ≡ b.kept + n / 2 ^ r) where
+      pub swept_out : Wrote (narrowed b) (field w n) row (narrowed (broad (b.at + 8) (n * 2 ^ (64 - r) % 2 ^ 64) r)) (placed b.at (spelled 8 full) row)
       swept_out =
-          let out = wrote_out eight r up (omega (arith, long, e)) whole (omega (arith, long)) in
-          rw (narrowed_is (b.at + 8) (n % 2 ^ r) r few (mod-lt n (pow_pos r)) _ (lost_of n r few), put)
-          (subst (λ (i : ℕ). Wrote (narrowed b) (field w n) row (pen (b.at + 8) i r) (placed b.at eight row)) rest_is
-          (subst (λ (i : ℕ). Wrote (narrowed b) (field w n) row (pen (b.at + i) ((m * 2 ^ w + n) % 2 ^ r) r) (placed b.at eight row)) long out))
+          let long : length (spelled 8 full) ≡ 8 = spelled-length 8 full in
+          let t : 8 * length (spelled 8 full) ≡ 64 = ap (λ (i : ℕ). 8 * i) long in
+          let whole : bits (spelled 8 full) ≡ field (8 * length (spelled 8 full)) ((m * 2 ^ w + n) / 2 ^ r) = spelled_bits 8 full ∙ ap₂ field (sym t) (is ∙ sym full_is) in
+          let out = wrote_out (spelled 8 full) r up (omega (arith, long, e)) whole (omega (arith, long)) in
+          rw (narrowed_is (b.at + 8) (n % 2 ^ r) r few (mod-lt n (pow_pos r)) _ (lost_of n r few))
+          (subst (λ (i : ℕ). Wrote (narrowed b) (field w n) row (pen (b.at + 8) i r) (placed b.at (spelled 8 full) row)) rest_is
+          (subst (λ (i : ℕ). Wrote (narrowed b) (field w n) row (pen (b.at + i) ((m * 2 ^ w + n) % 2 ^ r) r) (placed b.at (spelled 8 full) row)) long out))
 
 -- the first 32 of the bits that are kept go to the row
 module _ {p : Pen} {l : List Bool} {row mid : List ℕ} (b : Broad) (r : ℕ) (f : Fronted b) (g : Wrote p l row (narrowed b) mid) (e : b.width ≡ 32 + r) where

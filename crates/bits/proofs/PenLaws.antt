@@ -2,12 +2,14 @@
 use mathlib.Core.Path.{◌≡◌, refl, sym, ◌∙◌, ap, ap₂, subst}
 use mathlib.Core.Bool.{Bool}
 use mathlib.Core.List.{List, [], ◌∷◌, ◌++◌, append_assoc, append-nil}
-use Prim.Native.Nat.{ℕ, suc, ◌+◌, ◌-◌, ◌*◌, ◌/◌, ◌%◌, ◌^◌, ◌<◌, ◌≤◌}
-use native.Mathlib.Nat.{mod-lt, lt_of_lt_of_le, mul-le-mul_right}
+use Prim.Native.Nat.{ℕ, ◌+◌, ◌-◌, ◌*◌, ◌/◌, ◌%◌, ◌^◌, ◌<◌, ◌≤◌}
+use native.Mathlib.Nat.{mod-lt, mul-le-mul_right}
 use native.Mathlib.Omega.{arith}
 use lib.ListN.{length, take, drop, set, length-append}
-use lib.Seq.{take_at, drop_at, drop-drop, length-take-le, sets-eq}
-use lib.Pow.{pow-add, pow_pos, pow_mono, shl_exact, shr_lt}
+use lib.Seq.{take_at, drop_at, drop-drop, length-take-le}
+use lib.Pow.{pow-add, pow_pos, shl_exact, shr_lt}
+use borrow.Rule.Slice.PartMut.{put_mid}
+use Rattle.std.proofs.lemmas.Nat.{one_shl}
 use Rattle.bits.specs.declared.inner.pens.Pen.{Pen}
 use Rattle.rows.specs.Rows.{placed}
 use Rattle.rows.proofs.PlacedLaws.{placed_long, set_placed}
@@ -16,7 +18,6 @@ use Rattle.bits.specs.inside.Words.{spelled}
 use Rattle.bits.specs.inside.Pens.{pen, inked, reached, Ready, Space, Wrote, Lifted}
 use Rattle.bits.proofs.BitLaws.{field-length, field_low, field-append, field_joined, bits-append}
 use Rattle.bits.proofs.WordLaws.{spelled-length, spelled_bits}
-use Rattle.bits.proofs.CodeLaws.{one_shifted}
 
 -- a row in which d was placed at `at`
 module _ (row d : List ℕ) (at : ℕ) (room : at + length d ≤ length row) where
@@ -85,9 +86,6 @@ module _ (p : Pen) (row : List ℕ) (w n : ℕ) (ready : Ready p) (within_32 : w
   pub taken_up : p.kept * 2 ^ w % 2 ^ 64 ≡ p.kept * 2 ^ w
   taken_up = shl_exact p.width w 64 ready.small (omega (arith, ready.few))
 
-  pub up_fits : p.kept * 2 ^ w + n < 2 ^ 64
-  up_fits = lt_of_lt_of_le (up_below p row w n ready.small within) (pow_mono {j = 64} (omega (arith, ready.few)))
-
 -- bytes that are full go to the row
 pub wrote_out : {p q : Pen} {l : List Bool} {row mid : List ℕ} (d : List ℕ) (rest : ℕ) → Wrote p l row q mid → q.width ≡ 8 * length d + rest
     → bits d ≡ field (8 * length d) (q.kept / 2 ^ rest) → q.at + length d ≤ length row
@@ -108,17 +106,12 @@ wrote_out {p} {q} {l} {row} {mid} d rest f e s room =
       long = placed_long mid q.at d r ∙ f.long;
     }
 
--- four bytes that are stored one by one
-pub four_stored : (row : List ℕ) (at n : ℕ) → at + 4 ≤ length row
-    → set (set (set (set row at (n / 16777216 % 256)) (at + 1) (n / 65536 % 256)) (at + 2) (n / 256 % 256)) (at + 3) (n % 256) ≡ placed at (spelled 4 n) row
-unfolding spelled
-four_stored row at n h =
-    let a : at + 1 ≡ suc at = omega arith in
-    let b : at + 2 ≡ suc (suc at) = omega arith in
-    let d : at + 3 ≡ suc (suc (suc at)) = omega arith in
-    let z : n ≡ n / 1 = omega arith in
-    rw (a, b, d) (ap (λ (m : ℕ). set (set (set (set row at (n / 16777216 % 256)) (suc at) (n / 65536 % 256)) (suc (suc at)) (n / 256 % 256)) (suc (suc (suc at))) (m % 256)) z
-    ∙ sets-eq (n / 16777216 % 256 ∷ n / 65536 % 256 ∷ n / 256 % 256 ∷ n / 1 % 256 ∷ []) row at h)
+-- a part of a row that is written over
+pub written : {A : Type 0} (row d : List A) (at n : ℕ) → n ≡ length d → put_mid at n row d ≡ placed at d row
+written row d at n e =
+    ap (λ (k : ℕ). take at row ++ (d ++ drop k (drop at row))) e
+    ∙ ap (λ (l : List _). take at row ++ (d ++ l)) (drop-drop (length d) at row)
+    ∙ sym (append_assoc (take at row) d (drop (at + length d) row))
 
 -- a field that fills four bytes
 pub wrote_four : (p : Pen) (row exit : List ℕ) (w n h r : ℕ) → Ready p → Space row p w → n < 2 ^ w → h ≡ p.kept * 2 ^ w % 2 ^ 64 + n → p.width + w ≡ 32 + r
@@ -130,7 +123,7 @@ wrote_four p row exit w n h r ready space within e f g =
     let up = subst (λ (m : ℕ). Wrote p (field w n) row (pen p.at m (p.width + w)) row) (sym same) (wrote_up p row w n ready.small within) in
     let t : 8 * length (spelled 4 (h / 2 ^ r)) ≡ 8 * 4 = ap (λ (m : ℕ). 8 * m) l in
     let out = wrote_out (spelled 4 (h / 2 ^ r)) r up (omega (arith, l, f)) (spelled_bits 4 (h / 2 ^ r) ∙ ap (λ (m : ℕ). field m (h / 2 ^ r)) (sym t)) (omega (arith, l, f, space.room)) in
-    rw (g, one_shifted r (omega (arith, ready.few))) (subst (λ (m : ℕ). Wrote p (field w n) row (pen (p.at + m) (h % 2 ^ r) r) (placed p.at (spelled 4 (h / 2 ^ r)) row)) l out)
+    rw (g, one_shl r 64 (omega (arith, ready.few))) (subst (λ (m : ℕ). Wrote p (field w n) row (pen (p.at + m) (h % 2 ^ r) r) (placed p.at (spelled 4 (h / 2 ^ r)) row)) l out)
 
 -- one byte
 pub top_byte : (q : Pen) (r : ℕ) → q.kept < 2 ^ q.width → q.width ≡ 8 + r → q.kept / 2 ^ r < 256
@@ -140,7 +133,7 @@ pub wrote_one : {p q : Pen} {l : List Bool} {row mid : List ℕ} (r : ℕ) → W
     → Wrote p l row (pen (q.at + 1) (q.kept % (1 * 2 ^ r % 2 ^ 64)) r) (set mid q.at (q.kept / 2 ^ r))
 unfolding bits
 wrote_one {p} {q} {l} {row} {mid} r f e s room =
-    rw (one_shifted r s, set_placed mid q.at (q.kept / 2 ^ r) (omega (arith, f.long)))
+    rw (one_shl r 64 s, set_placed mid q.at (q.kept / 2 ^ r) (omega (arith, f.long)))
     (wrote_out (q.kept / 2 ^ r ∷ []) r f e (append-nil (field 8 (q.kept / 2 ^ r))) (omega arith))
 
 -- filled to whole bytes, and spilled

@@ -3,15 +3,15 @@ use mathlib.Core.Path.{◌≡◌, refl, sym, ◌∙◌, ap, ap₂, subst}
 use mathlib.Core.Bool.{Bool}
 use mathlib.Core.List.{List, [], ◌∷◌, ◌++◌}
 use Prim.Native.Nat.{ℕ, zero, suc, ◌+◌, ◌-◌, ◌*◌, ◌/◌, ◌%◌, ◌^◌, ◌<◌, ◌≤◌}
-use native.Mathlib.Nat.{mod-lt, mul-le-mul_right, add-zero, lt_of_lt_of_le, div-add-mod', div-lt_iff_lt-mul, add-mul-mod_self_right}
+use native.Mathlib.Nat.{mod-lt, div-add-mod', div-lt_iff_lt-mul, add-mul-mod_self_right}
 use native.Mathlib.Omega.{arith}
 use lib.ListN.{length, take, drop, get_or, length-take, length-drop}
-use lib.Seq.{take-append-add, take-nil, take-add, take-take, drop-drop, drop_at, length-take-le, get_or-drop}
-use lib.Bits.{bit_or, or_shifted}
-use lib.Pow.{pow-add, pow_pos, pow_mono, shl_exact, field as shifted_field, shr-shr, shl-shr}
+use lib.Seq.{take-append-add, take-append-le, drop-append-le, take-nil, take-add, take-take, drop-drop, drop_at, length-take-le, get_or-drop}
+use lib.Pow.{pow-add, pow_pos, field as shifted_field, shr-shr, shl-shr}
+use Rattle.std.specs.Int.{w64, from_be_bytes, to_be_bytes}
 use Rattle.bits.specs.Bits.{value, field, Bytes, bits, padded}
 use Rattle.bits.specs.inside.Words.{word, spelled, leading, Ahead}
-use Rattle.bits.proofs.BitLaws.{value-append, value_of, value_front, value_back, field-length, field_low, field-append, bits-length, bits_dropped, padded_bits}
+use Rattle.bits.proofs.BitLaws.{value-append, value_of, value_front, value_back, field-length, field_low, field-append, bits-length, bits-append, bits_dropped, padded_bits}
 
 -- every element is a byte, and so is what is missing
 abbrev pub EachByte : List ℕ → Type 0
@@ -20,50 +20,11 @@ EachByte f = (i : ℕ) → get_or f i 0 < 256
 pub byte_drop : (k : ℕ) (f : List ℕ) → EachByte f → EachByte (drop k f)
 byte_drop k f h i = rw (get_or-drop k f i 0) (h (k + i))
 
-pub word_none : (f : List ℕ) → word 0 f ≡ 0
+-- eight bytes as std reads them
+pub word_read : (f : List ℕ) → 8 ≤ length f → from_be_bytes w64 (take 8 f) ≡ word 8 f
 unfolding word
-word_none f = refl
-
-pub word_add : (j k : ℕ) (f : List ℕ) → word (j + k) f ≡ word j f * 2 ^ (8 * k) + word k (drop j f)
-unfolding word
-word_add zero k f =
-    let e : 0 + k ≡ k = omega arith in
-    ap (λ (n : ℕ). word n f) e ∙ omega arith
-word_add (suc j) k f =
-    let e : suc j + k ≡ suc (j + k) = omega arith in
-    let q : 8 * (j + k) ≡ 8 * j + 8 * k = omega arith in
-    let p : 2 ^ (8 * (j + k)) ≡ 2 ^ (8 * j) * 2 ^ (8 * k) = ap (λ (n : ℕ). 2 ^ n) q ∙ pow-add 2 (8 * j) (8 * k) in
-    let o : 1 + j ≡ suc j = omega arith in
-    let d : drop j (drop 1 f) ≡ drop (suc j) f = drop-drop j 1 f ∙ ap (λ (n : ℕ). drop n f) o in
-    ap (λ (n : ℕ). word n f) e
-    ∙ ap₂ (λ (a b : ℕ). get_or f 0 0 * a + b) p (word_add j k (drop 1 f) ∙ ap (λ (g : List ℕ). word j (drop 1 f) * 2 ^ (8 * k) + word k g) d)
-    ∙ omega arith
-
-pub word_below : (k : ℕ) (f : List ℕ) → EachByte f → word k f < 2 ^ (8 * k)
-unfolding word
-word_below zero f h = omega arith
-word_below (suc k) f h =
-    let q : 8 * suc k ≡ 8 + 8 * k = omega arith in
-    let p : 2 ^ (8 * suc k) ≡ 256 * 2 ^ (8 * k) = ap (λ (n : ℕ). 2 ^ n) q ∙ pow-add 2 8 (8 * k) in
-    more (get_or f 0 0) (2 ^ (8 * k)) (word k (drop 1 f)) (2 ^ (8 * suc k)) p (h 0) (word_below k (drop 1 f) (byte_drop 1 f h))
-  where
-    more : (a p w q : ℕ) → q ≡ 256 * p → a < 256 → w < p → a * p + w < q
-    more a p w q e h l =
-        let m : (a + 1) * p ≤ 256 * p = mul-le-mul_right p (omega arith) in
-        omega (arith, m, e, l)
-
--- one byte more behind those of a word, as the code adds it
-pub word_more : (f : List ℕ) (at i : ℕ) → word i (drop at f) * 256 + get_or f (at + i) 0 ≡ word (i + 1) (drop at f)
-unfolding word
-word_more f at i =
-    let a : get_or (drop i (drop at f)) 0 0 ≡ get_or f (at + i) 0 = get_or-drop i (drop at f) 0 0 ∙ get_or-drop at f (i + 0) 0 ∙ ap (λ (k : ℕ). get_or f (at + k) 0) (add-zero i) in
-    omega (arith, a, word_add i 1 (drop at f))
-
-pub more_by_or : (n b : ℕ) → n < 2 ^ 56 → b < 256 → bit_or (n * 2 ^ 8 % 2 ^ 64) b ≡ n * 256 + b
-more_by_or n b h l = rw (shl_exact {a = n} 56 8 64 h (omega arith)) (or_shifted n 8 b l)
-
-pub more_fits : (g : List ℕ) (i : ℕ) → EachByte g → i < 8 → word i g < 2 ^ 56
-more_fits g i h l = lt_of_lt_of_le (word_below i g h) (pow_mono {j = 56} (omega arith))
+word_read (a ∷ b ∷ c ∷ d ∷ e ∷ g ∷ h ∷ i ∷ f) l = omega arith
+word_read _ l = absurd (omega arith)
 
 -- the first j bits of the bits from s on
 pub cut : {A : Type 0} (l : List A) (s j : ℕ) → s ≤ length l → take j (drop s l) ≡ drop s (take (s + j) l)
@@ -191,3 +152,26 @@ spelled_bytes (suc k) n (suc i) h = spelled_bytes k n i (omega arith)
 
 pub padded_field : (k n : ℕ) → padded (field (8 * k) n) ≡ spelled k n
 padded_field k n = ap padded (sym (spelled_bits k n)) ∙ padded_bits (spelled k n) (spelled_bytes k n)
+
+-- bytes that stand behind a field play no part in it
+pub in_front : (f g : List ℕ) (at w : ℕ) → at + w ≤ 8 * length f → take w (drop at (bits (f ++ g))) ≡ take w (drop at (bits f))
+in_front f g at w h =
+    let n : at + w ≤ length (bits f) = omega (arith, bits-length f) in
+    ap (λ (l : List Bool). take w (drop at l)) (bits-append f g)
+    ∙ ap (take w) (drop-append-le at (bits f) (bits g) (omega arith))
+    ∙ take-append-le w (drop at (bits f)) (bits g) (omega (arith, length-drop at (bits f)))
+
+-- bytes as std spells them
+pub spelled_four : (n : ℕ) → drop 4 (to_be_bytes w64 n) ≡ spelled 4 n
+unfolding spelled
+spelled_four n =
+    let z : n ≡ n / 1 = omega arith in
+    ap (λ (m : ℕ). n / 16777216 % 256 ∷ n / 65536 % 256 ∷ n / 256 % 256 ∷ m % 256 ∷ []) z
+
+pub spelled_eight : (n : ℕ) → to_be_bytes w64 n ≡ spelled 8 n
+unfolding spelled
+spelled_eight n =
+    let z : n ≡ n / 1 = omega arith in
+    ap
+    (λ (m : ℕ). n / 2 ^ 56 % 256 ∷ n / 2 ^ 48 % 256 ∷ n / 2 ^ 40 % 256 ∷ n / 2 ^ 32 % 256 ∷ n / 2 ^ 24 % 256 ∷ n / 2 ^ 16 % 256 ∷ n / 2 ^ 8 % 256 ∷ m % 256 ∷ [])
+    z

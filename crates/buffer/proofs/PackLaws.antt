@@ -1,6 +1,6 @@
 -- What is known of a set that is packed or added to.
 use mathlib.Core.Path.{◌≡◌, refl, sym, ◌∙◌}
-use mathlib.Core.Bool.{Bool, true, ◌&&◌}
+use mathlib.Core.Bool.{Bool, true, false, ◌&&◌}
 use mathlib.Core.List.{List, [], ◌++◌, map}
 use Prim.Native.Nat.{ℕ, ◌+◌, ◌*◌, ◌%◌, ◌<◌, ◌≤◌, ◌^◌}
 use native.Mathlib.Omega.{arith}
@@ -10,9 +10,10 @@ use lib.Dec.{leb}
 use borrow.Author.Tests.{ltb-false, eqb-false, not-false}
 use Rattle.integers.proofs.Logic.{and_left, and_right}
 use Rattle.grid.specs.Limits.{limit, most, all_on_grid}
-use Rattle.replies.specs.Ladder.{first_of, so_far, room}
+use Rattle.replies.specs.Ladder.{first_of}
 use Rattle.grid.specs.Domain.{count}
-use Rattle.replies.proofs.LadderLaws.{clear}
+use Rattle.replies.proofs.LadderLaws.{first_is, clear}
+use Rattle.replies.proofs.LadderLaws.First.{foot}
 use Rattle.buffer.specs.Spans.{spans, rows, sound, moved}
 use Rattle.buffer.specs.inside.Ranges.{Movable}
 use Rattle.buffer.specs.declared.answer.Packed.{Packed}
@@ -25,7 +26,7 @@ use Rattle.buffer.proofs.SpanLaws.{movable}
 use Rattle.buffer.proofs.RefusalLaws.{accepted}
 use Rattle.buffer.proofs.RowLaws.{spans-length, records_front}
 use Rattle.rows.proofs.RowLaws.{placed_front}
-use Rattle.buffer.proofs.AnswerLaws.{Fits, packing_refused, packing_fits, packing_done, contours_refused, contours_fit, contours_done}
+use Rattle.buffer.proofs.AnswerLaws.{Fits, packing_no_room, packing_fits, packing_done, contours_no_room, contours_fit, contours_done}
 
 pub shape_movable : (p : List ℤ) (cs : List (List ℕ)) (k : ℕ) → k ≡ first_of (C.refusals p cs) → k ≡ 0 → Movable cs 0
 unfolding most
@@ -86,31 +87,33 @@ sound_parts p cs ss more mcs e =
     record { contours = and_left a b ab; shapes = and_right a b ab; added = and_right (a && b) (sound (spans mcs) (count more)) e }
 
 -- packing the contours of a row
-module _ (k r : ℕ) (p : List ℤ) (cs : List (List ℕ)) (out : List ℤ) (records : List (List ℕ))
-    (f : r ≡ first_of (so_far k ++ room (leb (length p) (length out) && leb (length cs) (length records)))) where
-  pub pack_refused : (w : Packed) → w ≡ packed r 0 0 0 → (r ≡ 0 → ⊥) → leaving w out records [] ≡ stored (so_far k) p (spans cs) [] out records []
-  pack_refused = contours_refused p (spans cs) out records _ _ refl (sym (spans-length cs)) k r f
+module _ (p : List ℤ) (cs : List (List ℕ)) (out : List ℤ) (records : List (List ℕ)) where
+  pub pack_done : (leb (length p) (length out) && leb (length cs) (length records)) ≡ true → (o : List ℤ) (d : List (List ℕ))
+      → o ≡ placed 0 p out → d ≡ placed 0 (rows (map (moved 0) (spans cs))) records
+      → leaving (packed 0 (count p) (length cs) 0) o d [] ≡ stored [] p (spans cs) [] out records []
+  pack_done f o d g h =
+      contours_done p (spans cs) out records _ _ refl (sym (spans-length cs)) [] tt (first_is [] 0 foot) f _ o d refl (g ∙ placed_front out p) (h ∙ records_front cs records)
 
-  pub pack_fits : r ≡ 0 → Fits k (length p) (length cs) 0 out records []
-  pack_fits = contours_fit p (spans cs) out records _ _ refl (sym (spans-length cs)) k r f
+  pub pack_no_room : (leb (length p) (length out) && leb (length cs) (length records)) ≡ false → leaving (packed 5 0 0 0) out records [] ≡ stored [] p (spans cs) [] out records []
+  pack_no_room f = contours_no_room p (spans cs) out records _ _ refl (sym (spans-length cs)) [] tt (first_is [] 0 foot) f
 
-  pub pack_done : (o : List ℤ) (d : List (List ℕ)) → r ≡ 0 → o ≡ placed 0 p out → d ≡ placed 0 (rows (map (moved 0) (spans cs))) records
-      → leaving (packed 0 (count p) (length cs) 0) o d [] ≡ stored (so_far k) p (spans cs) [] out records []
-  pack_done o d z g h =
-      contours_done p (spans cs) out records _ _ refl (sym (spans-length cs)) k r f _ o d z refl (g ∙ placed_front out p) (h ∙ records_front cs records)
+  pub pack_fits : (leb (length p) (length out) && leb (length cs) (length records)) ≡ true → Fits (length p) (length cs) 0 out records []
+  pack_fits f = contours_fit p (spans cs) out records _ _ refl (sym (spans-length cs)) [] tt (first_is [] 0 foot) f
 
 -- packing the shapes of a row
-module _ (k r : ℕ) (p : List ℤ) (cs ss : List (List ℕ)) (out : List ℤ) (records groups : List (List ℕ))
-    (f : r ≡ first_of (so_far k ++ room (leb (length p) (length out) && leb (length cs) (length records) && leb (length ss) (length groups)))) where
-  pub group_refused : (w : Packed) → w ≡ packed r 0 0 0 → (r ≡ 0 → ⊥) → leaving w out records groups ≡ stored (so_far k) p (spans cs) (spans ss) out records groups
-  group_refused = packing_refused p (spans cs) (spans ss) out records groups _ _ _ refl (sym (spans-length cs)) (sym (spans-length ss)) k r f
+module _ (p : List ℤ) (cs ss : List (List ℕ)) (out : List ℤ) (records groups : List (List ℕ)) where
+  abbrev roomy : Bool → Type 0
+  roomy b = (leb (length p) (length out) && leb (length cs) (length records) && leb (length ss) (length groups)) ≡ b
 
-  pub group_fits : r ≡ 0 → Fits k (length p) (length cs) (length ss) out records groups
-  group_fits = packing_fits p (spans cs) (spans ss) out records groups _ _ _ refl (sym (spans-length cs)) (sym (spans-length ss)) k r f
-
-  pub group_done : (o : List ℤ) (c d : List (List ℕ)) → r ≡ 0 → o ≡ placed 0 p out
+  pub group_done : roomy true → (o : List ℤ) (c d : List (List ℕ)) → o ≡ placed 0 p out
       → c ≡ placed 0 (rows (map (moved 0) (spans cs))) records → d ≡ placed 0 (rows (map (moved 0) (spans ss))) groups
-      → leaving (packed 0 (count p) (length cs) (length ss)) o c d ≡ stored (so_far k) p (spans cs) (spans ss) out records groups
-  group_done o c d z g h i =
-      packing_done p (spans cs) (spans ss) out records groups _ _ _ refl (sym (spans-length cs)) (sym (spans-length ss)) k r f _ o c d z refl
+      → leaving (packed 0 (count p) (length cs) (length ss)) o c d ≡ stored [] p (spans cs) (spans ss) out records groups
+  group_done f o c d g h i =
+      packing_done p (spans cs) (spans ss) out records groups _ _ _ refl (sym (spans-length cs)) (sym (spans-length ss)) [] tt (first_is [] 0 foot) f _ o c d refl
       (g ∙ placed_front out p) (h ∙ records_front cs records) (i ∙ records_front ss groups)
+
+  pub group_no_room : roomy false → leaving (packed 5 0 0 0) out records groups ≡ stored [] p (spans cs) (spans ss) out records groups
+  group_no_room f = packing_no_room p (spans cs) (spans ss) out records groups _ _ _ refl (sym (spans-length cs)) (sym (spans-length ss)) [] tt (first_is [] 0 foot) f
+
+  pub group_fits : roomy true → Fits (length p) (length cs) (length ss) out records groups
+  group_fits f = packing_fits p (spans cs) (spans ss) out records groups _ _ _ refl (sym (spans-length cs)) (sym (spans-length ss)) [] tt (first_is [] 0 foot) f

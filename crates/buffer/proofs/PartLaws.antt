@@ -10,6 +10,10 @@ use lib.IntN.{ℤ}
 use lib.Dec.{ltb}
 use borrow.Author.Tests.{ltb-true, ltb-false}
 use Rattle.integers.proofs.Logic.{and_left, and_right}
+use Rattle.std.proofs.Common.{Err, Ok, Result}
+use Rattle.std.specs.Result.{result_unwrap_or}
+use Rattle.replies.specs.declared.refusal.Refusal.{Refusal}
+use Rattle.replies.specs.Refusals.{number}
 use Rattle.replies.specs.Ladder.{first_of}
 use Rattle.grid.specs.Limits.{limit}
 use Rattle.grid.specs.Domain.{count, domain, Contour}
@@ -21,7 +25,8 @@ use Rattle.buffer.specs.Sets.{cut, contour, contours, shapes}
 use Rattle.buffer.specs.inside.Ranges.{Names}
 use Rattle.rows.specs.Parts.{Part, none}
 use Rattle.buffer.specs.Parts.{named, contour_parts, shape_parts, handed}
-use Rattle.buffer.specs.Answers.{counted}
+use Rattle.buffer.specs.Answers.{counted, counted_as}
+use Rattle.buffer.proofs.AnswerLaws.{count_refused}
 use Rattle.buffer.specs.Contours as C
 use Rattle.buffer.specs.Shapes as S
 use Rattle.buffer.proofs.ListLaws.{map_at, map_cut_at}
@@ -160,27 +165,23 @@ module _ {A : Type 0} (f : Span → A) (cs ss : List (List ℕ)) (s : ℕ) where
         ∙ made_at f cs (get_or (get_or ss s []) 0 0 + c) d (omega (arith, w.ends))
 
 -- how many contours a shape has
-module _ (p : List ℤ) (cs ss : List (List ℕ)) (s r : ℕ) (e : r ≡ first_of (S.refusals p cs ss)) where
-  pub inside_refused : (a : Counted) → a ≡ counted r 0 → (r ≡ 0 → ⊥) → a ≡ S.contours_in p cs ss s
+module _ (p : List ℤ) (cs ss : List (List ℕ)) (s : ℕ) where
+  pub inside_refused : (r : Refusal) → number r ≡ first_of (S.refusals p cs ss) → counted_as (Err r) ≡ S.contours_in p cs ss s
   unfolding S.contours_in
-  inside_refused a f n = f ∙ rw (← e) (go r n)
-    where
-      go : (r : ℕ) → (r ≡ 0 → ⊥) → counted r 0 ≡ counted r (length (get_or (shapes p (spans cs) (spans ss)) s []))
-      go zero n = absurd (n refl)
-      go (suc r) n = refl
+  inside_refused r e = count_refused r _ _ e
 
-  module _ (z : r ≡ 0) where
-    pub inside_absent : (a : Counted) → a ≡ counted 0 0 → length ss ≤ s → a ≡ S.contours_in p cs ss s
+  module _ (e : 0 ≡ first_of (S.refusals p cs ss)) where
+    pub inside_absent : length ss ≤ s → record { reply = 0; count = 0 } ≡ S.contours_in p cs ss s
     unfolding S.contours_in shape
-    inside_absent a f h = f ∙ rw (← e, z) (ap (λ (l : List (List ℤ)). counted 0 (length l)) (sym (shapes_past (contour p) cs ss s h)))
+    inside_absent h = rw (← e) (ap (λ (l : List (List ℤ)). counted 0 (length l)) (sym (shapes_past (contour p) cs ss s h)))
 
     module _ (h : s < length ss) where
       pub shape_within : Within (length cs) (span (get_or ss s []))
-      shape_within = range_within ss (length cs) s (and_right (sound (spans cs) (count p)) (sound (spans ss) (length cs)) (accepted limit p _ (sym e ∙ z)).sound) h
+      shape_within = range_within ss (length cs) s (and_right (sound (spans cs) (count p)) (sound (spans ss) (length cs)) (accepted limit p _ (sym e)).sound) h
 
-      pub inside_there : (a : Counted) → a ≡ counted 0 (get_or (get_or ss s []) 1 0 - get_or (get_or ss s []) 0 0) → a ≡ S.contours_in p cs ss s
+      pub inside_there : record { reply = 0; count = get_or (get_or ss s []) 1 0 - get_or (get_or ss s []) 0 0 } ≡ S.contours_in p cs ss s
       unfolding S.contours_in shape
-      inside_there a f = f ∙ rw (← e, z) (ap (λ (n : ℕ). counted 0 n) (sym (shape-length (contour p) cs ss s shape_within h)))
+      inside_there = rw (← e) (ap (λ (n : ℕ). counted 0 n) (sym (shape-length (contour p) cs ss s shape_within h)))
 
 -- a contour of a shape
 pub record There (p : Part) (cs ss : List (List ℕ)) (s c : ℕ) : Type 0 where
@@ -189,7 +190,7 @@ pub record There (p : Part) (cs ss : List (List ℕ)) (s c : ℕ) : Type 0 where
   pub is : named p (span (get_or cs (get_or (get_or ss s []) 0 0 + c) [])) ≡ S.contour_of p cs ss s c
 
 module _ (p : Part) (cs ss : List (List ℕ)) (s c : ℕ) (a : Counted) (e : a ≡ S.contours_in p.numbers cs ss s) where
-  pub not_inside : a.count ≤ c → none p ≡ S.contour_of p cs ss s c
+  not_inside : a.count ≤ c → none p ≡ S.contour_of p cs ss s c
   unfolding S.contours_in S.contour_of
   not_inside h = go (first_of (S.refusals p.numbers cs ss)) (rw (e, shape_is p (spans cs) (spans ss) s, length-map) at h)
     where
@@ -200,7 +201,7 @@ module _ (p : Part) (cs ss : List (List ℕ)) (s c : ℕ) (a : Counted) (e : a �
       go zero h = sym (get_or-eq_default l (none p) h)
       go (suc r) h = refl
 
-  pub inside : c < a.count → There p cs ss s c
+  inside : c < a.count → There p cs ss s c
   unfolding S.contours_in S.contour_of shape
   inside h = go (first_of (S.refusals p.numbers cs ss)) refl (rw e at h)
     where
@@ -212,7 +213,7 @@ module _ (p : Part) (cs ss : List (List ℕ)) (s c : ℕ) (a : Counted) (e : a �
           there false g = absurd (omega (arith, ap length (shapes_past (contour p.numbers) cs ss s (ltb-false _ _ g))))
           there true g =
               let k = ltb-true s (length ss) g in
-              let w = shape_within p.numbers cs ss s 0 f refl k in
+              let w = shape_within p.numbers cs ss s f k in
               let l : c < get_or (get_or ss s []) 1 0 - get_or (get_or ss s []) 0 0 = omega (arith, shape-length (contour p.numbers) cs ss s w k) in
               let ok = accepted limit p.numbers _ (sym f) in
               record {
@@ -220,3 +221,15 @@ module _ (p : Part) (cs ss : List (List ℕ)) (s c : ℕ) (a : Counted) (e : a �
                 names = names_of p.numbers cs _ ok.even (and_left (sound (spans cs) (count p.numbers)) _ ok.sound) (omega (arith, w.ends));
                 is = rw (← f) (sym (shape_at (named p) cs ss s w k c (none p) l));
               }
+
+-- a contour of a shape, by how many the shape has, 0 where it is refused
+count_or_none : (x : Result ℕ Refusal) → result_unwrap_or x 0 ≡ (counted_as x).count
+count_or_none (Ok n) = refl
+count_or_none (Err r) = refl
+
+module _ (p : Part) (cs ss : List (List ℕ)) (s c : ℕ) (x : Result ℕ Refusal) (e : counted_as x ≡ S.contours_in p.numbers cs ss s) (held : ℕ) (q : held ≡ result_unwrap_or x 0) where
+  pub none_held : held ≤ c → none p ≡ S.contour_of p cs ss s c
+  none_held h = not_inside p cs ss s c (counted_as x) e (omega (arith, q, count_or_none x))
+
+  pub one_held : c < held → There p cs ss s c
+  one_held h = inside p cs ss s c (counted_as x) e (omega (arith, q, count_or_none x))

@@ -3,21 +3,20 @@ use mathlib.Core.Path.{◌≡◌, refl, sym, ◌∙◌, ap, ap₂}
 use mathlib.Core.List.{List, [], ◌∷◌, ◌++◌, map}
 use Prim.Native.Nat.{ℕ, zero, suc, ◌+◌, ◌<◌}
 use native.Mathlib.Omega.{arith}
-use lib.ListN.{length, get_or, length-map}
+use lib.ListN.{length, get_or, set, take, drop, length-map}
 use Rattle.buffer.specs.declared.ranges.Span.{Span}
 use Rattle.buffer.specs.Spans.{span, spans, row, rows, moved}
 use Rattle.rows.specs.Rows.{front, placed}
 use Rattle.rows.proofs.RowLaws.{placed_front, placed_next}
 
--- a range of a row, set off, as it is written
-pub shifted-length : (l : List (List ℕ)) (n : ℕ) → length (rows (map (moved n) (spans l))) ≡ length l
-shifted-length [] n = refl
-shifted-length (r ∷ l) n = ap suc (shifted-length l n)
-
-pub shifted_at : (l : List (List ℕ)) (n i : ℕ) → i < length l → row (moved n (span (get_or l i []))) ≡ get_or (rows (map (moved n) (spans l))) i []
-shifted_at [] n i h = absurd (omega arith)
-shifted_at (r ∷ l) n zero h = refl
-shifted_at (r ∷ l) n (suc i) h = shifted_at l n i (omega arith)
+-- one range more is written over a row
+pub shifted_more : (l out : List (List ℕ)) (n i : ℕ) → i < length l → i < length out
+    → set (rows (map (moved n) (spans (take i l))) ++ drop i out) i (row (moved n (span (get_or l i []))))
+    ≡ rows (map (moved n) (spans (take (suc i) l))) ++ drop (suc i) out
+shifted_more [] out n i h k = absurd (omega arith)
+shifted_more (r ∷ l) [] n i h k = absurd (omega arith)
+shifted_more (r ∷ l) (o ∷ out) n zero h k = refl
+shifted_more (r ∷ l) (o ∷ out) n (suc i) h k = ap (λ (t : List (List ℕ)). row (moved n (span r)) ∷ t) (shifted_more l out n i (omega arith) (omega arith))
 
 pub rows_append : (a b : List Span) → rows (a ++ b) ≡ rows a ++ rows b
 rows_append [] b = refl

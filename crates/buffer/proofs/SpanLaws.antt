@@ -1,40 +1,31 @@
 -- Sound spans, met one after the other.
-use mathlib.Core.Path.{◌≡◌, sym, ap}
-use mathlib.Core.Bool.{Bool, true, ◌&&◌, and_assoc, and-true}
-use mathlib.Core.List.{List, [], ◌∷◌}
+use mathlib.Core.Path.{◌≡◌, refl, sym}
+use mathlib.Core.Bool.{Bool, true, ◌&&◌, and_assoc}
+use mathlib.Core.List.{List, [], ◌∷◌, map}
 use Prim.Native.Nat.{ℕ, zero, suc, ◌+◌, ◌<◌, ◌≤◌, ◌^◌}
 use native.Mathlib.Omega.{arith}
 use native.Mathlib.Numerals.{add-one}
 use lib.Dec.{eqb}
-use borrow.Author.Tests.{eqb-true, leb-true, le-leb}
+use borrow.Author.Tests.{eqb-true, leb-true}
 use lib.ListN.{length, get_or, drop, length-map}
-use lib.Seq.{drop-cons, drop-length}
+use lib.Seq.{drop-cons}
+use Rattle.std.proofs.lemmas.List.{drop_all}
 use Rattle.integers.proofs.Logic.{and_left, and_right}
 use Rattle.buffer.specs.declared.ranges.Span.{Span}
 use Rattle.buffer.specs.Spans.{span, spans, follows, sound_from, sound}
 use Rattle.buffer.specs.inside.Ranges.{Movable}
 use Rattle.buffer.proofs.ListLaws.{map_at}
 
--- what is left of a row from i on: one span more is met, or none is left
-module _ (n : ℕ) (all : Bool) (p i : ℕ) where
-  pub spans_more : (l : List Span) (d : Span) → i < length l
-      → (all && sound_from p (drop i l) n) ≡ ((all && follows p (get_or l i d)) && sound_from (get_or l i d).end (drop (i + 1) l) n)
+-- what is left of a row whose elements are read as spans, from position i on: one more is met, or none is left
+module _ {A : Type 0} (read : A → Span) (xs : List A) (n : ℕ) (all : Bool) (p i : ℕ) where
+  pub sound_more : (x : A) (s : Span) → i < length xs → x ≡ get_or xs i x → s ≡ read x
+      → (all && sound_from p (map read (drop i xs)) n) ≡ ((all && follows p s) && sound_from s.end (map read (drop (i + 1) xs)) n)
   unfolding sound_from
-  spans_more l d h = rw (drop-cons l i d h, add-one i) (sym (and_assoc all _ _))
+  sound_more x s h e f = rw (drop-cons xs i x h, ← e, ← f, add-one i) (sym (and_assoc all _ _))
 
-  pub spans_done : (l : List Span) → i ≡ length l → (all && sound_from p (drop i l) n) ≡ (all && follows p (record { start = n; end = n }))
+  pub sound_done : length xs ≤ i → (all && sound_from p (map read (drop i xs)) n) ≡ (all && eqb p n)
   unfolding sound_from
-  spans_done l e = rw (e, drop-length l, le-leb n n (omega arith)) (ap (λ (b : Bool). all && b) (sym (and-true (eqb p n))))
-
-  module _ (rows : List (List ℕ)) where
-    pub sound_more : i < length rows
-        → (all && sound_from p (spans (drop i rows)) n) ≡ ((all && follows p (span (get_or rows i []))) && sound_from (get_or (get_or rows i []) 1 0) (spans (drop (i + 1) rows)) n)
-    unfolding sound_from
-    sound_more h = rw (drop-cons rows i [] h, add-one i) (sym (and_assoc all _ _))
-
-    pub sound_done : i ≡ length rows → (all && sound_from p (spans (drop i rows)) n) ≡ (all && follows p (record { start = n; end = n }))
-    unfolding sound_from
-    sound_done e = rw (e, drop-length rows, le-leb n n (omega arith)) (ap (λ (b : Bool). all && b) (sym (and-true (eqb p n))))
+  sound_done h = rw (drop_all i xs h) refl
 
 -- a span of a sound row: it does not run backward, and ends within the count
 pub record Within (n : ℕ) (s : Span) : Type 0 where

@@ -1,8 +1,11 @@
 -- What the calls on sets answer and leave.
-use Rattle.std.specs.Prelude.{Bool, ◌&&◌, List, ◌++◌, ℕ, zero, suc, ◌*◌, leb, length, take, ℤ}
+use Rattle.std.specs.Prelude.{Result, Ok, Err, Bool, ◌&&◌, List, ◌++◌, ℕ, zero, suc, ◌*◌, leb, length, take, ℤ}
+use Rattle.replies.specs.declared.refusal.Refusal.{Refusal}
+use Rattle.replies.specs.Refusals.{number}
 use Rattle.replies.specs.Ladder.{Rung, first_of, room}
 use Rattle.grid.specs.Domain.{count}
 use Rattle.buffer.specs.declared.answer.Counted.{Counted}
+use Rattle.buffer.specs.declared.answer.Sizes.{Sizes}
 use Rattle.buffer.specs.declared.answer.Packed.{Packed}
 use Rattle.buffer.specs.declared.ranges.Span.{Span}
 use Rattle.buffer.specs.Spans.{rows}
@@ -16,6 +19,16 @@ counted (suc k) n = record { reply = suc k; count = 0 }
 -- an answer of packing
 abbrev pub packed : ℕ → ℕ → ℕ → ℕ → Packed
 packed reply points contours shapes = record { reply = reply; points = points; contours = contours; shapes = shapes }
+
+-- a count or its refusal, as C has it
+abbrev pub counted_as : Result ℕ Refusal → Counted
+counted_as (Ok n) = record { reply = 0; count = n }
+counted_as (Err r) = record { reply = number r; count = 0 }
+
+-- the sizes of what was packed or its refusal, as C has it
+abbrev pub packed_as : Result Sizes Refusal → Packed
+packed_as (Ok s) = packed 0 s.points s.contours s.shapes
+packed_as (Err r) = packed (number r) 0 0 0
 
 -- an answer of packing, and the three rows as it leaves them; a contour set has no row of shapes
 pub record Outcome : Type 0 where

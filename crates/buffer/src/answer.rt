@@ -1,8 +1,9 @@
-// The answers of the calls on sets.
+// The answers of the calls on sets, and how C has them.
 ghost use Rattle.std.specs.Prelude.{◌≡◌};
-ghost use Rattle.buffer.specs.Answers.{counted as counted_of, packed};
 
-// A count: its reply number, and 0 where it is refused.
+use replies::Refusal;
+
+// A count for C: its reply number, and 0 where it is refused.
 #[repr(C)]
 #[derive(Clone, Copy)]
 pub struct Counted {
@@ -10,7 +11,31 @@ pub struct Counted {
     pub count: usize,
 }
 
-// What packing wrote: its reply number, and how many of each; 0 where it is refused, and no shapes in a contour set.
+impl From<Result<usize, Refusal>> for Counted {
+    ghost use Rattle.buffer.specs.Answers.{counted_as};
+
+    ghost from_gives = { λ answer told. told ≡ counted_as answer };
+
+    fn from(answer: Result<usize, Refusal>) -> Counted {
+        match answer {
+            Ok(count) => Counted { reply: 0, count },
+            Err(refusal) => Counted {
+                reply: refusal.number(),
+                count: 0,
+            },
+        }
+    }
+}
+
+// How many of each a set has that was written; no shapes in a contour set.
+#[derive(Clone, Copy, Debug, PartialEq, Eq)]
+pub struct Sizes {
+    pub points: usize,
+    pub contours: usize,
+    pub shapes: usize,
+}
+
+// What packing wrote, for C: its reply number, and how many of each; 0 where it is refused.
 #[repr(C)]
 #[derive(Clone, Copy)]
 pub struct Packed {
@@ -20,24 +45,25 @@ pub struct Packed {
     pub shapes: usize,
 }
 
-// 0 where it is refused, or the count.
-pub fn how_many(refusal: u32, n: usize) -> Counted
-    ensures { result ≡ counted_of refusal n }
-{
-    Counted {
-        reply: refusal,
-        count: if refusal == 0 { n } else { 0 },
-    }
-}
+impl From<Result<Sizes, Refusal>> for Packed {
+    ghost use Rattle.buffer.specs.Answers.{packed_as};
 
-// Nothing was written.
-pub fn refused(refusal: u32) -> Packed
-    ensures { result ≡ packed refusal 0 0 0 }
-{
-    Packed {
-        reply: refusal,
-        points: 0,
-        contours: 0,
-        shapes: 0,
+    ghost from_gives = { λ answer told. told ≡ packed_as answer };
+
+    fn from(answer: Result<Sizes, Refusal>) -> Packed {
+        match answer {
+            Ok(sizes) => Packed {
+                reply: 0,
+                points: sizes.points,
+                contours: sizes.contours,
+                shapes: sizes.shapes,
+            },
+            Err(refusal) => Packed {
+                reply: refusal.number(),
+                points: 0,
+                contours: 0,
+                shapes: 0,
+            },
+        }
     }
 }

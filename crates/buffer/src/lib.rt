@@ -8,4 +8,4 @@ pub mod ranges;
 pub mod refusal;
 pub mod shapes;
 
-pub use answer::{Counted, Packed};
+pub use answer::{Counted, Packed, Sizes};

@@ -1,6 +1,7 @@
 // Ranges, each a start and an end, and when they are sound.
-ghost use Rattle.std.specs.Prelude.{◌≡◌, ◌&&◌};
-ghost use Rattle.buffer.specs.Spans.{follows, spans, sound as sound_of};
+ghost use Rattle.std.specs.Prelude.{◌≡◌, map};
+ghost use Rattle.buffer.specs.declared.ranges.Span.{Span};
+ghost use Rattle.buffer.specs.Spans.{span, spans, sound as sound_of};
 
 // A range as a struct, which lies in memory as a row of two numbers does.
 #[repr(C)]
@@ -10,42 +11,55 @@ pub struct Span {
     pub end: usize,
 }
 
-// Whether all so far is sound, and a range follows that starts at `at` and does not run backward.
-fn joins(all: bool, at: usize, start: usize, end: usize) -> bool
-    ensures { result ≡ (all && follows at (record { start = start; end = end })) }
-{
-    all & ((at == start) & (start <= end))
+// What is read as a span.
+trait Range: Copy {
+    ghost read: { Self → Span };
+
+    fn span(self) -> Span
+        ensures { result ≡ read self };
 }
 
-// Whether the ranges name parts from 0 to the count, one behind the other: an empty range at the count would follow.
+impl Range for [usize; 2] {
+    ghost read = { span };
+
+    fn span(self) -> Span {
+        let [start, end] = self;
+        Span { start, end }
+    }
+}
+
+impl Range for Span {
+    ghost read = { λ s. s };
+
+    fn span(self) -> Span {
+        self
+    }
+}
+
+// Whether the spans name parts from 0 to the count, one behind the other.
+fn all_sound<R: Range>(ranges: &[R], count: usize) -> bool
+    ensures { result ≡ sound_of (map R.read ranges.now) count }
+{
+    let mut all = true;
+    let mut at = 0;
+    for range in ranges {
+        let s = range.span();
+        all &= (at == s.start) & (s.start <= s.end);
+        at = s.end;
+    }
+    all & (at == count)
+}
+
+// Whether the ranges name parts from 0 to the count, one behind the other.
 pub fn sound(ranges: &[[usize; 2]], count: usize) -> bool
     ensures { result ≡ sound_of (spans ranges.now) count }
 {
-    let mut all = true;
-    let mut at: usize = 0;
-    let mut i: usize = 0;
-    while i < ranges.len() {
-        let start = ranges[i][0];
-        let end = ranges[i][1];
-        all = joins(all, at, start, end);
-        at = end;
-        i += 1;
-    }
-    joins(all, at, count, count)
+    all_sound(ranges, count)
 }
 
 // The same, of ranges that are structs.
 pub fn sound_spans(ranges: &[Span], count: usize) -> bool
     ensures { result ≡ sound_of ranges.now count }
 {
-    let mut all = true;
-    let mut at = 0;
-    let mut i = 0;
-    while i < ranges.len() {
-        let s = ranges[i];
-        all = joins(all, at, s.start, s.end);
-        at = s.end;
-        i += 1;
-    }
-    joins(all, at, count, count)
+    all_sound(ranges, count)
 }

@@ -1,96 +1,93 @@
-// The answers to a case: columns, each a number and the form in which it is written.
-use crate::text;
-use crate::text::TEXT;
+// The answers to a case, in columns.
+ghost use Rattle.std.specs.Prelude.{◌≤◌};
+
+use crate::checksum::Summed;
+use crate::text::Text;
+use crate::{checksum, text};
 
 // How many columns an answer can have.
 pub const COLUMNS: usize = 18;
 
 #[derive(Clone, Copy)]
+pub enum Column {
+    Number(u64),
+    // A number that belongs to the column before.
+    Joined(u64),
+    // How far a number is below zero.
+    Below(u64),
+    // The number of a reply that is no answer.
+    Refusal(u64),
+    Verdict(bool),
+}
+
+#[derive(Clone, Copy)]
 pub struct Answer {
+    pub columns: [Column; COLUMNS],
     pub count: usize,
-    pub forms: [u8; COLUMNS],
-    pub values: [u64; COLUMNS],
+    ghost inside: { count ≤ 18 },
 }
 
 // No columns yet.
 pub fn begin() -> Answer {
     Answer {
+        columns: [Column::Number(0); COLUMNS],
         count: 0,
-        forms: [0u8; COLUMNS],
-        values: [0u64; COLUMNS],
+    }
+}
+
+impl Column {
+    fn put(self, text: &mut Text) {
+        match self {
+            Column::Number(value) => text.put_after(b" ", value),
+            Column::Joined(value) => text.put_after(b":", value),
+            Column::Below(value) => text.put_after(b" -", value),
+            Column::Refusal(reply) => text.put_after(b" !", reply),
+            Column::Verdict(true) => text.put(b" yes"),
+            Column::Verdict(false) => text.put(b" no"),
+        }
     }
 }
 
 impl Answer {
-    // A column more, in the form of that byte: ` ` a number, `:` one that belongs to the column before, `-` one below
-    // zero, `!` a refusal, `?` a yes or no.
-    pub fn with(self, form: u8, value: u64) -> Answer {
-        let count = self.count;
-        if COLUMNS <= count {
-            return self;
-        }
-        let mut forms = self.forms;
-        let mut values = self.values;
-        forms[count] = form;
-        values[count] = value;
-        Answer {
-            count: count + 1,
-            forms,
-            values,
-        }
-    }
-
-    // Numbers more, a column each.
-    pub fn numbers(self, values: &[u64]) -> Answer {
+    // A column more, as far as there is room.
+    pub fn with(self, column: Column) -> Answer {
         let mut answer = self;
-        let mut i: usize = 0;
-        while i < values.len() {
-            answer = answer.with(b' ', values[i]);
-            i += 1;
+        if answer.count < COLUMNS {
+            answer.columns[answer.count] = column;
+            answer.count += 1;
         }
         answer
     }
 
+    pub fn number(self, value: u64) -> Answer {
+        self.with(Column::Number(value))
+    }
+
+    pub fn word(self, value: u32) -> Answer {
+        self.number(u64::from(value))
+    }
+
     pub fn amount(self, value: usize) -> Answer {
-        self.with(b' ', value as u64)
+        self.number(value as u64)
+    }
+
+    // A number that belongs to the column before.
+    pub fn joined(self, value: usize) -> Answer {
+        self.with(Column::Joined(value as u64))
+    }
+
+    // The checksum of a row.
+    pub fn sum<T: Summed>(self, row: &[T]) -> Answer {
+        self.word(checksum::of(row))
     }
 
     // Writes the line of a case, and answers whether that went well.
     pub fn write(self, rt: &impl Print, case: u64) -> bool {
-        let mut text = [0u8; TEXT];
-        let behind = text::put_number(&mut text, 0, case);
-        let end = put(&mut text, behind, self);
-        text::write(rt, &mut text, end)
-    }
-}
-
-// Puts the columns into `text` from `at` on, and answers where they end.
-fn put(text: &mut [u8; TEXT], at: usize, answer: Answer) -> usize {
-    let forms = answer.forms;
-    let values = answer.values;
-    let mut end = at;
-    for i in 0..COLUMNS {
-        if answer.count <= i {
-            break;
+        let mut text = text::begin();
+        text.put_number(case);
+        for column in &self.columns[..self.count] {
+            column.put(&mut text);
         }
-        end = put_column(text, end, forms[i], values[i]);
-    }
-    end
-}
-
-fn put_column(text: &mut [u8; TEXT], at: usize, form: u8, value: u64) -> usize {
-    match form {
-        b'!' => text::put_after(text, at, b" !", value),
-        b'-' => text::put_after(text, at, b" -", value),
-        b':' => text::put_after(text, at, b":", value),
-        b'?' => put_verdict(text, at, value),
-        _ => text::put_after(text, at, b" ", value),
-    }
-}
-
-fn put_verdict(text: &mut [u8; TEXT], at: usize, value: u64) -> usize {
-    match value {
-        0 => text::put(text, at, b" no"),
-        _ => text::put(text, at, b" yes"),
+        text.write(rt)
     }
 }

@@ -4,13 +4,10 @@
 pub mod answer;
 pub mod case;
 pub mod checksum;
-pub mod floats;
+pub mod entries;
+pub mod given;
+pub mod kind;
 pub mod line;
-pub mod marks;
-pub mod number;
-pub mod numbers;
-pub mod positions;
-pub mod records;
 pub mod room;
 pub mod source;
 pub mod text;

@@ -1,7 +1,5 @@
-// Rooms of rows, and counts that lie within a row.
-ghost use Rattle.std.specs.Prelude.{◌≡◌, ◌-◌, ◌≤◌};
-
-// The longest rows that can be lent: to a set, to the records of what is read of a file, and to anything else.
+// The longest rows that can be lent (to a set, to the records of what is read of a file, and to anything else), and parts
+// of rows.
 pub const SET: usize = 550;
 
 pub const SET_NUMBERS: usize = 1100;
@@ -12,43 +10,24 @@ pub const LONG: usize = 65600;
 
 pub const LONG_NUMBERS: usize = 131200;
 
-// A count, but no more than there are.
-pub fn at_most(count: usize, most: usize) -> usize
-    ensures { result ≤ most }
-{
-    if most < count {
-        return most;
-    }
-    count
+// The front of a row: so many entries, or all.
+pub fn front<T>(row: &[T], length: usize) -> &[T] {
+    &row[..length.min(row.len())]
 }
 
-// What is left of a count without so many; 0 where there are fewer.
-pub fn without(count: usize, less: usize) -> usize
-    ensures { result ≡ count - less }
-{
-    if count < less {
-        return 0;
-    }
-    count - less
+// The same, that can be written to.
+pub fn front_mut<T>(row: &mut [T], length: usize) -> &mut [T] {
+    let end = length.min(row.len());
+    &mut row[..end]
 }
 
-// How often `count` entries have room; none have it as often as a number can say.
-pub fn most_times(count: usize, room: usize) -> usize {
-    if count == 0 {
-        return 2147483647;
-    }
-    room / count
+// A row without its last entries, so many or all, and these.
+pub fn parted<T>(row: &[T], behind: usize) -> (&[T], &[T]) {
+    row.split_at(row.len().saturating_sub(behind))
 }
 
-// How many entries `count` make so many times over, but no more than there is room for.
-pub fn times_over(count: usize, times: usize, room: usize) -> usize
-    ensures { result ≤ room }
-{
-    if count == 0 {
-        return 0;
-    }
-    if room / count < times {
-        return room;
-    }
-    count * times
+// The part of a row from a start to an end, as far as the row has it.
+pub fn part<T>(row: &[T], of: [usize; 2]) -> &[T] {
+    let whole = front(row, of[1]);
+    &whole[of[0].min(whole.len())..]
 }

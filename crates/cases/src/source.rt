@@ -7,80 +7,51 @@ pub const BUFFER: usize = 65536;
 
 pub const LINE: usize = 524288;
 
-// Where in the list the program reads.
-#[derive(Clone, Copy)]
-pub struct Source {
-    // The byte that was taken last, which past the end of the list is a line's end.
-    pub here: u8,
-    // Whether the list is at its end.
-    pub over: bool,
-    // Where the byte after it stands in the buffer.
-    pub next: usize,
-    // How many bytes the last read brought into the buffer.
+// A list, and what was read of it: the buffer, how many bytes the last read brought into it, and which is the next.
+#[derive(Drop)]
+pub struct Source<R> {
+    pub stream: R,
+    pub buffer: [u8; BUFFER],
     pub filled: usize,
-    // How long the line is that was read last, without its end.
-    pub length: usize,
+    pub next: usize,
 }
 
-// In front of the list.
-pub fn begin() -> Source {
+// The front of a list.
+pub fn begin<R: Read>(stream: R) -> Source<R> {
     Source {
-        here: b'\n',
-        over: false,
-        next: 0,
+        stream,
+        buffer: [0; BUFFER],
         filled: 0,
-        length: 0,
+        next: 0,
     }
 }
 
-impl Source {
-    // Reads the next line into the front of `line`. One without an end there fills it.
-    pub fn read_line<R: Read>(
-        self,
-        stream: &mut R,
-        bytes: &mut [u8],
-        line: &mut [u8],
-    ) -> io::Result<Source> {
-        let mut source = self;
-        let mut end: usize = 0;
-        while end < line.len() {
-            source = source.step(stream, bytes)?;
-            if source.here == b'\n' {
-                break;
+impl<R: Read> Source<R> {
+    // Reads the next line into the front of `line`, and answers its length; none at the end of the list. One without an
+    // end there fills it.
+    pub fn read_line(&mut self, line: &mut [u8]) -> io::Result<Option<usize>> {
+        for (length, place) in line.iter_mut().enumerate() {
+            match self.byte()? {
+                Some(b'\n') => return Ok(Some(length)),
+                Some(byte) => *place = byte,
+                None if length == 0 => return Ok(None),
+                None => return Ok(Some(length)),
             }
-            line[end] = source.here;
-            end += 1;
         }
-        source.length = end;
-        Ok(source)
+        Ok(Some(line.len()))
     }
 
     // The next byte of the list.
-    fn step<R: Read>(self, stream: &mut R, bytes: &mut [u8]) -> io::Result<Source> {
-        if self.next < self.filled {
-            return Ok(taken(bytes, self.next, self.filled));
+    fn byte(&mut self) -> io::Result<Option<u8>> {
+        if self.filled <= self.next {
+            self.filled = self.stream.read(&mut self.buffer)?;
+            self.next = 0;
         }
-        let filled = stream.read(bytes)?;
-        Ok(taken(bytes, 0, filled))
-    }
-}
-
-// The byte at a place of the buffer, which holds so many.
-fn taken(bytes: &[u8], at: usize, filled: usize) -> Source {
-    if at < filled && at < bytes.len() {
-        return Source {
-            here: bytes[at],
-            over: false,
-            next: at + 1,
-            filled,
-            length: 0,
-        };
-    }
-    Source {
-        here: b'\n',
-        over: true,
-        next: 0,
-        filled: 0,
-        length: 0,
+        if self.filled <= self.next || BUFFER <= self.next {
+            return Ok(None);
+        }
+        let byte = self.buffer[self.next];
+        self.next += 1;
+        Ok(Some(byte))
     }
 }

@@ -1,16 +1,18 @@
 -- How many lines of a listing have each kind, and the words of the counts.
-use mathlib.Core.Path.{◌≡◌}
+use mathlib.Core.Path.{◌≡◌, refl, ap}
+use mathlib.Core.Bool.{Bool, true, false, cond}
 use mathlib.Core.List.{List, [], ◌∷◌, ◌++◌, append_assoc, append-nil}
-use Prim.Native.Nat.{ℕ, ◌+◌, ◌≤◌, ◌<◌}
+use Prim.Native.Nat.{ℕ, ◌+◌, ◌≤◌}
 use native.Mathlib.Omega.{arith}
-use native.Mathlib.Numerals.{add-one}
 use lib.Dec.{eqb}
-use lib.ListN.{length, get_or, drop, length-append, drop_of_length-le}
-use lib.Seq.{drop-cons}
+use lib.ListN.{length, get_or, length-append}
+use Rattle.std.specs.List.{count_by}
+use Rattle.std.proofs.lemmas.List.Sums.{sum_by-cons}
 use Rattle.bits.specs.Bits.{digit}
 use Rattle.bits.proofs.BitLaws.{digit_below}
 use Rattle.buffer.specs.Sets.{joined}
 use Rattle.report.specs.Text.{decimal, line_end}
+use Rattle.report.proofs.PutLaws.{Going, going_none}
 use Rattle.report.proofs.TextLaws.{decimal-length}
 use Rattle.changes.specs.Words.{of_kind, are_same, are_elsewhere, are_different, are_in_the_first, are_in_the_second, how_many, counts}
 
@@ -19,16 +21,18 @@ unfolding of_kind
 of_kind_few kind [] = omega arith
 of_kind_few kind (row ∷ listing) = omega (arith, digit_below (eqb (get_or row 0 0) kind), of_kind_few kind listing)
 
--- of the lines from number i on: one, and those behind it, or none
-module _ (listing : List (List ℕ)) (kind i : ℕ) where
-  pub of_kind_more : i < length listing
-      → of_kind kind (drop i listing) ≡ digit (eqb (get_or (get_or listing i []) 0 0) kind) + of_kind kind (drop (i + 1) listing)
-  unfolding of_kind
-  of_kind_more h = rw (add-one i, drop-cons listing i [] h)
+-- they are those that the library counts
+pub of_kind-count : (kind : ℕ) (listing : List (List ℕ)) → of_kind kind listing ≡ count_by (λ (row : List ℕ). eqb (get_or row 0 0) kind) listing
+unfolding of_kind
+of_kind-count kind [] = refl
+of_kind-count kind (row ∷ listing) = go (eqb (get_or row 0 0) kind) refl (of_kind-count kind listing)
+  where
+    same : List ℕ → Bool
+    same row = eqb (get_or row 0 0) kind
 
-  pub of_kind_done : length listing ≤ i → of_kind kind (drop i listing) ≡ 0
-  unfolding of_kind
-  of_kind_done h = rw (drop_of_length-le listing {i = i} h)
+    go : (b : Bool) → eqb (get_or row 0 0) kind ≡ b → of_kind kind listing ≡ count_by same listing → digit b + of_kind kind listing ≡ count_by same (row ∷ listing)
+    go true e r = omega (arith, r, sum_by-cons (λ (row : List ℕ). cond (same row) 1 0) row listing, ap {B = ℕ} (λ (b : Bool). cond b 1 0) e)
+    go false e r = omega (arith, r, sum_by-cons (λ (row : List ℕ). cond (same row) 1 0) row listing, ap {B = ℕ} (λ (b : Bool). cond b 1 0) e)
 
 -- the words of the last line
 abbrev pub words : List (List ℕ) → List (List ℕ)
@@ -40,9 +44,14 @@ six_words : (a b c d e f : List ℕ) → a ++ b ++ c ++ d ++ e ++ f ≡ joined (
 unfolding joined
 six_words a b c d e f = simp (append_assoc, append-nil)
 
-pub counts_words : (listing : List (List ℕ)) → counts listing ≡ joined (words listing)
+counts_words : (listing : List (List ℕ)) → counts listing ≡ joined (words listing)
 unfolding counts
 counts_words listing = six_words _ _ _ _ _ _
+
+-- all are to be put
+pub counts_begun : (at : ℕ) (listing : List (List ℕ)) (text : List ℕ) → at + length (counts listing) ≤ length text
+    → Going at (counts listing) text at text (words listing)
+counts_begun at listing text h = going_none at text (words listing) (counts_words listing) h
 
 pub counts-length : (listing : List (List ℕ)) → length listing ≤ 4095 → length (counts listing) ≤ 108
 unfolding counts

@@ -1,5 +1,5 @@
 -- What a cleaning answers, and what it leaves in the rows that are lent to it. Any rule may say of a corner whether its vertex is to go; the two cleaners have one each.
-use Rattle.std.specs.Prelude.{Bool, List, [], ◌∷◌, ◌++◌, ℕ, zero, suc, ◌+◌, ◌*◌, length, get_or, ℤ, pos, ltb}
+use Rattle.std.specs.Prelude.{Result, Ok, Err, Option, Some, None, Bool, List, [], ◌∷◌, ◌++◌, ℕ, zero, suc, ◌+◌, ◌*◌, length, get_or, ℤ, pos, ltb}
 use Rattle.replies.specs.Ladder.{Rung, first_of}
 use Rattle.rows.specs.Rows.{front, zeroed}
 use Rattle.grid.specs.Limits.{limit}
@@ -9,6 +9,9 @@ use Rattle.ring.specs.declared.Rule.{Rule}
 use Rattle.ring.specs.Walk.{Tally, End, Walked, walk}
 use Rattle.ring.specs.Walk.End.{kept, collapsed}
 use Rattle.ring.specs.Rule.{goes_at, goes_in}
+use Rattle.replies.specs.declared.refusal.Refusal.{Refusal}
+use Rattle.replies.specs.Refusals.{number}
+use Rattle.clean.specs.declared.cleaning.Cleaning.{Cleaning}
 use Rattle.clean.specs.declared.cleaning.Cleaned.{Cleaned}
 
 -- 4: a scratch row has fewer entries than there are points
@@ -38,6 +41,20 @@ chosen row (i ∷ s) = get_or row (2 * i) (pos 0) ∷ get_or row (2 * i + 1) (po
 
 abbrev pub answer : ℕ → ℕ → ℕ → ℕ → Cleaned
 answer reply points decisions turns = record { reply = reply; points = points; decisions = decisions; turns = turns }
+
+-- a walk that ended, as C has it: 0 where points are kept, 7 where none is
+abbrev pub ended_with : Option ℕ → ℕ → ℕ → Cleaned
+ended_with (Some n) decisions turns = answer 0 n decisions turns
+ended_with None decisions turns = answer 7 0 decisions turns
+
+-- the same of a cleaning
+abbrev pub as_cleaned : Cleaning → Cleaned
+as_cleaned c = ended_with c.kept c.decisions c.turns
+
+-- a cleaning or its refusal, as C has it
+abbrev pub cleaned_as : Result Cleaning Refusal → Cleaned
+cleaned_as (Ok c) = as_cleaned c
+cleaned_as (Err r) = answer (number r) 0 0 0
 
 -- the rows that are lent to a cleaning: the scratch, and the output
 pub record Lent : Type 0 where

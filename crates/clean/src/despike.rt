@@ -1,36 +1,22 @@
 // Contours without spikes: no vertex where the way reverses.
 ghost use Rattle.std.specs.Prelude.{◌≡◌};
+ghost use Rattle.replies.specs.Verdicts.{answered};
 ghost use Rattle.ring.specs.declared.Rule as R;
 ghost use Rattle.clean.specs.Verdicts.{spike_free};
-ghost use Rattle.clean.specs.Outcome.{lent, leaving, outcome};
+ghost use Rattle.clean.specs.Outcome.{lent, cleaned_as, leaving, outcome};
 
 use crate::cleaning;
-use crate::cleaning::Cleaned;
+use crate::cleaning::Cleaning;
 use crate::inner::verdicts;
-use replies::Verdict;
+use replies::Refusal;
 use ring::Rule;
 
-// Whether the contour has no spikes, equal neighbours aside. A box has none.
-pub fn has_no_spikes(points: &[i32]) -> Verdict
-    ensures { result ≡ spike_free points.now }
+// Whether the contour has no spikes, equal neighbours aside.
+pub fn has_no_spikes(points: &[i32]) -> Result<bool, Refusal>
+    ensures { answered result ≡ spike_free points.now }
 {
-    let refusal = grid::domain(points);
-    if refusal != 0 {
-        return Verdict {
-            reply: refusal,
-            yes: false,
-        };
-    }
-    if grid::inner::boxes::is_box(points, points.len() / 2) {
-        return Verdict {
-            reply: replies::DONE,
-            yes: true,
-        };
-    }
-    Verdict {
-        reply: replies::DONE,
-        yes: verdicts::no_spikes(points),
-    }
+    grid::domain(points)?;
+    Ok(verdicts::passes(Rule::Spike, points))
 }
 
 // The contour without its spikes and its equal neighbours.
@@ -40,8 +26,8 @@ pub fn despiked(
     prev: &mut [u32],
     mark: &mut [u8],
     out: &mut [i32],
-) -> Cleaned
-    ensures { leaving result (lent next.new prev.new mark.new out.new)
+) -> Result<Cleaning, Refusal>
+    ensures { leaving (cleaned_as result) (lent next.new prev.new mark.new out.new)
         ≡ outcome R.Rule.Spike points.now
         (lent next.old prev.old mark.old out.old) }
 {

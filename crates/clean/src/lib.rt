@@ -7,5 +7,5 @@ pub mod inner;
 mod part;
 pub mod simple;
 
-pub use cleaning::Cleaned;
+pub use cleaning::{Cleaned, Cleaning};
 pub use part::kept_part;

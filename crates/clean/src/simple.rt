@@ -1,37 +1,22 @@
 // Simple contours: no vertex whose two edges have cross 0.
 ghost use Rattle.std.specs.Prelude.{◌≡◌};
+ghost use Rattle.replies.specs.Verdicts.{answered};
 ghost use Rattle.ring.specs.declared.Rule as R;
 ghost use Rattle.clean.specs.Verdicts.{simple as simple_verdict};
-ghost use Rattle.clean.specs.Outcome.{lent, leaving, outcome};
+ghost use Rattle.clean.specs.Outcome.{lent, cleaned_as, leaving, outcome};
 
 use crate::cleaning;
-use crate::cleaning::Cleaned;
+use crate::cleaning::Cleaning;
 use crate::inner::verdicts;
-use replies::Verdict;
+use replies::Refusal;
 use ring::Rule;
 
-// Whether the contour has three or more points, and no vertex whose two edges have cross 0. Most contours are boxes, of
-// which it is known.
-pub fn is_simple(points: &[i32]) -> Verdict
-    ensures { result ≡ simple_verdict points.now }
+// Whether the contour has three or more points, and no vertex whose two edges have cross 0.
+pub fn is_simple(points: &[i32]) -> Result<bool, Refusal>
+    ensures { answered result ≡ simple_verdict points.now }
 {
-    let refusal = grid::domain(points);
-    if refusal != 0 {
-        return Verdict {
-            reply: refusal,
-            yes: false,
-        };
-    }
-    if grid::inner::boxes::is_box(points, points.len() / 2) {
-        return Verdict {
-            reply: replies::DONE,
-            yes: true,
-        };
-    }
-    Verdict {
-        reply: replies::DONE,
-        yes: verdicts::all_turn(points),
-    }
+    grid::domain(points)?;
+    Ok(verdicts::passes(Rule::Collinear, points))
 }
 
 // The contour without its collinear points.
@@ -41,8 +26,8 @@ pub fn simplified(
     prev: &mut [u32],
     mark: &mut [u8],
     out: &mut [i32],
-) -> Cleaned
-    ensures { leaving result (lent next.new prev.new mark.new out.new)
+) -> Result<Cleaning, Refusal>
+    ensures { leaving (cleaned_as result) (lent next.new prev.new mark.new out.new)
         ≡ outcome R.Rule.Collinear points.now
         (lent next.old prev.old mark.old out.old) }
 {

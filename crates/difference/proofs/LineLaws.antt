@@ -68,7 +68,7 @@ judged_different n zero d z h = absurd (z refl)
 judged_different n (suc s) d z h = rw (le-ltb (suc s) n h, judged)
 
 module _ (first second : List ℤ) where
-  unequal : (count first ≡ count second → ⊥) → compared first second ≡ by_count false first second
+  pub unequal : (count first ≡ count second → ⊥) → compared first second ≡ by_count false first second
   unfolding compared
   unequal n = ap (λ (b : Bool). by_count b first second) (ne_eqb (count first) (count second) n)
 

@@ -27,7 +27,8 @@ use Rattle.turned.proofs.SearchLaws.{first_is, is_first, first_least}
 use Rattle.turned.proofs.StartedLaws.{same_self, points_tell, started-length, starts_is, started_starts}
 use Rattle.turned.proofs.Theorems.{a_way_there_is_a_way_back, there_and_back_is_what_repeats}
 use Rattle.difference.specs.declared.inner.lines.Line.{Line}
-use Rattle.difference.specs.Lines.{same, elsewhere, different, only_first, only_second, first_other, compared, listed, lines_of, row, written}
+use Rattle.difference.specs.declared.inner.lines.Line.TheVariants.{Same, Elsewhere, Different, OnlyFirst, OnlySecond}
+use Rattle.difference.specs.Lines.{same, elsewhere, different, only_first, only_second, first_other, compared, listed, lines_of, row, written, kind}
 use Rattle.difference.specs.Outcome.{all_refusals, whose, Outcome, answered, outcome}
 use Rattle.difference.specs.Promises.{told, ToldAgain, Mirrored}
 use Rattle.difference.specs.Promises.ToldAgain.{as_the_same, from_a_start}
@@ -68,8 +69,8 @@ no_other first second n lf ls e =
 pub what_is_told_as_the_same_is_the_same : (first second : List ℤ) → length first ≡ 2 * count first → length second ≡ 2 * count second → compared first second ≡ same → second ≡ first
 what_is_told_as_the_same_is_the_same first second lf ls e = go (ℕ_discrete (count first) (count second)) (dec_lt (count first) (count second))
   where
-    kind_is : {l m : Line} → l ≡ m → l.kind ≡ m.kind
-    kind_is f = ap (λ (l : Line). l.kind) f
+    kind_is : {l m : Line} → l ≡ m → kind l ≡ kind m
+    kind_is f = ap kind f
 
     go : Dec (count first ≡ count second) → Dec (count first < count second) → second ≡ first
     go (yes m) d = by_way (ways first second m)
@@ -207,6 +208,14 @@ module _ (p : List ℤ) (rs : List (List ℕ)) (q : List ℤ) (ss listing : List
   second_sound : Sound q ss
   second_sound = is_sound q ss (sym (front_clear (refusals q ss) _ (cleared (refusals p rs) _ tt none_held.1).1)) refl
 
+-- kind 0 is that of the same
+same_kind : (l : Line) → kind l ≡ 0 → l ≡ same
+same_kind Same e = refl
+same_kind (Elsewhere s) e = absurd (omega arith)
+same_kind (Different d) e = absurd (omega arith)
+same_kind OnlyFirst e = absurd (omega arith)
+same_kind OnlySecond e = absurd (omega arith)
+
 -- lines that are all the same
 all_same : (l m : List (List ℤ)) → Even l → Even m → (k : ℕ) → written (listed l m) ≡ replicate k (row same) → m ≡ l
 unfolding listed
@@ -217,10 +226,9 @@ all_same (a ∷ l) [] e f zero w = absurd (let n : suc (length (written (listed 
 all_same (a ∷ l) [] e f (suc k) w = absurd (let n : 3 ≡ 0 = ap (λ (r : List (List ℕ)). get_or (get_or r 0 []) 0 0) w in omega (arith, n))
 all_same (a ∷ l) (b ∷ m) e f zero w = absurd (let n : suc (length (written (listed l m))) ≡ 0 = ap length w in omega (arith, n))
 all_same (a ∷ l) (b ∷ m) e f (suc k) w =
-    let kind : (compared a b).kind ≡ 0 = ap (λ (r : List (List ℕ)). get_or (get_or r 0 []) 0 0) w in
-    let place : (compared a b).place ≡ 0 = ap (λ (r : List (List ℕ)). get_or (get_or r 0 []) 1 0) w in
+    let zero_kind : kind (compared a b) ≡ 0 = ap (λ (r : List (List ℕ)). get_or (get_or r 0 []) 0 0) w in
     ap₂ (λ (x : List ℤ) (y : List (List ℤ)). x ∷ y)
-    (what_is_told_as_the_same_is_the_same a b e.0 f.0 (ap₂ (λ (x y : ℕ). record { kind = x; place = y }) kind place))
+    (what_is_told_as_the_same_is_the_same a b e.0 f.0 (same_kind (compared a b) zero_kind))
     (all_same l m e.1 f.1 k (ap (λ (r : List (List ℕ)). drop 1 r) w))
 
 listed_self : (l : List (List ℤ)) → written (listed l l) ≡ replicate (length l) (row same)

@@ -8,26 +8,27 @@ use Rattle.buffer.specs.Sets.{contours}
 use Rattle.turned.specs.Search.{first_below}
 use Rattle.turned.specs.Starts.{smallest_start}
 use Rattle.difference.specs.declared.inner.lines.Line.{Line}
+use Rattle.difference.specs.declared.inner.lines.Line.TheVariants.{Same, Elsewhere, Different, OnlyFirst, OnlySecond}
 
 -- the same
 abbrev pub same : Line
-same = record { kind = 0; place = 0 }
+same = Same
 
 -- the same after starting elsewhere, at position s of the second
 abbrev pub elsewhere : ℕ → Line
-elsewhere s = record { kind = 1; place = s }
+elsewhere s = Elsewhere s
 
 -- different, first at position d
 abbrev pub different : ℕ → Line
-different d = record { kind = 2; place = d }
+different d = Different d
 
 -- only in the first set
 abbrev pub only_first : Line
-only_first = record { kind = 3; place = 0 }
+only_first = OnlyFirst
 
 -- only in the second
 abbrev pub only_second : Line
-only_second = record { kind = 4; place = 0 }
+only_second = OnlySecond
 
 -- the first of n positions at which two contours differ; n where they do not
 abbrev pub first_other : List ℤ → List ℤ → ℕ → ℕ
@@ -57,9 +58,25 @@ listed (a ∷ firsts) (b ∷ seconds) = compared a b ∷ listed firsts seconds
 abbrev pub lines_of : List ℤ → List (List ℕ) → List ℤ → List (List ℕ) → List Line
 lines_of points ranges others other-ranges = listed (contours points (spans ranges)) (contours others (spans other-ranges))
 
+-- the number of a line's kind
+abbrev pub kind : Line → ℕ
+kind Same = 0
+kind (Elsewhere s) = 1
+kind (Different d) = 2
+kind OnlyFirst = 3
+kind OnlySecond = 4
+
+-- its place, 0 where there is none to say
+abbrev pub place : Line → ℕ
+place Same = 0
+place (Elsewhere s) = s
+place (Different d) = d
+place OnlyFirst = 0
+place OnlySecond = 0
+
 -- a line as it is written to a row: kind, place
 abbrev pub row : Line → List ℕ
-row l = l.kind ∷ l.place ∷ []
+row l = kind l ∷ place l ∷ []
 
 -- lines as they are written
 abbrev pub written : List Line → List (List ℕ)

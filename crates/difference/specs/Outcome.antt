@@ -1,8 +1,11 @@
 -- What comparing two sets answers, and what it leaves in the row that is lent to it.
-use Rattle.std.specs.Prelude.{List, ◌++◌, ℕ, zero, suc, max, leb, length, ℤ}
+use Rattle.std.specs.Prelude.{Result, Ok, Err, List, ◌++◌, ℕ, zero, suc, max, leb, length, ℤ}
 use Rattle.replies.specs.Ladder.{Rung, first_of, room}
 use Rattle.rows.specs.Rows.{front}
 use Rattle.buffer.specs.Contours.{refusals}
+use Rattle.replies.specs.Refusals.{number}
+use Rattle.difference.specs.declared.Refused.{Refused}
+use Rattle.difference.specs.declared.Refused.TheVariants.{First, Second, Room}
 use Rattle.difference.specs.declared.Compared.{Compared}
 use Rattle.difference.specs.declared.inner.lines.Line.{Line}
 use Rattle.difference.specs.Lines.{lines_of, written}
@@ -29,6 +32,13 @@ leaving answer listing = record { answer = answer; listing = listing }
 -- an answer of a comparison
 abbrev pub answer : ℕ → ℕ → ℕ → Compared
 answer reply refused contours = record { reply = reply; refused = refused; contours = contours }
+
+-- how many contours are listed, or why none is, as C has it
+abbrev pub compared_as : Result ℕ Refused → Compared
+compared_as (Ok n) = answer 0 0 n
+compared_as (Err (First r)) = answer (number r) 1 0
+compared_as (Err (Second r)) = answer (number r) 2 0
+compared_as (Err Room) = answer 5 0 0
 
 -- by the number of the first refusal: refused, and the listing as it was, or the lines in front of it
 abbrev pub answered : ℕ → ℕ → List Line → List (List ℕ) → Outcome

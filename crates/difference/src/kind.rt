@@ -1,4 +1,4 @@
-// The kinds of the lines of a listing. Behind its kind a line has a place, 0 where there is none to say.
+// The kinds of the lines of a listing, numbers since C reads them in a row. Behind its kind a line has a place, 0 where there is none to say.
 
 // The two contours are the same.
 pub const SAME: usize = 0;

@@ -6,11 +6,21 @@ pub mod kind;
 pub mod walker;
 
 ghost use Rattle.std.specs.Prelude.{◌≡◌};
-ghost use Rattle.difference.specs.Outcome.{answer, leaving, outcome};
+ghost use Rattle.difference.specs.Outcome.{answer, compared_as, leaving, outcome};
 
 use crate::inner::listing;
+use replies::Refusal;
 
-// How a comparison ended: its reply number; whose set was refused, 1 or 2, and 0 where none was; and how many contours are listed, 0 where it is refused.
+// Why a comparison is refused: what one of the sets is refused for, or that the listing has no room.
+#[derive(Clone, Copy, Debug, PartialEq, Eq)]
+pub enum Refused {
+    First(Refusal),
+    Second(Refusal),
+    Room,
+}
+
+// How a comparison ended, for C: its reply number; whose set was refused, 1 or 2, and 0 where none was; and how many contours are
+// listed, 0 where it is refused.
 #[repr(C)]
 #[derive(Clone, Copy)]
 pub struct Compared {
@@ -20,13 +30,32 @@ pub struct Compared {
 }
 
 // Nothing was listed.
-fn refused(reply: u32, whose: u32) -> Compared
+fn nothing(reply: u32, whose: u32) -> Compared
     ensures { result ≡ answer reply whose 0 }
 {
     Compared {
         reply,
         refused: whose,
         contours: 0,
+    }
+}
+
+impl From<Result<usize, Refused>> for Compared {
+    ghost use Rattle.difference.specs.Outcome.{compared_as};
+
+    ghost from_gives = { λ answer told. told ≡ compared_as answer };
+
+    fn from(answer: Result<usize, Refused>) -> Compared {
+        match answer {
+            Ok(contours) => Compared {
+                reply: 0,
+                refused: 0,
+                contours,
+            },
+            Err(Refused::First(refusal)) => nothing(refusal.number(), 1),
+            Err(Refused::Second(refusal)) => nothing(refusal.number(), 2),
+            Err(Refused::Room) => nothing(Refusal::Room.number(), 0),
+        }
     }
 }
 
@@ -37,27 +66,21 @@ pub fn compare(
     others: &[i32],
     other_ranges: &[[usize; 2]],
     listing: &mut [[usize; 2]],
-) -> Compared
-    ensures { leaving result listing.new
+) -> Result<usize, Refused>
+    ensures { leaving (compared_as result) listing.new
         ≡ outcome points.now ranges.now others.now other_ranges.now
         listing.old }
 {
-    let first = buffer::contours::refused(points, ranges);
-    if first != 0 {
-        return refused(first, 1);
+    if let Err(refusal) = buffer::contours::check(points, ranges) {
+        return Err(Refused::First(refusal));
     }
-    let second = buffer::contours::refused(others, other_ranges);
-    if second != 0 {
-        return refused(second, 2);
+    if let Err(refusal) = buffer::contours::check(others, other_ranges) {
+        return Err(Refused::Second(refusal));
     }
-    let n = turned::inner::larger(ranges.len(), other_ranges.len());
+    let n = ranges.len().max(other_ranges.len());
     if listing.len() < n {
-        return refused(replies::ROOM, 0);
+        return Err(Refused::Room);
     }
     listing::fill(points, ranges, others, other_ranges, n, listing);
-    Compared {
-        reply: replies::DONE,
-        refused: 0,
-        contours: n,
-    }
+    Ok(n)
 }

@@ -14,18 +14,11 @@ impl<'a> Walker<'a> {
     pub fn contour(self, end: usize) -> &'a [i32]
         ensures { part result ≡ handed (part self.entry.points) self.entry.place end }
     {
-        between(self.points, self.place, end)
+        if self.place <= end && end <= self.points.len() / 2 {
+            return &self.points[2 * self.place..2 * end];
+        }
+        &self.points[..0]
     }
-}
-
-// The points from one place up to another.
-fn between<'a>(points: &'a [i32], place: usize, end: usize) -> &'a [i32]
-    ensures { part result ≡ handed (part points.entry) place end }
-{
-    if (place <= end) & (end <= points.len() / 2) {
-        return &points[2 * place..2 * end];
-    }
-    &points[..0]
 }
 
 // What a walker that has reached a place hands out up to the end.

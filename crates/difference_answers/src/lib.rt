@@ -3,43 +3,22 @@
 
 use cases::answer::Answer;
 use cases::case::HEAD;
+use cases::given::Set;
 use cases::room::SET;
-use cases::{answer, records, room};
+use cases::{answer, room};
+use difference::Compared;
 
-// The kind `d`: two sets compared, with a listing of given length, full of canaries.
-pub fn lent(
-    head: [usize; HEAD],
-    numbers: &[i32],
-    ranges: &[[usize; 2]],
-    other_ranges: &[[usize; 2]],
-) -> Answer {
+// Two sets compared, with a listing of given length, full of canaries. The second one's numbers are behind those of the
+// first, and its contours stand as the shapes.
+pub fn lent(head: [usize; HEAD], sets: Set<'_>) -> Answer {
     let mut listing = [[7usize; 2]; SET];
-    let listing_end = room::at_most(head[0], SET);
-    let end = numbers.len();
-    let middle = room::without(end, head[1]);
-    after_comparing(
-        &numbers[0..middle],
-        ranges,
-        &numbers[middle..end],
-        other_ranges,
-        &mut listing[0..listing_end],
-    )
-}
-
-// A comparison, and the checksum of the listing after it.
-fn after_comparing(
-    points: &[i32],
-    ranges: &[[usize; 2]],
-    others: &[i32],
-    other_ranges: &[[usize; 2]],
-    listing: &mut [[usize; 2]],
-) -> Answer {
-    let compared = difference::compare(points, ranges, others, other_ranges, listing);
-    let columns = [
-        compared.reply as u64,
-        compared.refused as u64,
-        compared.contours as u64,
-        records::checksum(listing),
-    ];
-    answer::begin().numbers(&columns)
+    let listing = room::front_mut(&mut listing, head[0]);
+    let (points, others) = room::parted(sets.points, head[1]);
+    let answered = difference::compare(points, sets.contours, others, sets.shapes, listing);
+    let compared = Compared::from(answered);
+    answer::begin()
+        .word(compared.reply)
+        .word(compared.refused)
+        .amount(compared.contours)
+        .sum(listing)
 }

@@ -13,10 +13,14 @@ use borrow.Author.Tests.{leb-true}
 use Rattle.grid.specs.declared.Point.{Point}
 use Rattle.grid.specs.Points.{points}
 use Rattle.grid.specs.Limits.{narrow, most}
+use Rattle.std.proofs.Common.{Err}
+use Rattle.replies.specs.declared.refusal.Refusal.{Refusal}
+use Rattle.replies.specs.Refusals.{number}
+use Rattle.replies.proofs.RefusalLaws.{refusals_have_numbers, refused_so_far}
 use Rattle.replies.specs.Ladder.{first_of, room}
 use Rattle.grid.specs.Domain.{count}
 use Rattle.rows.specs.Rows.{front}
-use Rattle.replies.proofs.LadderLaws.{First, first_is, stopped, onward}
+use Rattle.replies.proofs.LadderLaws.{First, first_is, onward}
 use Rattle.replies.proofs.LadderLaws.First.{here, past, foot}
 use Rattle.grid.proofs.RowLaws.{points_count}
 use Rattle.buffer.specs.declared.ranges.Span.{Span}
@@ -27,11 +31,10 @@ use Rattle.buffer.proofs.SetLaws.{contours_even, joined-append, sizes_are}
 use Rattle.buffer.proofs.SpanLaws.{ends_at, first_starts, first_forward, others_sound, range_within}
 use Rattle.buffer.proofs.Theorems.{a_sound_set's_contours_laid_end_to_end_are_its_points}
 use Rattle.millimetres.specs.Scale.{millimetres}
-use Rattle.drawing.specs.declared.answer.Drawn.{Drawn}
 use Rattle.drawing.specs.declared.command.Command.{Command}
 use Rattle.drawing.specs.declared.command.Command.TheVariants.{Line, Close}
 use Rattle.drawing.specs.Commands.{kind, floats, kinds_of, floats_of}
-use Rattle.drawing.specs.Exporting.{place, outline, commands, refusals, leaving, enough, put, outcome}
+use Rattle.drawing.specs.Exporting.{drawn_as, place, outline, commands, refusals, leaving, enough, put, outcome}
 use Rattle.drawing.specs.inside.Rows.{one, contour_kinds, set_kinds, filled, Forward, none_drawn}
 use Rattle.drawing.proofs.PutLaws.{ones, set-length}
 
@@ -130,12 +133,10 @@ module _ (p : List ℤ) (ranges : List (List ℕ)) (kinds : List ℕ) (floats : 
   unfolding outcome
   by_number r f = ap (λ (n : ℕ). put n told_commands kinds floats) f
 
-  pub export_refused : (k : ℕ) → k ≡ first_of (refusals p ranges) → (w : Drawn) → w ≡ none_drawn k → (k ≡ 0 → ⊥)
-      → leaving w kinds floats ≡ outcome p ranges kinds floats
-  export_refused k e w g n =
-      ap (λ (a : Drawn). leaving a kinds floats) g ∙ put_refused told_commands kinds floats k n
-      ∙ by_number k
-      (first_is _ _ (stopped (refusals p ranges) (room (enough told_commands kinds floats)) k e n))
+  pub export_refused : (r : Refusal) → number r ≡ first_of (refusals p ranges) → leaving (drawn_as (Err r)) kinds floats ≡ outcome p ranges kinds floats
+  export_refused r e =
+      put_refused told_commands kinds floats (number r) (refusals_have_numbers r)
+      ∙ by_number (number r) (refused_so_far (refusals p ranges) (room (enough told_commands kinds floats)) r e)
 
 -- a set of which nothing is refused, n of whose contours have points, and the rows for its drawing
 pub record Exporting (p : List ℤ) (ranges : List (List ℕ)) (kinds : List ℕ) (floats : List Float) (n : ℕ) : Type 0 where
@@ -161,9 +162,9 @@ module _ {p : List ℤ} {ranges : List (List ℕ)} {kinds : List ℕ} {floats : 
   onto : (r : ℕ) → First (room (enough drawing kinds floats)) r → put r drawing kinds floats ≡ outcome p ranges kinds floats
   onto r f = by_number p ranges kinds floats r (first_is _ _ (onward (refusals p ranges) (room (enough drawing kinds floats)) r tt set.free f))
 
-  pub export_cramped : (w : Drawn) → w ≡ none_drawn 5 → (leb (count p + n) (length kinds) && leb (length p) (length floats)) ≡ false → leaving w kinds floats ≡ outcome p ranges kinds floats
-  export_cramped w g h =
-      ap (λ (a : Drawn). leaving a kinds floats) g ∙ put_refused drawing kinds floats 5 (λ i. omega arith)
+  pub export_cramped : (leb (count p + n) (length kinds) && leb (length p) (length floats)) ≡ false → leaving (none_drawn 5) kinds floats ≡ outcome p ranges kinds floats
+  export_cramped h =
+      put_refused drawing kinds floats 5 (λ i. omega arith)
       ∙ onto 5 (here (ap not (sym same_room ∙ h)))
 
   module _ (h : (leb (count p + n) (length kinds) && leb (length p) (length floats)) ≡ true) where

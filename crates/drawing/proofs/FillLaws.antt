@@ -9,8 +9,11 @@ use lib.ListN.{length, get_or, drop, set, length-drop}
 use lib.Seq.{drop-cons, drop-drop, drop-length, get_or-drop}
 use mir.Val.{bool_byte}
 use borrow.Author.Tests.{ne_eqb}
+use Rattle.std.specs.List.{take_while, prefix_len}
+use Rattle.std.proofs.lemmas.List.Folds.{length-prefix_len}
 use Rattle.buffer.specs.Spans.{rows, total, laid}
-use Rattle.rows.proofs.RowLaws.{Copied, copied_none, copied_more}
+use Rattle.rows.specs.Rows.{front}
+use Rattle.rows.proofs.RowLaws.{Copied, copied_none, copied_more, copied_all, placed_front}
 use Rattle.drawing.specs.inside.Rows.{run, sizes}
 
 -- two elements more of a list are written
@@ -39,22 +42,19 @@ module _ {A : Type 0} (l : List A) (k : ℕ) (x : A) (rest : List A) (e : drop k
   pub front_past : drop (k + 1) l ≡ rest
   front_past = sym (drop-drop 1 k l) ∙ ap (drop 1) e
 
--- the Lines in front of the rest of the kinds
+-- the Lines in front are those that are taken
+pub run_taken : (kinds : List ℕ) → run kinds ≡ length (take_while (λ (k : ℕ). eqb k 1) kinds)
+unfolding run
+run_taken kinds = go kinds ∙ sym (length-prefix_len (λ (k : ℕ). eqb k 1) kinds)
+  where
+    go : (kinds : List ℕ) → run kinds ≡ prefix_len (λ (k : ℕ). eqb k 1) kinds
+    go [] = refl
+    go (zero ∷ kinds) = refl
+    go (suc zero ∷ kinds) = omega (arith, go kinds)
+    go (suc (suc k) ∷ kinds) = rw (ne_eqb (suc (suc k)) 1 (λ e. omega arith)) refl
+
 module _ (kinds : List ℕ) (i : ℕ) where
   module _ (h : i < length kinds) where
-    pub run_more : get_or kinds i 0 ≡ 1 → run (drop i kinds) ≡ suc (run (drop (i + 1) kinds))
-    unfolding run
-    run_more e = rw (drop-cons kinds i 0 h, add-one i, e)
-
-    pub run_stops : (get_or kinds i 0 ≡ 1 → ⊥) → run (drop i kinds) ≡ 0
-    unfolding run
-    run_stops n = ap run (drop-cons kinds i 0 h) ∙ go (get_or kinds i 0) n
-      where
-        go : (k : ℕ) → (k ≡ 1 → ⊥) → run (k ∷ drop (suc i) kinds) ≡ 0
-        go zero m = refl
-        go (suc zero) m = absurd (m refl)
-        go (suc (suc k)) m = refl
-
     -- the sizes of the contours that are left
     pub sizes_begun : get_or kinds i 0 ≡ 0 → sizes (drop i kinds) ≡ suc (run (drop (i + 1) kinds)) ∷ sizes (drop (i + 1) kinds)
     unfolding sizes
@@ -77,10 +77,6 @@ module _ (kinds : List ℕ) (i : ℕ) where
         go (suc k) = rw (ne_eqb (suc k) 0 (λ e. omega arith)) (omega arith)
 
   module _ (e : i ≡ length kinds) where
-    pub run_done : run (drop i kinds) ≡ 0
-    unfolding run
-    run_done = rw (e, drop-length kinds)
-
     pub sizes_done : sizes (drop i kinds) ≡ []
     unfolding sizes
     sizes_done = rw (e, drop-length kinds)
@@ -94,14 +90,12 @@ points_few (suc (suc k) ∷ kinds) = omega (arith, points_few kinds)
 
 -- the ranges: the rest of the kinds makes what is still to be written
 pub record Ranging (kinds : List ℕ) (records₀ records : List (List ℕ)) (k start i : ℕ) : Type 0 where
-  pub within : i ≤ length kinds
   pub few : start + total (sizes (drop i kinds)) ≤ length kinds
   pub copied : Copied records₀ 0 (rows (laid 0 (sizes kinds))) records k
   pub rest : drop k (rows (laid 0 (sizes kinds))) ≡ rows (laid start (sizes (drop i kinds)))
 
 pub ranging_all : (kinds : List ℕ) (records : List (List ℕ)) → Ranging kinds records records 0 0 0
 ranging_all kinds records = record {
-  within = omega arith;
   few = omega (arith, points_few kinds);
   copied = copied_none records 0 (rows (laid 0 (sizes kinds)));
   rest = refl;
@@ -112,7 +106,6 @@ module _ {kinds : List ℕ} {records₀ records : List (List ℕ)} {k start i : 
   ranging_past n =
       let e = sizes_past kinds i h n in
       record {
-        within = omega arith;
         few = subst (λ (l : List ℕ). start + total l ≤ length kinds) e x.few;
         copied = x.copied;
         rest = x.rest ∙ ap (λ (l : List ℕ). rows (laid start l)) e;
@@ -140,7 +133,6 @@ module _ {kinds : List ℕ} {records₀ records : List (List ℕ)} {k start i : 
     ranging_more room end q =
         let z : 0 + k ≡ k = omega arith in
         record {
-          within = omega arith;
           few = subst (λ (n : ℕ). n + total (sizes (drop (i + 1) kinds)) ≤ length kinds) (sym q) ranging_few;
           copied =
               subst (λ (n : ℕ). Copied records₀ 0 (rows (laid 0 (sizes kinds))) (set records n (start ∷ end ∷ [])) (k + 1)) z
@@ -148,3 +140,12 @@ module _ {kinds : List ℕ} {records₀ records : List (List ℕ)} {k start i : 
               (ap (λ (n : ℕ). start ∷ n ∷ []) q ∙ sym (front_is _ k _ _ begins [])));
           rest = front_past _ k _ _ begins ∙ ap (λ (n : ℕ). rows (laid n (sizes (drop (i + 1) kinds)))) (sym q);
         }
+
+pub ranging_done : {kinds : List ℕ} {records₀ records : List (List ℕ)} {k start i : ℕ} → Ranging kinds records₀ records k start i → i ≡ length kinds
+    → records ≡ front (rows (laid 0 (sizes kinds))) records₀
+unfolding laid
+ranging_done {kinds} {records₀} {k = k} {start} {i} x e =
+    let wanted = rows (laid 0 (sizes kinds)) in
+    let none = x.rest ∙ ap (λ (l : List ℕ). rows (laid start l)) (sizes_done kinds i e) in
+    let done : k ≡ length wanted = omega (arith, x.copied.within, length-drop k wanted, ap length none) in
+    copied_all _ _ _ x.copied done ∙ placed_front records₀ wanted

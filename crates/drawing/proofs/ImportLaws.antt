@@ -11,17 +11,19 @@ use lib.Ieee.{Float}
 use borrow.Author.Tests.{eqb-true, leb-true, ltb-false, eq-eqb, ne_eqb, lt-ltb, le-ltb}
 use Rattle.integers.proofs.Logic.{and_left, and_right}
 use Rattle.grid.specs.Limits.{most}
+use Rattle.std.proofs.Common.{Err}
+use Rattle.replies.specs.declared.refusal.Refusal.{Refusal}
+use Rattle.replies.specs.Refusals.{number}
 use Rattle.replies.specs.Ladder.{Rung, first_of, so_far, room}
 use Rattle.grid.specs.Domain.{count}
 use Rattle.rows.specs.Rows.{front}
-use Rattle.replies.proofs.LadderLaws.{First, first_is, stopped, found, clear_of}
+use Rattle.replies.proofs.LadderLaws.{First, first_is}
 use Rattle.replies.proofs.LadderLaws.First.{here, past, foot}
-use Rattle.buffer.specs.declared.answer.Packed.{Packed}
 use Rattle.buffer.specs.declared.ranges.Span.{Span}
 use Rattle.buffer.specs.Spans.{rows, laid}
 use Rattle.buffer.specs.Sets.{joined, contour_spans}
-use Rattle.buffer.specs.Answers.{packed, leaving, enough}
-use Rattle.buffer.proofs.AnswerLaws.{stored_refused, stored_done}
+use Rattle.buffer.specs.Answers.{packed, packed_as, leaving, enough}
+use Rattle.buffer.proofs.AnswerLaws.{stored_refused, stored_not, stored_done}
 use Rattle.buffer.proofs.SetLaws.{laid-length}
 use Rattle.millimetres.specs.Scale.{units}
 use Rattle.drawing.specs.Commands.{asked, items}
@@ -102,60 +104,46 @@ module _ (kinds : List ℕ) (floats : List Float) where
   numbers-length : Taken kinds floats → length (joined (drawn kinds floats)) ≡ length floats
   numbers-length t = ap length (numbers_are (taken_sound kinds floats t)) ∙ length-map floats units
 
--- n counts the contours of a drawing, k says what is refused of it, and r of the room too
-pub record Importing (kinds : List ℕ) (floats : List Float) (out : List ℤ) (records : List (List ℕ)) (n r : ℕ) : Type 0 where
-  pub k : ℕ
-  pub contours : n ≡ length (sizes kinds)
-  pub of_drawing : k ≡ first_of (refusals kinds floats)
-  pub with_room : r ≡ first_of (so_far k ++ room (leb (length floats) (length out) && leb n (length records)))
+-- a drawing that is refused
+pub import_refused : (kinds : List ℕ) (floats : List Float) (out : List ℤ) (records : List (List ℕ)) (r : Refusal)
+    → number r ≡ first_of (refusals kinds floats) → leaving (packed_as (Err r)) out records [] ≡ outcome kinds floats out records
+import_refused kinds floats out records = stored_not (joined (drawn kinds floats)) (contour_spans (drawn kinds floats)) [] out records [] (refusals kinds floats)
 
-module _ {kinds : List ℕ} {floats : List Float} {out : List ℤ} {records : List (List ℕ)} {n r : ℕ} (judged : Importing kinds floats out records n r) where
+-- nothing is refused of a drawing, room aside, and n counts its contours
+module _ (kinds : List ℕ) (floats : List Float) (out : List ℤ) (records : List (List ℕ)) (clear : 0 ≡ first_of (refusals kinds floats)) (n : ℕ) (contours : n ≡ length (sizes kinds)) where
   abbrev tested : Bool
   tested = leb (length floats) (length out) && leb n (length records)
 
   abbrev enough_for : Bool
   enough_for = enough (joined (drawn kinds floats)) (contour_spans (drawn kinds floats)) [] out records []
 
-  same_room : Taken kinds floats → tested ≡ enough_for
-  same_room t =
-      ap₂ (λ (a b : ℕ). leb a (length out) && leb b (length records)) (sym (numbers-length kinds floats t)) (judged.contours ∙ sym (spans-length kinds floats))
+  taken : Taken kinds floats
+  taken = taken_if kinds floats (sym clear)
+
+  same_room : tested ≡ enough_for
+  same_room =
+      ap₂ (λ (a b : ℕ). leb a (length out) && leb b (length records)) (sym (numbers-length kinds floats taken)) (contours ∙ sym (spans-length kinds floats))
       ∙ sym (and-true (leb (length (joined (drawn kinds floats))) (length out) && leb (length (contour_spans (drawn kinds floats))) (length records)))
 
-  number : r ≡ first_of (refusals kinds floats ++ room enough_for)
-  unfolding first_of
-  number = judged.with_room ∙ go judged.k judged.of_drawing
-    where
-      go : (j : ℕ) → j ≡ first_of (refusals kinds floats) → first_of (so_far j ++ room tested) ≡ first_of (refusals kinds floats ++ room enough_for)
-      go zero h =
-          let t = taken_if kinds floats (sym h) in
-          ap (λ (b : Bool). first_of (room b)) (same_room t) ∙ first_is _ _ (taken_past kinds floats t (room enough_for) _ (found (room enough_for) _ refl))
-      go (suc j) h =
-          sym (first_is (so_far (suc j) ++ room tested) (suc j) (here (ap not (eqb-suc-zero j))))
-          ∙ first_is _ _ (stopped (refusals kinds floats) (room enough_for) (suc j) h (λ z. omega arith))
+  pub import_no_room : tested ≡ false → leaving (packed 5 0 0 0) out records [] ≡ outcome kinds floats out records
+  import_no_room f =
+      stored_refused (joined (drawn kinds floats)) (contour_spans (drawn kinds floats)) [] out records [] (refusals kinds floats) enough_for refl 5
+      (first_is _ 5 (taken_past kinds floats taken (room enough_for) 5 (here (ap not (sym same_room ∙ f))))) _ refl (λ z. omega arith)
 
-  pub import_refused : (w : Packed) → w ≡ packed r 0 0 0 → (r ≡ 0 → ⊥) → leaving w out records [] ≡ outcome kinds floats out records
-  import_refused = stored_refused (joined (drawn kinds floats)) (contour_spans (drawn kinds floats)) [] out records [] (refusals kinds floats) enough_for refl r number
-
-  module _ (z : r ≡ 0) where
-    clear : (judged.k ≡ 0) × (tested ≡ true)
-    clear = clear_of judged.k tested (sym judged.with_room ∙ z)
-
-    taken : Taken kinds floats
-    taken = taken_if kinds floats (sym judged.of_drawing ∙ clear.0)
-
+  module _ (f : tested ≡ true) where
     pub import_points : Coordinates floats × (length floats ≤ length out)
-    import_points = (coordinates (taken_sound kinds floats taken), leb-true _ _ (and_left (leb (length floats) (length out)) (leb n (length records)) clear.1))
+    import_points = (coordinates (taken_sound kinds floats taken), leb-true _ _ (and_left (leb (length floats) (length out)) (leb n (length records)) f))
 
     pub import_ranges : length (sizes kinds) ≤ length records
     import_ranges =
-        let h : n ≤ length records = leb-true _ _ (and_right (leb (length floats) (length out)) (leb n (length records)) clear.1) in
-        omega (arith, judged.contours)
+        let h : n ≤ length records = leb-true _ _ (and_right (leb (length floats) (length out)) (leb n (length records)) f) in
+        omega (arith, contours)
 
     pub import_done : (o : List ℤ) (d : List (List ℕ)) → o ≡ front (map units floats) out → d ≡ front (rows (laid 0 (sizes kinds))) records
         → leaving (packed 0 (length floats / 2) n 0) o d [] ≡ outcome kinds floats out records
     import_done o d g h =
-        ap₂ (λ (a b : ℕ). leaving (packed 0 a b 0) o d []) (sym (points_are (taken_sound kinds floats taken))) (judged.contours ∙ sym (spans-length kinds floats))
-        ∙ stored_done (joined (drawn kinds floats)) (contour_spans (drawn kinds floats)) [] out records [] (refusals kinds floats) enough_for refl r number o d [] z
+        ap₂ (λ (a b : ℕ). leaving (packed 0 a b 0) o d []) (sym (points_are (taken_sound kinds floats taken))) (contours ∙ sym (spans-length kinds floats))
+        ∙ stored_done (joined (drawn kinds floats)) (contour_spans (drawn kinds floats)) [] out records [] (refusals kinds floats) enough_for refl 0 (first_is _ 0 (taken_past kinds floats taken (room enough_for) 0 (past (ap not (sym same_room ∙ f)) foot))) o d [] refl
         (g ∙ ap (λ (l : List ℤ). front l out) (sym (numbers_are (taken_sound kinds floats taken))))
         (h ∙ ap (λ (l : List Span). front (rows l) records) (sym (spans_are kinds floats)))
         refl

@@ -6,10 +6,14 @@ use native.Mathlib.Omega.{arith}
 use native.Mathlib.Numerals.{add-one}
 use lib.Dec.{ltb}
 use lib.ListN.{length, get_or, take, drop, set, replicate, length-append, length-drop, length-map, length-replicate, take-append-drop}
-use lib.Seq.{drop-cons, drop-length, take-suc, take-add, length-take-le, get_or-take, get_or-drop}
+use lib.Seq.{drop-drop, take-suc, take-add, length-take-le, get_or-take, get_or-drop}
 use lib.IntN.{ℤ, pos}
 use lib.Ieee.{Float}
-use mir.Val.{bool_byte}
+use mathlib.Core.Bool.{Bool, cond}
+use Rattle.std.proofs.Common.{append_assoc}
+use borrow.Rule.Slice.PartMut.{put_mid}
+use Rattle.std.specs.List.{count_by}
+use Rattle.std.proofs.lemmas.List.Recursion.{is_count_by}
 use borrow.Author.Tests.{lt-ltb, le-ltb}
 use Rattle.rows.specs.Rows.{front, placed}
 use Rattle.buffer.specs.declared.ranges.Span.{Span}
@@ -48,22 +52,31 @@ floats_more points row₀ row a b c h q e =
     ∙ ap (λ (l : List Float). front l row₀)
     (sym (map-append millimetres (take a points) (take b (drop a points))) ∙ ap (map millimetres) (sym (take-add a b points) ∙ ap (λ (k : ℕ). take k points) (sym q)))
 
--- how many contours have points, counted from the front
-one_counted : (a b : ℕ) → bool_byte (ltb a b) ≡ one (b - a)
-one_counted a b = go (b - a) refl
+-- how many contours have points
+one_counted : (a b rest : ℕ) → one (b - a) + rest ≡ cond (ltb a b) (1 + rest) rest
+one_counted a b rest = go (b - a) refl
   where
-    go : (n : ℕ) → b - a ≡ n → bool_byte (ltb a b) ≡ one n
-    go zero e = ap bool_byte (le-ltb a b (omega arith))
-    go (suc n) e = ap bool_byte (lt-ltb a b (omega arith))
+    go : (n : ℕ) → b - a ≡ n → one n + rest ≡ cond (ltb a b) (1 + rest) rest
+    go zero e = rw (le-ltb a b (omega arith)) (omega arith)
+    go (suc n) e = rw (lt-ltb a b (omega arith)) (omega arith)
 
-module _ (ranges : List (List ℕ)) (i : ℕ) where
-  pub filled_more : i < length ranges → filled (spans (drop i ranges)) ≡ bool_byte (ltb (get_or (get_or ranges i []) 0 0) (get_or (get_or ranges i []) 1 0)) + filled (spans (drop (i + 1) ranges))
-  unfolding filled
-  filled_more h = rw (drop-cons ranges i [] h, add-one i, one_counted (get_or (get_or ranges i []) 0 0) (get_or (get_or ranges i []) 1 0))
+-- a range that has points
+abbrev pub filled_one : List ℕ → Bool
+filled_one r = ltb (get_or r 0 0) (get_or r 1 0)
 
-  pub filled_done : i ≡ length ranges → filled (spans (drop i ranges)) ≡ 0
-  unfolding filled
-  filled_done e = rw (e, drop-length ranges)
+pub filled_counted : (ranges : List (List ℕ)) → filled (spans ranges) ≡ count_by filled_one ranges
+unfolding filled
+filled_counted = is_count_by (λ (l : List (List ℕ)). filled (spans l)) filled_one refl (λ r l. one_counted (get_or r 0 0) (get_or r 1 0) (filled (spans l)))
+
+-- a part of a row that is written over
+pub put_placed : {A : Type 0} (row d : List A) (at n : ℕ) → n ≡ length d → put_mid at n row d ≡ placed at d row
+put_placed row d at n e =
+    ap (λ (k : ℕ). take at row ++ (d ++ drop k (drop at row))) e
+    ∙ ap (λ (l : List _). take at row ++ (d ++ l)) (drop-drop (length d) at row)
+    ∙ sym (append_assoc (take at row) d (drop (at + length d) row))
+
+pub put_long : {A : Type 0} (row d : List A) (at n : ℕ) → length d ≡ n → at + n ≤ length row → length (put_mid at n row d) ≡ length row
+put_long row d at n e h = ap length (put_placed row d at n (sym e)) ∙ placed_long row at d (omega arith)
 
 -- n Lines
 abbrev pub ones : ℕ → List ℕ

@@ -1,5 +1,5 @@
 -- What an export answers, and what it leaves in the rows that are lent to it.
-use Rattle.std.specs.Prelude.{Bool, ◌&&◌, List, [], ◌∷◌, ◌++◌, map, ℕ, zero, suc, leb, length, ℤ, Float}
+use Rattle.std.specs.Prelude.{Result, Ok, Err, Bool, ◌&&◌, List, [], ◌∷◌, ◌++◌, map, ℕ, zero, suc, leb, length, ℤ, Float}
 use Rattle.grid.specs.declared.Point.{Point}
 use Rattle.grid.specs.Points.{points}
 use Rattle.replies.specs.Ladder.{Rung, first_of, room}
@@ -10,6 +10,9 @@ use Rattle.buffer.specs.Refusals.{set}
 use Rattle.buffer.specs.Sets.{joined, contours}
 use Rattle.grid.specs.Limits.{narrow}
 use Rattle.millimetres.specs.Scale.{millimetres}
+use Rattle.replies.specs.declared.refusal.Refusal.{Refusal}
+use Rattle.replies.specs.Refusals.{number}
+use Rattle.drawing.specs.declared.answer.Sizes.{Sizes}
 use Rattle.drawing.specs.declared.answer.Drawn.{Drawn}
 use Rattle.drawing.specs.declared.command.Place.{Place}
 use Rattle.drawing.specs.declared.command.Command.{Command}
@@ -32,6 +35,11 @@ commands l = joined (map (λ (c : List ℤ). outline (points c)) l)
 -- what is refused of a set, in order: 1, 2, 6, and 3 for what is off the narrow grid
 abbrev pub refusals : List ℤ → List (List ℕ) → List Rung
 refusals p ranges = set narrow p (sound (spans ranges) (count p))
+
+-- the sizes of what was written or its refusal, as C has it
+abbrev pub drawn_as : Result Sizes Refusal → Drawn
+drawn_as (Ok s) = record { reply = 0; commands = s.commands; floats = s.floats }
+drawn_as (Err r) = record { reply = number r; commands = 0; floats = 0 }
 
 -- the answer, and the two rows as they are left
 pub record Outcome : Type 0 where

@@ -5,6 +5,7 @@ ghost use Rattle.drawing.specs.Exporting.{place as place_at};
 
 use grid::Point;
 
+// The kinds of commands, numbers since they stand in a row of bytes that C lends.
 pub const MOVE: u8 = 0;
 
 pub const LINE: u8 = 1;

@@ -1,5 +1,5 @@
 -- Shapes whose contours are told one shape after the other.
-use mathlib.Core.Path.{◌≡◌, refl, sym, ◌∙◌, ap}
+use mathlib.Core.Path.{◌≡◌, refl, sym, ◌∙◌, ap, subst}
 use mathlib.Core.Bool.{true}
 use mathlib.Core.List.{List, [], ◌∷◌, ◌++◌, append_assoc, append-nil}
 use Prim.Native.Nat.{ℕ, suc, ◌+◌, ◌-◌, ◌<◌, ◌≤◌}
@@ -7,16 +7,14 @@ use native.Mathlib.Omega.{arith}
 use native.Mathlib.Numerals.{add-one}
 use lib.IntN.{ℤ}
 use lib.ListN.{length, get_or, take, drop, length-append, drop_of_length-le}
-use lib.Seq.{drop-cons, get_or-drop, get_or-take, length-take-le, take_all, take_at}
+use lib.Seq.{drop-cons, length-take-le, take_all, take_at}
 use borrow.Rule.Slice.PartMut.{mid_of, put_mid, same_len_mid, mid_len}
 use Rattle.ring.specs.declared.Rule.{Rule}
 use Rattle.buffer.specs.declared.ranges.Span.{Span}
 use Rattle.buffer.specs.Spans.{span, spans, sound_from}
 use Rattle.buffer.specs.Sets.{contours, shapes}
 use Rattle.buffer.proofs.SpanLaws.{first_starts, first_forward, others_sound, ends_at, rises}
-use Rattle.sets.specs.inside.Shape.{Named}
-use Rattle.sets.proofs.ShapeLaws.{names_moved}
-use Rattle.sets.proofs.EachLaws.{shape_part}
+use Rattle.sets.proofs.EachLaws.{shape_part, named_part}
 use Rattle.fates.specs.Fates.{shape_fates, fates}
 use Rattle.fates.specs.inside.Telling.{Tellable, Each}
 
@@ -30,6 +28,13 @@ pub record Telling (rule : Rule) (p : List ℤ) (cs ss : List (List ℕ)) (row�
 pub telling_none : (rule : Rule) (p : List ℤ) (cs ss : List (List ℕ)) (next prev mark row : List ℕ) → Each p cs ss next prev mark row → Telling rule p cs ss row 0 row 0
 telling_none rule p cs ss next prev mark row e = record { high = omega arith; long = refl; sound = e.sound; is = refl }
 
+-- they begin where the next range does
+pub telling_from : {rule : Rule} {p : List ℤ} {cs ss : List (List ℕ)} {row₀ : List ℕ} {at : ℕ} {row : List ℕ} {i : ℕ} → Telling rule p cs ss row₀ at row i → i < length ss → Telling rule p cs ss row₀ (get_or (get_or ss i []) 0 0) row i
+telling_from {rule} {p} {cs} {ss} {row₀} {at} {row} {i} x h =
+    subst (λ (n : ℕ). Telling rule p cs ss row₀ n row i)
+    (first_starts at (length cs) (span (get_or ss i [])) (spans (drop (suc i) ss)) (ap (λ (l : List (List ℕ)). sound_from at (spans l) (length cs)) (sym (drop-cons ss i [] h)) ∙ x.sound))
+    x
+
 module _ {rule : Rule} {p : List ℤ} {cs ss : List (List ℕ)} {row₀ : List ℕ} {at : ℕ} {row : List ℕ} {i : ℕ} (x : Telling rule p cs ss row₀ at row i) (long : length row₀ ≡ length cs) where
   module _ (h : i < length ss) where
     own : Span
@@ -42,7 +47,7 @@ module _ {rule : Rule} {p : List ℤ} {cs ss : List (List ℕ)} {row₀ : List �
     abbrev to : ℕ
     to = get_or (get_or ss i []) 1 0
 
-    pub begins : at ≡ get_or (get_or ss i []) 0 0
+    begins : at ≡ get_or (get_or ss i []) 0 0
     unfolding own
     begins = first_starts at (length cs) own (spans (drop (suc i) ss)) here
 
@@ -60,18 +65,10 @@ module _ {rule : Rule} {p : List ℤ} {cs ss : List (List ℕ)} {row₀ : List �
     pub ends_in_row : to ≤ length row
     ends_in_row = omega (arith, ends, x.long)
 
-    own_named : Named p cs → Named p (mid_of at (to - at) cs)
-    own_named n = record {
-      domain = n.domain;
-      names = λ j l.
-          let m = mid_len at to cs ends in
-          names_moved p cs (mid_of at (to - at) cs) (at + j) j (get_or-take (to - at) (drop at cs) j [] (omega arith) ∙ get_or-drop at cs j []) l (n.names (at + j) (omega (arith, ends)));
-    }
-
     pub own_tellable : {next₀ prev₀ mark₀ : List ℕ} → Tellable p cs next₀ prev₀ mark₀ row₀ → (next prev mark : List ℕ) → length next ≡ length next₀ → length prev ≡ length prev₀ → length mark ≡ length mark₀
         → Tellable p (mid_of at (to - at) cs) next prev mark (mid_of at (to - at) row)
     own_tellable g next prev mark e f m = record {
-      named = own_named g.named;
+      named = named_part p cs g.named at (to - at) (omega (arith, forward, ends));
       scratch = record { in_next = omega (arith, g.scratch.in_next); in_prev = omega (arith, g.scratch.in_prev); in_mark = omega (arith, g.scratch.in_mark) };
       long = mid_len at to row ends_in_row ∙ sym (mid_len at to cs ends);
     }

@@ -1,12 +1,12 @@
 -- A row that is filled with a number for each contour of a shape.
 use mathlib.Core.Path.{◌≡◌, refl, sym, ◌∙◌, ap}
-use mathlib.Core.List.{List, [], ◌∷◌, ◌++◌, map, append_assoc, append-nil}
+use mathlib.Core.List.{List, [], ◌∷◌, ◌++◌, map, append_assoc}
 use Prim.Native.Nat.{ℕ, ◌+◌, ◌<◌, ◌≤◌}
 use native.Mathlib.Omega.{arith}
 use native.Mathlib.Numerals.{add-one}
 use lib.IntN.{ℤ}
 use lib.ListN.{length, get_or, take, drop, set, length-set}
-use lib.Seq.{take_all, take-suc-set}
+use lib.Seq.{take-suc-set}
 use Rattle.grid.specs.Domain.{count}
 use Rattle.ring.specs.declared.Rule.{Rule}
 use Rattle.buffer.specs.Spans.{span, spans}
@@ -16,7 +16,7 @@ use Rattle.sets.specs.inside.Contour.{Scratch}
 use Rattle.sets.specs.inside.Shape.{Named}
 use Rattle.buffer.proofs.PartLaws.{part_long}
 use Rattle.sets.proofs.BehindLaws.{named_contour}
-use Rattle.sets.proofs.PartLaws.{next_part, no_part}
+use Rattle.sets.proofs.PartLaws.{next_part}
 use Rattle.fates.specs.Fates.{told, later, shape_fates}
 use Rattle.fates.specs.inside.Telling.{Walkable}
 
@@ -45,13 +45,6 @@ module _ {f : List ℤ → ℕ} {p : List ℤ} {ranges : List (List ℕ)} {row�
     where
       rest : List ℕ
       rest = map f (drop (i + 1) (contours p (spans ranges)))
-
-  pub filled_all : length ranges ≤ i → row ≡ take 1 row₀ ++ map f (drop 1 (contours p (spans ranges)))
-  filled_all h =
-      sym (append-nil row)
-      ∙ ap (λ (l : List ℕ). l ++ []) (sym (take_all i row (omega (arith, x.long))))
-      ∙ ap (λ (l : List (List ℤ)). take i row ++ map f l) (sym (no_part p ranges i h))
-      ∙ x.is
 
 -- a contour that a range names can be walked with scratch for all points
 pub named_walkable : (p : List ℤ) (ranges : List (List ℕ)) (k : ℕ) → Named p ranges → k < length ranges → (c : List ℤ) → c ≡ contour p (span (get_or ranges k []))

@@ -10,6 +10,10 @@ use lib.ListN.{length, take, drop}
 use lib.Seq.{length-take-le}
 use borrow.Author.Tests.{ltb-false, leb-true, not-false}
 use Rattle.integers.proofs.Logic.{and_left, and_right}
+use Rattle.std.proofs.Common.{Err}
+use Rattle.replies.specs.declared.refusal.Refusal.{Refusal}
+use Rattle.replies.specs.Refusals.{number}
+use Rattle.replies.proofs.RefusalLaws.{refusals_have_numbers, asked_further}
 use Rattle.replies.specs.Ladder.{Rung, first_of, room, so_far}
 use Rattle.replies.proofs.LadderLaws.{clear, cleared, so_far_then}
 use Rattle.grid.specs.Limits.{limit}
@@ -19,7 +23,7 @@ use Rattle.ring.specs.declared.Rule.{Rule}
 use Rattle.ring.specs.Walk.{occurrences}
 use Rattle.clean.specs.Outcome.{scratch}
 use Rattle.buffer.specs.declared.answer.Counted.{Counted}
-use Rattle.buffer.specs.Answers.{counted}
+use Rattle.buffer.specs.Answers.{counted, counted_as}
 use Rattle.buffer.specs.Spans.{spans, sound}
 use Rattle.buffer.specs.Sets.{shapes}
 use Rattle.buffer.specs.Shapes.{refusals}
@@ -39,14 +43,16 @@ module _ (p : List ℤ) (cs ss : List (List ℕ)) (l : Lent) where
   abbrev pub rungs : List Rung
   rungs = refusals p cs ss ++ lacking p cs l
 
-  pub first_refusal : (asked r : ℕ) → asked ≡ first_of (refusals p cs ss)
-      → r ≡ first_of (so_far asked ++ (scratch (count p) (length l.next) (length l.prev) (length l.mark) ++ room (leb (length cs) (length l.fates)))) → r ≡ first_of rungs
-  first_refusal asked r e g = so_far_then (refusals p cs ss) (lacking p cs l) tt asked r e g
+  pub first_refusal : {k : ℕ} → 0 ≡ first_of (refusals p cs ss) → k ≡ first_of (lacking p cs l) → k ≡ first_of rungs
+  first_refusal e f = asked_further (refusals p cs ss) (lacking p cs l) tt e f
 
-  pub refused : (rule : Rule) (r : ℕ) → r ≡ first_of rungs → (r ≡ 0 → ⊥) → (a : Counted) → a ≡ counted r 0 → leaving a l ≡ fates_outcome rule p cs ss l
+  refused_by : (rule : Rule) (k : ℕ) → k ≡ first_of rungs → (k ≡ 0 → ⊥) → leaving (record { reply = k; count = 0 }) l ≡ fates_outcome rule p cs ss l
   unfolding fates_outcome
-  refused rule zero e n a f = absurd (n refl)
-  refused rule (suc k) e n a f = ap (λ (b : Counted). leaving b l) f ∙ ap (λ (r : ℕ). outcome r l (telling (count p) (fates rule (shapes p (spans cs) (spans ss))) l)) e
+  refused_by rule zero e n = absurd (n refl)
+  refused_by rule (suc k) e n = ap (λ (r : ℕ). outcome r l (telling (count p) (fates rule (shapes p (spans cs) (spans ss))) l)) e
+
+  pub refused : (rule : Rule) (r : Refusal) → number r ≡ first_of rungs → leaving (counted_as (Err r)) l ≡ fates_outcome rule p cs ss l
+  refused rule r e = refused_by rule (number r) e (refusals_have_numbers r)
 
   module _ (z : first_of rungs ≡ 0) where
     parts : (first_of (refusals p cs ss) ≡ 0) × (first_of (lacking p cs l) ≡ 0)
@@ -81,14 +87,14 @@ module _ (p : List ℤ) (cs ss : List (List ℕ)) (l : Lent) where
 
     pub all_told : (rule : Rule) (next' prev' mark' fates' : List ℕ) → fates' ≡ fates rule (shapes p (spans cs) (spans ss)) → length fates' ≡ length (take (length cs) l.fates)
         → Zeroed (take (count p) l.next) (take (count p) l.prev) (take (count p) l.mark) next' prev' mark'
-        → (a : Counted) → a ≡ counted 0 (occurrences kept (fates rule (shapes p (spans cs) (spans ss))))
-        → leaving a (lent (next' ++ drop (count p) l.next) (prev' ++ drop (count p) l.prev) (mark' ++ drop (count p) l.mark) (fates' ++ drop (length cs) l.fates))
+        → (n : ℕ) → n ≡ occurrences kept (fates rule (shapes p (spans cs) (spans ss)))
+        → leaving (record { reply = 0; count = n }) (lent (next' ++ drop (count p) l.next) (prev' ++ drop (count p) l.prev) (mark' ++ drop (count p) l.mark) (fates' ++ drop (length cs) l.fates))
         ≡ fates_outcome rule p cs ss l
     unfolding fates_outcome
-    all_told rule next' prev' mark' fates' e n y a f =
+    all_told rule next' prev' mark' fates' e n y k f =
         let s = scratch_fits in
         let long : length cs ≡ length fates' = sym (n ∙ length-take-le (length cs) l.fates fates_fit) in
-        same_leaving f
+        same_leaving (ap (counted 0) f)
         (zeroed_back (count p) l.next next' s.in_next y.next-zero)
         (zeroed_back (count p) l.prev prev' s.in_prev y.prev-zero)
         (zeroed_back (count p) l.mark mark' s.in_mark y.mark-zero)

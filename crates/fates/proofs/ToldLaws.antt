@@ -2,7 +2,7 @@
 use mathlib.Core.Path.{◌≡◌, refl, sym, ◌∙◌, ap}
 use mathlib.Core.Bool.{Bool, true, false}
 use mathlib.Core.List.{List, []}
-use Prim.Native.Nat.{ℕ, zero, suc, ◌<◌}
+use Prim.Native.Nat.{ℕ, ◌<◌}
 use native.Mathlib.Omega.{arith}
 use lib.IntN.{ℤ}
 use Rattle.grid.specs.Points.{points}
@@ -18,7 +18,7 @@ use Rattle.sets.specs.Fates.{Fate, fate}
 use Rattle.sets.specs.Fates.Fate.{stays, gone}
 use Rattle.sets.specs.inside.Contour.{answer_of}
 use Rattle.sets.proofs.FateLaws.{fated_few, fated_copied, fated_walked}
-use Rattle.fates.specs.Fates.{kept, collapsed, behind, told, later}
+use Rattle.fates.specs.Fates.{kept, collapsed, told}
 
 -- by the reply that the contour's cleaning has
 told_kept : (w : Fate) (r : Cleaned) → r ≡ answer_of w → r.reply ≡ 0 → kept ≡ told w
@@ -43,12 +43,3 @@ module _ (rule : Rule) (c : List ℤ) where
 
       pub walked_collapses : w.kept ≡ false → collapsed ≡ told (fate rule c)
       walked_collapses t = told_collapsed (fate rule c) _ (fated_walked rule c [] b e f _ _ (settled_fallen rule c [] k w mark prev d t)).answer refl
-
--- a later contour, by its outline
-pub later_behind : (rule : Rule) (o : ℕ) (c : List ℤ) → (o ≡ kept → ⊥) → behind ≡ later rule o c
-later_behind rule zero c n = absurd (n refl)
-later_behind rule (suc k) c n = refl
-
-pub later_alone : (rule : Rule) (o : ℕ) (c : List ℤ) → o ≡ kept → told (fate rule c) ≡ later rule o c
-later_alone rule zero c e = refl
-later_alone rule (suc k) c e = absurd (omega arith)

@@ -5,10 +5,11 @@ pub mod inner;
 
 ghost use Rattle.std.specs.Prelude.{◌≡◌};
 ghost use Rattle.ring.specs.declared.Rule as R;
+ghost use Rattle.buffer.specs.Answers.{counted_as};
 ghost use Rattle.fates.specs.Outcome.{lent, leaving, fates_outcome};
 
-use buffer::Counted;
 use inner::shapes;
+use replies::Refusal;
 use ring::Rule;
 use sets::inner::lacking;
 
@@ -22,20 +23,17 @@ fn told(
     prev: &mut [u32],
     mark: &mut [u8],
     fates: &mut [u8],
-) -> Counted
-    ensures { leaving result (lent next.new prev.new mark.new fates.new)
+) -> Result<usize, Refusal>
+    ensures { leaving (counted_as result) (lent next.new prev.new mark.new fates.new)
         ≡ fates_outcome rule points.now contours.now shapes.now
         (lent next.old prev.old mark.old fates.old) }
 {
     let n = points.len() / 2;
     let k = contours.len();
     let room = k <= fates.len();
-    let asked = buffer::shapes::refused(points, contours, shapes);
-    let refused = lacking::or_lacking(asked, n, next.len(), prev.len(), mark.len(), room);
-    if refused != 0 {
-        return buffer::answer::how_many(refused, 0);
-    }
-    let kept = shapes::sweep(
+    buffer::shapes::check(points, contours, shapes)?;
+    lacking::rows(n, next.len(), prev.len(), mark.len(), room)?;
+    Ok(shapes::sweep(
         rule,
         points,
         contours,
@@ -44,8 +42,7 @@ fn told(
         &mut prev[..n],
         &mut mark[..n],
         &mut fates[..k],
-    );
-    buffer::answer::how_many(replies::DONE, kept)
+    ))
 }
 
 // The fates of the contours where their shapes lose their collinear points.
@@ -57,8 +54,8 @@ pub fn simplified(
     prev: &mut [u32],
     mark: &mut [u8],
     fates: &mut [u8],
-) -> Counted
-    ensures { leaving result (lent next.new prev.new mark.new fates.new)
+) -> Result<usize, Refusal>
+    ensures { leaving (counted_as result) (lent next.new prev.new mark.new fates.new)
         ≡ fates_outcome R.Rule.Collinear points.now contours.now shapes.now
         (lent next.old prev.old mark.old fates.old) }
 {
@@ -83,8 +80,8 @@ pub fn despiked(
     prev: &mut [u32],
     mark: &mut [u8],
     fates: &mut [u8],
-) -> Counted
-    ensures { leaving result (lent next.new prev.new mark.new fates.new)
+) -> Result<usize, Refusal>
+    ensures { leaving (counted_as result) (lent next.new prev.new mark.new fates.new)
         ≡ fates_outcome R.Rule.Spike points.now contours.now shapes.now
         (lent next.old prev.old mark.old fates.old) }
 {

@@ -4,10 +4,8 @@ use mathlib.Core.List.{List, [], ◌∷◌}
 use Prim.Native.Nat.{ℕ, ◌+◌, ◌<◌}
 use native.Mathlib.Omega.{arith}
 use lib.ListN.{get_or, set, replicate, get_or-replicate}
-use lib.IntN.{ℤ, pos, +ℤ_idr}
+use lib.IntN.{ℤ, +ℤ_idr}
 use Rattle.replies.specs.Ladder.{first_of}
-use Rattle.grid.specs.Points.{points}
-use Rattle.grid.specs.Area.{reported}
 use Rattle.grid.specs.Domain.{count, Contour}
 use Rattle.grid.proofs.DomainLaws.{contour_clear}
 use Rattle.area.specs.Answers.{refusals}
@@ -19,14 +17,11 @@ use Rattle.ring.specs.Rule.{goes}
 use Rattle.ring.proofs.Listed.{rising_few}
 use Rattle.ring.proofs.Theorems.{kept_rising, kept_at_least_three}
 use Rattle.clean.specs.declared.cleaning.Cleaned.{Cleaned}
-use Rattle.clean.specs.Outcome.{walked, lent, finished}
+use Rattle.clean.specs.Outcome.{walked}
 use Rattle.clean.specs.inside.Settling.{Settled}
-use Rattle.figures.specs.declared.answer.Figures.{Figures}
 use Rattle.figures.specs.Halves.{high, low}
-use Rattle.figures.specs.Entries.{Entry, entry, walk_entry}
+use Rattle.figures.specs.Entries.{entry}
 use Rattle.figures.specs.Batch.{numbers, tally, sum_of, areas, figures_of}
-use Rattle.figures.specs.Adding.{written}
-use Rattle.figures.specs.inside.Adding.{Counts}
 
 pub one_figures : (reply before after decisions : ℕ) (area : ℤ) → reply < numbers → (h : ℤ) (l : ℕ) → h ≡ high area → l ≡ low area
     → record { totals = set (replicate numbers 0) reply 1; before = before; after = after; decisions = decisions; high = h; low = l } ≡ figures_of (entry reply before after decisions area ∷ [])
@@ -36,45 +31,17 @@ one_figures reply before after decisions area s h l e f =
     let z : (n : ℕ) → n + 0 ≡ n = λ n. omega arith in
     rw (e, f, t, z before, z after, z decisions, +ℤ_idr area)
 
-module _ (rule : Rule) (c out : List ℤ) (r : Cleaned) (exit : List ℤ) (d : Settled rule c out r exit) where
-  abbrev pub end : End
-  end = (walked rule c).end
-
-  abbrev many : ℕ
-  many = (walked rule c).tally.decisions
-
-  output_is : exit ≡ written c end out
-  output_is = d.output ∙ go end
+-- what is kept of a contour has three points or more, and so the contour has an area
+module _ (rule : Rule) (c out : List ℤ) (r : Cleaned) (exit : List ℤ) (d : Settled rule c out r exit) (z : r.reply ≡ 0) where
+  not_empty : count c ≡ 0 → ⊥
+  not_empty none = go (walked rule c).end refl
     where
-      go : (w : End) → (finished c w (walked rule c).tally (lent [] [] [] out)).rows.out ≡ written c w out
-      go (kept s) = refl
-      go collapsed = refl
+      go : (w : End) → (walked rule c).end ≡ w → ⊥
+      go (kept s) e =
+          let big = kept_at_least_three (goes rule c) (count c) e in
+          let within = rising_few 0 (count c) s (kept_rising (goes rule c) (count c) e) in
+          omega arith
+      go collapsed e = let y : ◌≡◌ {A = ℕ} 7 0 = sym (ap (λ (a : Cleaned). a.reply) d.answer ∙ rw e) ∙ z in omega arith
 
-  pub counts_fallen : (r.reply ≡ 0 → ⊥) → (g : Figures) → g ≡ figures_of (entry 7 (count c) 0 r.decisions (pos 0) ∷ []) → Counts rule c out g exit
-  counts_fallen n g h = record { figures_are = h ∙ ap (λ (x : Entry). figures_of (x ∷ [])) (go end refl); output = output_is }
-    where
-      go : (w : End) → end ≡ w → entry 7 (count c) 0 r.decisions (pos 0) ≡ walk_entry c end many
-      go (kept s) e = absurd (n (ap (λ (a : Cleaned). a.reply) d.answer ∙ rw e))
-      go collapsed e = rw (d.answer, e)
-
-  module _ (z : r.reply ≡ 0) where
-    -- what is kept has three points or more
-    pub not_empty : count c ≡ 0 → ⊥
-    not_empty none = go end refl
-      where
-        go : (w : End) → end ≡ w → ⊥
-        go (kept s) e =
-            let big = kept_at_least_three (goes rule c) (count c) e in
-            let within = rising_few 0 (count c) s (kept_rising (goes rule c) (count c) e) in
-            omega arith
-        go collapsed e = let y : ◌≡◌ {A = ℕ} 7 0 = sym (ap (λ (a : Cleaned). a.reply) d.answer ∙ rw e) ∙ z in omega arith
-
-    pub area_asked : Contour c (count c) → first_of (refusals c) ≡ 0
-    area_asked k = sym (refused_none c (contour_clear c k) not_empty)
-
-    pub counts_kept : (a : ℤ) → a ≡ reported (points c) → (g : Figures) → g ≡ figures_of (entry 0 (count c) r.points r.decisions a ∷ []) → Counts rule c out g exit
-    counts_kept a is g h = record { figures_are = h ∙ ap (λ (x : Entry). figures_of (x ∷ [])) (go end refl); output = output_is }
-      where
-        go : (w : End) → end ≡ w → entry 0 (count c) r.points r.decisions a ≡ walk_entry c end many
-        go (kept s) e = rw (d.answer, e, is)
-        go collapsed e = let y : ◌≡◌ {A = ℕ} 7 0 = sym (ap (λ (a : Cleaned). a.reply) d.answer ∙ rw e) ∙ z in absurd (omega arith)
+  pub area_asked : Contour c (count c) → first_of (refusals c) ≡ 0
+  area_asked k = sym (refused_none c (contour_clear c k) not_empty)

@@ -1,20 +1,15 @@
--- High and low make up their integer, and no other two do; and how the code tells them, below 0 by how far a number lies below -1.
-use mathlib.Core.Path.{◌≡◌, refl, sym, ◌∙◌, ap, subst}
-use mathlib.Core.Bool.{true, false}
+-- High and low make up their integer, and no other two do; and how the code tells them.
+use mathlib.Core.Path.{◌≡◌, sym, ◌∙◌, ap}
 use Prim.Native.Nat.{ℕ, ◌+◌, ◌-◌, ◌/◌, ◌%◌, ◌<◌, ◌^◌}
 use native.Mathlib.Omega.{arith}
-use lib.Dec.{T}
-use lib.IntN.{ℤ, pos, negsuc, nat_abs, ◌-ℤ◌}
-use lib.Signed.{mag, lt_z}
+use lib.IntN.{ℤ, pos, negsuc, nat_abs}
 use mir.Syntax.{w64}
 use mir.Val.{SFits, to_z, of_z}
-use mir.Facts.{to_z-of_z, to_z_pos}
-use borrow.Author.Rules.{sfits_of}
-use borrow.Author.Tests.{ltb-true}
+use mir.Facts.{to_z-of_z}
+use Rattle.std.specs.Int.{int_div_euclid, int_rem_euclid}
 use Rattle.integers.specs.Linear.{Ex, at, num, ◌:+◌, ◌:*◌, value, up, dn, above, below}
 use Rattle.integers.proofs.Linear.{parts, same_parts}
 use Rattle.integers.proofs.Ring.{⊖-eq}
-use Rattle.integers.proofs.Signed.{less, rest_is, size_fits}
 use Rattle.figures.specs.Halves.{high, low, whole}
 
 same_value : (e f : Ex) → up e + dn f ≡ up f + dn e → value e ≡ value f
@@ -44,69 +39,24 @@ split_only (negsuc n) (negsuc q) l e s =
     let f = same_parts (at (negsuc n)) (at (negsuc q) :* num (2 ^ 32) :+ num l) e in
     (ap negsuc (omega (arith, f)), omega (arith, f))
 
-below_high : (z : ℤ) → lt_z z (pos 0) ≡ true → high z ≡ negsuc (mag z / 2 ^ 32)
-unfolding high
-below_high (pos n) t = let h : n < 0 = ltb-true n 0 t in absurd (omega arith)
-below_high (negsuc n) t = refl
+-- the number as the code holds it
+abbrev held : ℤ → ℤ
+held z = to_z w64 (of_z w64 z)
 
-below_low : (z : ℤ) → lt_z z (pos 0) ≡ true → 4294967295 - mag z % 2 ^ 32 ≡ low z
-unfolding low
-below_low (pos n) t = let h : n < 0 = ltb-true n 0 t in absurd (omega arith)
-below_low (negsuc n) t = omega arith
-
-above_high : (z : ℤ) → lt_z z (pos 0) ≡ false → pos (nat_abs z / 2 ^ 32) ≡ high z
-unfolding high
-above_high (pos n) t = refl
-above_high (negsuc n) t = absurd (subst T t tt)
-
-above_low : (z : ℤ) → lt_z z (pos 0) ≡ false → nat_abs z % 2 ^ 32 ≡ low z
-unfolding low
-above_low (pos n) t = refl
-above_low (negsuc n) t = absurd (subst T t tt)
-
+-- the library's quotient and rest, rounded down
 module _ (z : ℤ) (f : SFits w64 z) where
-  -- the number as the code holds it
-  abbrev held : ℤ
-  held = to_z w64 (of_z w64 z)
+  pub high_is : held (int_div_euclid (held z) (pos (2 ^ 32))) ≡ high z
+  unfolding high
+  high_is = ap (λ (y : ℤ). held (int_div_euclid y (pos (2 ^ 32)))) (to_z-of_z f) ∙ go z f
+    where
+      go : (z : ℤ) → SFits w64 z → held (int_div_euclid z (pos (2 ^ 32))) ≡ high z
+      go (pos n) f = to_z-of_z {w = w64} {z = pos (n / 2 ^ 32)} (record { sfits = omega (arith, f.sfits) })
+      go (negsuc n) f = to_z-of_z {w = w64} {z = negsuc (n / 2 ^ 32)} (record { sfits = omega (arith, f.sfits) })
 
-  module _ (t : lt_z held (pos 0) ≡ true) where
-    negative : lt_z z (pos 0) ≡ true
-    negative = ap (λ (x : ℤ). lt_z x (pos 0)) (sym (to_z-of_z f)) ∙ t
-
-    -- how far it lies below -1
-    abbrev rest : ℕ
-    rest = nat_abs (to_z w64 (of_z w64 (negsuc 0 -ℤ held)))
-
-    rest_mag : rest ≡ mag z
-    rest_mag = ap nat_abs (rest_is w64 z f t)
-
-    pub part_fits : SFits w64 (pos (rest / 2 ^ 32))
-    part_fits = record { sfits = omega (arith, rest_mag, f.sfits) }
-
-    turned : negsuc 0 -ℤ to_z w64 (rest / 2 ^ 32) ≡ negsuc (mag z / 2 ^ 32)
-    turned = ap (λ (y : ℤ). negsuc 0 -ℤ y) (to_z_pos w64 {n = rest / 2 ^ 32} part_fits.sfits) ∙ less (rest / 2 ^ 32) ∙ ap (λ (n : ℕ). negsuc (n / 2 ^ 32)) rest_mag
-
-    pub turned_fits : SFits w64 (negsuc 0 -ℤ to_z w64 (rest / 2 ^ 32))
-    turned_fits = subst (SFits w64) (sym turned) (sfits_of {z = negsuc (mag z / 2 ^ 32)} (omega (arith, f.sfits)))
-
-    pub turned_high : to_z w64 (of_z w64 (negsuc 0 -ℤ to_z w64 (rest / 2 ^ 32))) ≡ high z
-    turned_high = to_z-of_z turned_fits ∙ turned ∙ sym (below_high z negative)
-
-    pub turned_low : 4294967295 - rest % 2 ^ 32 ≡ low z
-    turned_low = ap (λ (n : ℕ). 4294967295 - n % 2 ^ 32) rest_mag ∙ below_low z negative
-
-  module _ (t : lt_z held (pos 0) ≡ false) where
-    not_negative : lt_z z (pos 0) ≡ false
-    not_negative = ap (λ (x : ℤ). lt_z x (pos 0)) (sym (to_z-of_z f)) ∙ t
-
-    size_is : nat_abs held ≡ nat_abs z
-    size_is = ap nat_abs (to_z-of_z f)
-
-    pub plain_fits : SFits w64 (pos (nat_abs held / 2 ^ 32))
-    plain_fits = record { sfits = omega (arith, size_is, (size_fits w64 z f).fits) }
-
-    pub plain_high : to_z w64 (nat_abs held / 2 ^ 32) ≡ high z
-    plain_high = to_z_pos w64 {n = nat_abs held / 2 ^ 32} plain_fits.sfits ∙ ap (λ (n : ℕ). pos (n / 2 ^ 32)) size_is ∙ above_high z not_negative
-
-    pub plain_low : nat_abs held % 2 ^ 32 ≡ low z
-    plain_low = ap (λ (n : ℕ). n % 2 ^ 32) size_is ∙ above_low z not_negative
+  pub low_is : nat_abs (held (int_rem_euclid (held z) (pos (2 ^ 32)))) ≡ low z
+  unfolding low
+  low_is = ap (λ (y : ℤ). nat_abs (held (int_rem_euclid y (pos (2 ^ 32))))) (to_z-of_z f) ∙ go z
+    where
+      go : (z : ℤ) → nat_abs (held (int_rem_euclid z (pos (2 ^ 32)))) ≡ low z
+      go (pos n) = ap nat_abs (to_z-of_z {w = w64} {z = pos (n % 2 ^ 32)} (record { sfits = omega arith }))
+      go (negsuc n) = ap nat_abs (to_z-of_z {w = w64} {z = pos (2 ^ 32 - 1 - n % 2 ^ 32)} (record { sfits = omega arith })) ∙ omega arith

@@ -9,6 +9,9 @@ use lib.ListN.{length, take, length-append, length-map}
 use lib.IntN.{ℤ, pos, negsuc, neg_ℤ, ◌+ℤ◌}
 use lib.Signed.{le_z, mag}
 use borrow.Author.Tests.{le-leb}
+use Rattle.replies.specs.declared.refusal.Refusal.{Refusal}
+use Rattle.replies.specs.declared.refusal.Refusal.TheVariants.{Odd, TooMany, OffGrid, Scratch, Room, Ranges, Collapsed, Empty, Edition, Length, NoShape, CantCarry, NoDrawing, NotFinite, Width, Fill, Full, NoneLeft, FiguresFull}
+use Rattle.replies.specs.Refusals.{number}
 use Rattle.integers.specs.Linear.{at, num, ◌:+◌, :neg, above, below}
 use Rattle.integers.proofs.Linear.{le_holds, le_means}
 use Rattle.grid.specs.Limits.{most}
@@ -134,6 +137,28 @@ module _ (rule : Rule) {c : List ℤ} {n : ℕ} (k : Contour c n) where
       go collapsed e b = record { number = omega arith; before = few_points; after = omega arith; decisions = omega (arith, few_points); area = reach_one (pos 0) (omega arith) }
 
 -- and of a refused set
+-- every refusal has one of the reply numbers
+pub refusals_numbered : (r : Refusal) → number r < numbers
+refusals_numbered Odd = omega arith
+refusals_numbered TooMany = omega arith
+refusals_numbered OffGrid = omega arith
+refusals_numbered Scratch = omega arith
+refusals_numbered Room = omega arith
+refusals_numbered Ranges = omega arith
+refusals_numbered Collapsed = omega arith
+refusals_numbered Empty = omega arith
+refusals_numbered Edition = omega arith
+refusals_numbered Length = omega arith
+refusals_numbered NoShape = omega arith
+refusals_numbered CantCarry = omega arith
+refusals_numbered NoDrawing = omega arith
+refusals_numbered NotFinite = omega arith
+refusals_numbered Width = omega arith
+refusals_numbered Fill = omega arith
+refusals_numbered Full = omega arith
+refusals_numbered NoneLeft = omega arith
+refusals_numbered FiguresFull = omega arith
+
 pub small_refused : (k : ℕ) → k < numbers → AllSmall (refused_set k ∷ [])
 small_refused k h = and {e = refused_set k} (record { number = h; before = omega arith; after = omega arith; decisions = omega arith; area = reach_one (pos 0) (omega arith) }) nothing
 

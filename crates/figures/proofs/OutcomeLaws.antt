@@ -4,17 +4,19 @@ use mathlib.Core.Bool.{true, false}
 use mathlib.Core.List.{List, [], ◌∷◌, ◌++◌}
 use Prim.Native.Nat.{ℕ, zero, suc, ◌<◌, ◌≤◌}
 use native.Mathlib.Omega.{arith}
-use lib.Dec.{leb}
 use lib.IntN.{ℤ}
 use lib.ListN.{length, take, drop}
 use lib.Seq.{length-take-le}
 use borrow.Author.Tests.{ltb-false, leb-true, not-false}
-use Rattle.replies.specs.Ladder.{Rung, first_of, room, so_far}
-use Rattle.replies.proofs.LadderLaws.{clear, cleared, so_far_then, first_within}
+use Rattle.replies.specs.Ladder.{Rung, first_of}
+use Rattle.replies.specs.declared.refusal.Refusal.{Refusal}
+use Rattle.replies.specs.Refusals.{number}
+use Rattle.replies.proofs.LadderLaws.{clear, cleared, first_within}
+use Rattle.replies.proofs.RefusalLaws.{refusals_have_numbers}
 use Rattle.grid.specs.Limits.{limit}
 use Rattle.grid.specs.Domain.{count}
 use Rattle.ring.specs.declared.Rule.{Rule}
-use Rattle.clean.specs.Outcome.{scratch, Lent, lent}
+use Rattle.clean.specs.Outcome.{Lent, lent}
 use Rattle.buffer.specs.Spans.{spans, sound}
 use Rattle.buffer.specs.Sets.{contours}
 use Rattle.buffer.specs.Contours.{refusals}
@@ -50,23 +52,22 @@ module _ (p : List ℤ) (ranges : List (List ℕ)) (l : Lent) where
   abbrev pub rungs : List Rung
   rungs = set_refusals p ranges l
 
-  pub first_refusal : (asked r : ℕ) → asked ≡ first_of (refusals p ranges)
-      → r ≡ first_of (so_far asked ++ (scratch (count p) (length l.next) (length l.prev) (length l.mark) ++ room (leb (length p) (length l.out)))) → r ≡ first_of rungs
-  first_refusal asked r e g = so_far_then (refusals p ranges) (lacking p l) tt asked r e g
-
   -- it has a reply number
-  pub refusal_small : first_of rungs < numbers
+  refusal_small : first_of rungs < numbers
   refusal_small = let h : first_of rungs ≤ 21 = first_within 21 rungs refl in omega arith
 
   module _ (f : Figures) (rule : Rule) where
-    pub added_refused : (r : ℕ) → r ≡ first_of rungs → (r ≡ 0 → ⊥) → (a : Added) → a ≡ answered (first_of (over (fits f 1))) f (sum f (figures_of (refused_set r ∷ []))) → leaving a l ≡ add_outcome f rule p ranges l
+    as_refused : (r : ℕ) → r ≡ first_of rungs → (r ≡ 0 → ⊥) → (a : Added) → a ≡ answered (first_of (over (fits f 1))) f (sum f (figures_of (refused_set r ∷ []))) → leaving a l ≡ add_outcome f rule p ranges l
     unfolding add_outcome
-    added_refused zero e n a h = absurd (n refl)
-    added_refused (suc k) e n a h = rw (← e) (ap (λ (b : Added). leaving b l) h ∙ go (first_of (over (fits f 1))))
+    as_refused zero e n a h = absurd (n refl)
+    as_refused (suc k) e n a h = rw (← e) (ap (λ (b : Added). leaving b l) h ∙ go (first_of (over (fits f 1))))
       where
         go : (r : ℕ) → leaving (answered r f (sum f (figures_of (refused_set (suc k) ∷ [])))) l ≡ outcome r f (sum f (figures_of (refused_set (suc k) ∷ []))) l l
         go zero = refl
         go (suc j) = refl
+
+    pub added_refused : (r : Refusal) → number r ≡ first_of rungs → (a : Added) → a ≡ answered (first_of (over (fits f 1))) f (sum f (figures_of (refused_set (number r) ∷ []))) → leaving a l ≡ add_outcome f rule p ranges l
+    added_refused r e a h = as_refused (number r) e (refusals_have_numbers r) a h
 
   module _ (z : first_of rungs ≡ 0) where
     parts : (first_of (refusals p ranges) ≡ 0) × (first_of (lacking p l) ≡ 0)

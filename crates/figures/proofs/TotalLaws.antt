@@ -4,17 +4,15 @@ use mathlib.Core.List.{List, [], ◌∷◌, ◌++◌, append_assoc, append-nil}
 use Prim.Native.Nat.{ℕ, zero, suc, ◌+◌, ◌<◌, ◌≤◌}
 use native.Mathlib.Omega.{arith}
 use native.Mathlib.Numerals.{add-one}
-use lib.ListN.{length, get_or, set, take, drop, length-append, length-drop}
+use lib.ListN.{length, get_or, set, take, drop}
 use lib.Seq.{drop-cons, drop-length, take-suc, take-length, length-take-le, set_at, get_or_at}
+use Rattle.std.specs.List.{sum_by}
+use Rattle.std.proofs.lemmas.List.Recursion.{is_sum_by}
 use Rattle.figures.specs.Joining.{added_up, total}
 
-pub total_more : (row : List ℕ) (i : ℕ) → i < length row → total (drop i row) ≡ get_or row i 0 + total (drop (i + 1) row)
+pub total_is : (row : List ℕ) → total row ≡ sum_by (λ (n : ℕ). n) row
 unfolding total
-total_more row i h = rw (drop-cons row i 0 h, add-one i)
-
-pub total_done : (row : List ℕ) (i : ℕ) → i ≡ length row → total (drop i row) ≡ 0
-unfolding total
-total_done row i e = rw (e, drop-length row)
+total_is = is_sum_by total (λ (n : ℕ). n) refl (λ _ _. refl)
 
 -- no number is above the sum
 pub at_most_total : (row : List ℕ) (i : ℕ) → get_or row i 0 ≤ total row
@@ -69,8 +67,3 @@ module _ (a b : List ℕ) (e : length a ≡ length b) where
   so_far_at i h =
       let x = added_up a b in
       rw (drop-cons a i 0 h) (get_or_at (take i x) (get_or a i 0) (drop (suc i) a) 0 i (length-take-le i x (omega (arith, added-length a b e))))
-
-  pub so_far_length : (i : ℕ) → i ≤ length a → length (so_far a b i) ≡ length a
-  so_far_length i h =
-      let x = added_up a b in
-      omega (arith, length-append (take i x) (drop i a), length-take-le i x (omega (arith, added-length a b e)), length-drop i a)

@@ -5,7 +5,10 @@ use Prim.Native.Nat.{ℕ, zero, suc, ◌+◌, ◌-◌, ◌*◌, ◌^◌}
 use lib.Dec.{leb}
 use lib.IntN.{ℤ, pos, neg_ℤ, ◌+ℤ◌}
 use lib.Signed.{le_z}
+use Rattle.std.specs.Prelude.{Result, Ok, Err}
+use Rattle.replies.specs.declared.refusal.Refusal.{Refusal}
 use Rattle.replies.specs.Ladder.{Rung, first_of}
+use Rattle.replies.specs.Refusals.{number}
 use Rattle.figures.specs.declared.answer.Figures.{Figures}
 use Rattle.figures.specs.declared.answer.Added.{Added}
 use Rattle.figures.specs.Halves.{high, low, whole}
@@ -73,6 +76,11 @@ over fit = (not fit, 21) ∷ []
 -- an answer
 abbrev pub added : ℕ → Figures → Added
 added reply f = record { reply = reply; figures = f }
+
+-- what comes of an addition to figures, or its refusal and the figures as they were, as C has it
+abbrev pub added_as : Figures → Result Figures Refusal → Added
+added_as f (Ok g) = added 0 g
+added_as f (Err r) = added (number r) f
 
 -- by the number of the refusal: the figures as they were, or others
 abbrev pub answered : ℕ → Figures → Figures → Added

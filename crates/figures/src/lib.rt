@@ -4,15 +4,21 @@
 pub mod answer;
 pub mod inner;
 
-ghost use Rattle.std.specs.Prelude.{◌≡◌, []};
+ghost use Rattle.std.specs.Prelude.{◌≡◌, [], ◌++◌, length};
+ghost use lib.Dec.{leb};
+ghost use Rattle.replies.specs.Ladder.{first_of, room};
+ghost use Rattle.replies.specs.Refusals.{told};
+ghost use Rattle.grid.specs.Domain.{count};
 ghost use Rattle.ring.specs.declared.Rule as R;
-ghost use Rattle.clean.specs.Outcome.{lent};
+ghost use Rattle.clean.specs.Outcome.{scratch, lent};
+ghost use Rattle.buffer.specs.Contours.{refusals};
 ghost use Rattle.figures.specs.Batch.{figures_of};
-ghost use Rattle.figures.specs.Joining.{joined_figures};
+ghost use Rattle.figures.specs.Joining.{added_as, joined_figures};
 ghost use Rattle.figures.specs.Adding.{leaving, add_outcome};
 
 pub use answer::{Added, Figures};
 use inner::{adding, sums};
+use replies::Refusal;
 use ring::Rule;
 use sets::inner::lacking;
 
@@ -30,26 +36,34 @@ pub fn none() -> Figures
     }
 }
 
-// The figures of two batches together, or 21 and the first's.
-pub fn joined(f: Figures, g: Figures) -> Added
-    ensures { result ≡ joined_figures f g }
+// The figures of two batches together, or 21.
+pub fn joined(f: Figures, g: Figures) -> Result<Figures, Refusal>
+    ensures { added_as f result ≡ joined_figures f g }
 {
     if !sums::fits(f, sums::counted(g)) {
-        return Added {
-            reply: replies::FIGURES_FULL,
-            figures: f,
-        };
+        return Err(Refusal::FiguresFull);
     }
     if !sums::possible(g) {
-        return Added {
-            reply: replies::FIGURES_FULL,
-            figures: f,
-        };
+        return Err(Refusal::FiguresFull);
     }
-    Added {
-        reply: replies::DONE,
-        figures: sums::sum(f, g),
-    }
+    Ok(sums::sum(f, g))
+}
+
+// What a set that is brought asks: its first refusal, if any.
+fn check(
+    points: &[i32],
+    contours: &[[usize; 2]],
+    next: usize,
+    prev: usize,
+    mark: usize,
+    out: usize,
+) -> Result<(), Refusal>
+    ensures { told result
+        ≡ first_of (refusals points.now contours.now
+        ++ (scratch (count points.now) next prev mark ++ room (leb (length points.now) out))) }
+{
+    buffer::contours::check(points, contours)?;
+    lacking::rows(points.len() / 2, next, prev, mark, points.len() <= out)
 }
 
 // One set more, by a rule: each of its contours is cleaned alone and counts under its reply, or the set is refused and
@@ -63,23 +77,24 @@ fn add(
     prev: &mut [u32],
     mark: &mut [u8],
     out: &mut [i32],
-) -> Added
-    ensures { leaving result (lent next.new prev.new mark.new out.new)
+) -> Result<Figures, Refusal>
+    ensures { leaving (added_as f result) (lent next.new prev.new mark.new out.new)
         ≡ add_outcome f rule points.now contours.now
         (lent next.old prev.old mark.old out.old) }
 {
     let n = points.len() / 2;
-    let room = points.len() <= out.len();
-    let asked = buffer::contours::refused(points, contours);
-    let refused = lacking::or_lacking(asked, n, next.len(), prev.len(), mark.len(), room);
-    if refused != 0 {
-        return adding::add_refused(f, refused);
+    if let Err(refusal) = check(
+        points,
+        contours,
+        next.len(),
+        prev.len(),
+        mark.len(),
+        out.len(),
+    ) {
+        return adding::add_refused(f, refusal);
     }
     if !sums::fits(f, contours.len() as u64) {
-        return Added {
-            reply: replies::FIGURES_FULL,
-            figures: f,
-        };
+        return Err(Refusal::FiguresFull);
     }
     let all = adding::sweep(
         rule,
@@ -90,10 +105,7 @@ fn add(
         &mut mark[..n],
         out,
     );
-    Added {
-        reply: replies::DONE,
-        figures: sums::sum(f, all),
-    }
+    Ok(sums::sum(f, all))
 }
 
 // One set more, whose contours lose their collinear points.
@@ -105,8 +117,8 @@ pub fn add_simplified(
     prev: &mut [u32],
     mark: &mut [u8],
     out: &mut [i32],
-) -> Added
-    ensures { leaving result (lent next.new prev.new mark.new out.new)
+) -> Result<Figures, Refusal>
+    ensures { leaving (added_as f result) (lent next.new prev.new mark.new out.new)
         ≡ add_outcome f R.Rule.Collinear points.now contours.now
         (lent next.old prev.old mark.old out.old) }
 {
@@ -122,8 +134,8 @@ pub fn add_despiked(
     prev: &mut [u32],
     mark: &mut [u8],
     out: &mut [i32],
-) -> Added
-    ensures { leaving result (lent next.new prev.new mark.new out.new)
+) -> Result<Figures, Refusal>
+    ensures { leaving (added_as f result) (lent next.new prev.new mark.new out.new)
         ≡ add_outcome f R.Rule.Spike points.now contours.now
         (lent next.old prev.old mark.old out.old) }
 {

@@ -1,73 +1,63 @@
-// The kinds `r`, `m`, `f` and `F`: files read, mended, and written in either edition.
-use answers::column;
+// The kinds of files read, mended, and written in either edition.
+use answers::lent::Output;
 use cases::answer::Answer;
 use cases::case::HEAD;
+use cases::given::Set;
 use cases::room::{LONG, LONG_NUMBERS, READ};
-use cases::{answer, marks, records, room};
+use cases::{answer, checksum, room};
+use replies::Refusal;
 use salvage::Salvaged;
+use setfile::answer::Carried;
 use setfile::{Read, Written};
 
 // The listing of a file: how long it is, and the checksum of its text.
 #[derive(Clone, Copy)]
-pub struct Listed {
-    pub length: usize,
-    pub sum: u64,
+struct Listed {
+    length: usize,
+    sum: u32,
 }
 
-// The kind `r`: a file read into rows of given lengths, full of canaries.
+// A file read into rows of given lengths, full of canaries.
 pub fn read(head: [usize; HEAD], file: &[u8]) -> Answer {
     let mut out = [-7i32; LONG_NUMBERS];
     let mut records = [[7usize; 2]; READ];
     let mut groups = [[7usize; 2]; READ];
-    let out_end = room::at_most(head[0], LONG_NUMBERS);
-    let records_end = room::at_most(head[1], READ);
-    let groups_end = room::at_most(head[2], READ);
-    after_reading(
-        file,
-        &mut out[0..out_end],
-        &mut records[0..records_end],
-        &mut groups[0..groups_end],
-    )
+    let output = Output {
+        out: room::front_mut(&mut out, head[0]),
+        records: room::front_mut(&mut records, head[1]),
+        groups: room::front_mut(&mut groups, head[2]),
+    };
+    after_reading(file, output)
 }
 
-// A reading, and what is answered of it.
-fn after_reading(
-    file: &[u8],
-    out: &mut [i32],
-    records: &mut [[usize; 2]],
-    groups: &mut [[usize; 2]],
-) -> Answer {
+// What is read, the checksums of the rows, the file's listing, and how what was read is written.
+fn after_reading(file: &[u8], output: Output<'_>) -> Answer {
+    let Output {
+        out,
+        records,
+        groups,
+    } = output;
     let read = setfile::read(file, out, records, groups);
-    of_read(read, file, out, records, groups)
-}
-
-// What was read, the checksums of the rows, the file's listing, and how what was read is written.
-fn of_read(
-    read: Read,
-    file: &[u8],
-    out: &[i32],
-    records: &[[usize; 2]],
-    groups: &[[usize; 2]],
-) -> Answer {
-    let sums = column::with_shape_rows(fields_of(read), out, records, groups);
     let listed = listing_of(file);
-    let length = sums.amount(listed.length);
-    let answer = length.with(b':', listed.sum);
-    if read.reply != replies::DONE {
-        return answer;
+    let answer = fields_of(Read::from(read))
+        .sum(out)
+        .sum(records)
+        .sum(groups)
+        .amount(listed.length)
+        .joined(listed.sum as usize);
+    match read {
+        Ok(carried) => with_read(answer, file.len(), carried, out, records, groups),
+        Err(_) => answer,
     }
-    with_read(answer, file.len(), read, out, records, groups)
 }
 
 fn fields_of(read: Read) -> Answer {
-    let numbers = [
-        read.reply as u64,
-        read.edition as u64,
-        read.points as u64,
-        read.contours as u64,
-        read.shapes as u64,
-    ];
-    answer::begin().numbers(&numbers)
+    answer::begin()
+        .word(read.reply)
+        .word(read.edition)
+        .amount(read.points)
+        .amount(read.contours)
+        .amount(read.shapes)
 }
 
 // Lists a file, and adds the text up.
@@ -76,7 +66,7 @@ fn listing_of(file: &[u8]) -> Listed {
     let length = report::inner::listing::list(file, &mut listing);
     Listed {
         length,
-        sum: marks::checksum(&listing[..length]),
+        sum: checksum::of(&listing[..length]),
     }
 }
 
@@ -84,111 +74,54 @@ fn listing_of(file: &[u8]) -> Listed {
 fn with_read(
     answer: Answer,
     length: usize,
-    read: Read,
+    carried: Carried,
     out: &[i32],
     records: &[[usize; 2]],
     groups: &[[usize; 2]],
 ) -> Answer {
-    let points = room::at_most(read.points, out.len() / 2);
-    let contours = room::at_most(read.contours, records.len());
-    let shapes = room::at_most(read.shapes, groups.len());
-    with_written(
-        answer,
-        read.edition,
-        length,
-        &out[0..2 * points],
-        &records[0..contours],
-        &groups[0..shapes],
-    )
+    let sizes = carried.sizes;
+    let set = Set {
+        points: room::front(out, sizes.points.saturating_mul(2)),
+        contours: room::front(records, sizes.contours),
+        shapes: room::front(groups, sizes.shapes),
+    };
+    with_written(answer, carried.edition, length, set)
 }
 
-// The kind `f`: a set written as a file of edition 1 into a row of a given length, full of canaries.
-pub fn written(
-    head: [usize; HEAD],
-    points: &[i32],
-    contours: &[[usize; 2]],
-    shapes: &[[usize; 2]],
-) -> Answer {
-    with_written(answer::begin(), 1, head[0], points, contours, shapes)
+// A set written as a file of an edition into a row of a given length, full of canaries.
+pub fn written(edition: u32, head: [usize; HEAD], set: Set<'_>) -> Answer {
+    with_written(answer::begin(), edition, head[0], set)
 }
 
-// The kind `F`: the same, of edition 2.
-pub fn written_2(
-    head: [usize; HEAD],
-    points: &[i32],
-    contours: &[[usize; 2]],
-    shapes: &[[usize; 2]],
-) -> Answer {
-    with_written(answer::begin(), 2, head[0], points, contours, shapes)
-}
-
-fn with_written(
-    before: Answer,
-    edition: u32,
-    length: usize,
-    points: &[i32],
-    contours: &[[usize; 2]],
-    shapes: &[[usize; 2]],
-) -> Answer {
+fn with_written(before: Answer, edition: u32, length: usize, set: Set<'_>) -> Answer {
     let mut row = [7u8; LONG];
-    let end = room::at_most(length, LONG);
-    after_writing(before, edition, points, contours, shapes, &mut row[0..end])
+    let row = room::front_mut(&mut row, length);
+    let written = Written::from(in_edition(edition, set, row));
+    before.word(written.reply).amount(written.bytes).sum(row)
 }
 
-fn after_writing(
-    before: Answer,
-    edition: u32,
-    points: &[i32],
-    contours: &[[usize; 2]],
-    shapes: &[[usize; 2]],
-    row: &mut [u8],
-) -> Answer {
-    let written = in_edition(edition, points, contours, shapes, row);
-    let numbers = [
-        written.reply as u64,
-        written.bytes as u64,
-        marks::checksum(row),
-    ];
-    before.numbers(&numbers)
-}
-
-fn in_edition(
-    edition: u32,
-    points: &[i32],
-    contours: &[[usize; 2]],
-    shapes: &[[usize; 2]],
-    row: &mut [u8],
-) -> Written {
+fn in_edition(edition: u32, set: Set<'_>, row: &mut [u8]) -> Result<usize, Refusal> {
     match edition {
-        2 => setfile::write_2(points, contours, shapes, row),
-        _ => setfile::write(points, contours, shapes, row),
+        2 => setfile::write_2(set.points, set.contours, set.shapes, row),
+        _ => setfile::write(set.points, set.contours, set.shapes, row),
     }
 }
 
-// The kind `m`: a file mended into rows of given lengths, full of canaries.
+// A file mended into rows of given lengths, full of canaries.
 pub fn mended(head: [usize; HEAD], file: &[u8]) -> Answer {
     let mut out = [7u8; LONG];
     let mut list = [[7usize; 2]; READ];
-    let out_end = room::at_most(head[0], LONG);
-    let list_end = room::at_most(head[1], READ);
-    after_mending(file, &mut out[0..out_end], &mut list[0..list_end])
-}
-
-// A mending, and what is answered of it.
-fn after_mending(file: &[u8], out: &mut [u8], list: &mut [[usize; 2]]) -> Answer {
+    let out = room::front_mut(&mut out, head[0]);
+    let list = room::front_mut(&mut list, head[1]);
     let salvaged = salvage::mend(file, out, list);
-    of_salvaged(salvaged, out, list)
+    of_salvaged(Salvaged::from(salvaged)).sum(out).sum(list)
 }
 
-fn of_salvaged(salvaged: Salvaged, out: &[u8], list: &[[usize; 2]]) -> Answer {
-    let numbers = [
-        salvaged.reply as u64,
-        salvaged.bytes as u64,
-        salvaged.dropped as u64,
-        salvaged.missing as u64,
-        salvaged.past as u64,
-        marks::checksum(out),
-        records::checksum(list),
-    ];
-    answer::begin().numbers(&numbers)
+fn of_salvaged(salvaged: Salvaged) -> Answer {
+    answer::begin()
+        .word(salvaged.reply)
+        .amount(salvaged.bytes)
+        .amount(salvaged.dropped)
+        .amount(salvaged.missing)
+        .amount(salvaged.past)
 }

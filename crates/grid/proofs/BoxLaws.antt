@@ -1,5 +1,5 @@
 -- Laws of boxes: how few tests tell one, and that all its corners have one cross, which is not 0.
-use Rattle.std.proofs.Common.{◌≡◌, ℕ, zero, suc, Bool, true, false, not, ◌&&◌, eqb, List, [], ◌∷◌, ℤ, pos, negsuc, ◌+ℤ◌, ◌-ℤ◌, ◌*ℤ◌, neg_ℤ, sym, refl, ap, ◌∙◌, arith, eq-eqb, ne_eqb, eqb-true}
+use Rattle.std.proofs.Common.{◌≡◌, ℕ, zero, suc, Bool, true, false, not, ◌&&◌, eqb, List, [], ◌∷◌, ℤ, pos, negsuc, ◌+ℤ◌, ◌-ℤ◌, ◌*ℤ◌, neg_ℤ, sym, refl, ap, ◌∙◌, arith, ne_eqb, eqb-true}
 use borrow.Author.Tests.{not-true}
 use Rattle.integers.specs.Equal.{eq_z}
 use Rattle.integers.specs.Polynomial.{#, num, ◌:+◌, ◌:-◌, ◌:*◌, :neg}
@@ -144,12 +144,6 @@ module _ (row : List ℤ) where
 
   -- a box has four points
   module _ {n : ℕ} (c : Contour row n) where
-    pub not_four : (n ≡ 4 → ⊥) → false ≡ box row
-    not_four h = sym (ap (λ (t : Bool). t && four_by_turns row) (ne_eqb (count row) 4 (λ e. h (omega (arith, c.even)))))
-
-    pub four : n ≡ 4 → four_by_turns row ≡ box row
-    four h = sym (ap (λ (t : Bool). t && four_by_turns row) (eq-eqb (count row) 4 (omega (arith, c.even))))
-
     pub box_four : box row ≡ true → n ≡ 4
     box_four e = let m = eqb-true (count row) 4 (and_left (eqb (count row) 4) (four_by_turns row) e) in omega (arith, c.even)
 

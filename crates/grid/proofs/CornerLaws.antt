@@ -1,5 +1,5 @@
 -- A contour's corners, met one after the other along its row.
-use Rattle.std.proofs.Common.{◌≡◌, ℕ, zero, suc, ◌+◌, ◌-◌, ◌<◌, ◌≤◌, Bool, true, false, List, [], ◌∷◌, length, get_or, drop, ℤ, pos, sym, refl, ap, ◌∙◌, ap₂, true≢false, arith}
+use Rattle.std.proofs.Common.{◌≡◌, ℕ, zero, suc, ◌+◌, ◌-◌, ◌<◌, ◌≤◌, Bool, true, false, List, [], ◌∷◌, length, get_or, drop, ℤ, pos, sym, refl, ap, ◌∙◌, ap₂, true≢false, arith, Option, Some, None, MatchOption, unwrap_or}
 use native.Mathlib.Decide.{dec_lt}
 use lib.ListN.{get_or-eq_default}
 use Rattle.integers.specs.Equal.{eq_z}
@@ -13,6 +13,7 @@ use Rattle.grid.specs.Edges.{between, cross, sign, turn}
 use Rattle.grid.specs.Neighbours.{preceding, following}
 use Rattle.grid.specs.Corners.{last, differing, distinct_neighbours, Corner, corner_in, corners_from, corners, some, turn_at}
 use Rattle.grid.specs.Domain.{Contour}
+use Rattle.grid.specs.inside.Rows.{FirstOther}
 use Rattle.rows.proofs.RowLaws.{any_default}
 use Rattle.grid.proofs.RowLaws.{points_more, points_done}
 
@@ -21,6 +22,24 @@ same_is a b e =
     let xs = eq_z_true a.x b.x (and_left (eq_z a.x b.x) (eq_z a.y b.y) e) in
     let ys = eq_z_true a.y b.y (and_right (eq_z a.x b.x) (eq_z a.y b.y) e) in
     ap₂ (λ (u v : ℤ). record { x = u; y = v }) xs ys
+
+pub is_same : (a b : Point) → a ≡ b → same a b ≡ true
+is_same a b e = rw (e, eq_z_same b.x) (eq_z_same b.y)
+
+pub is_not_same : (a b : Point) → (a ≡ b → ⊥) → same a b ≡ false
+is_not_same a b n = go (same a b) refl
+  where
+    go : (t : Bool) → same a b ≡ t → same a b ≡ false
+    go true e = absurd (n (same_is a b e))
+    go false e = e
+
+-- the first position, if any, whose point differs from the last one
+pub found_other : (row : List ℤ) (n : ℕ) (r : Option ℕ)
+    → MatchOption r ((k : ℕ) → 0 ≤ k → k < n → at row k ≡ at row (n - 1))
+    (λ i. (0 ≤ i) × (i < n) × (at row i ≡ at row (n - 1) → ⊥) × ((k : ℕ) → 0 ≤ k → k < i → at row k ≡ at row (n - 1)))
+    → FirstOther row n (unwrap_or r n)
+found_other row n None h = record { within = omega arith; equal = λ j l. is_same _ _ (h j (omega arith) l); differs = λ l. absurd (omega arith) }
+found_other row n (Some i) h = record { within = omega arith; equal = λ j l. is_same _ _ (h.3 j (omega arith) l); differs = λ _. is_not_same _ _ h.2 }
 
 pub differing_skip : (a b : Point) (l : List Point) → same b a ≡ true → differing a (b ∷ l) ≡ differing a l
 unfolding differing

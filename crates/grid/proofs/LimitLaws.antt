@@ -1,12 +1,11 @@
 -- What follows from being on the grid, whatever its bound. Callers use these laws, never the bounds' digits.
-use Rattle.std.proofs.Common.{◌≡◌, ℕ, zero, suc, ◌+◌, ◌-◌, ◌*◌, ◌%◌, ◌^◌, ◌<◌, ◌≤◌, Bool, true, false, not, ◌&&◌, ltb, leb, List, [], ◌∷◌, ◌++◌, length, get_or, take, drop, ℤ, pos, negsuc, neg_ℤ, nat_abs, sym, refl, ap, ◌∙◌, add-one, arith, take_all, drop-cons, w32, SFits, to_z, of_z, ltb-false, ltb-true, le-ltb, lt-ltb, le-leb, leb-false, leb-true}
-use mathlib.Core.Bool.{and_assoc, and-false}
+use Rattle.std.proofs.Common.{◌≡◌, ℕ, zero, suc, ◌+◌, ◌-◌, ◌*◌, ◌%◌, ◌^◌, ◌<◌, ◌≤◌, Bool, true, false, not, ◌&&◌, ◌||◌, fold, ltb, leb, List, [], ◌∷◌, ◌++◌, length, get_or, take, drop, ℤ, pos, negsuc, neg_ℤ, nat_abs, sym, refl, ap, ◌∙◌, arith, take_all, w32, SFits, to_z, of_z, ltb-false, ltb-true, le-ltb, lt-ltb, le-leb, leb-false, leb-true}
+use mathlib.Core.Bool.{and_assoc, and-false, or_assoc, or-false}
 use lib.Dec.{leb-zero, leb-suc-zero, leb-suc-suc}
-use lib.Seq.{drop-length}
 use lib.Signed.{le_z, lt_z}
 use Rattle.integers.specs.Bound.{In}
 use Rattle.integers.proofs.Bound.{tests_in, back}
-use Rattle.integers.proofs.Logic.{and_left, and_right}
+use Rattle.integers.proofs.Logic.{and_left, and_right, not_both}
 use Rattle.grid.specs.Limits.{limit, narrow, on_grid, all_on_grid}
 use Rattle.grid.specs.inside.Rows.{raised}
 
@@ -103,15 +102,14 @@ module _ (bound : ℕ) where
   all_on_grid_at (z ∷ row) zero e = and_left (on_grid bound z) (all_on_grid bound row) e
   all_on_grid_at (z ∷ row) (suc i) e = all_on_grid_at row i (and_right (on_grid bound z) (all_on_grid bound row) e)
 
-  -- a row read from its front: what is left, with its first number and with none
-  pub all_on_grid_more : (row : List ℤ) (i : ℕ) → i < length row
-      → all_on_grid bound (drop i row) ≡ (on_grid bound (get_or row i (pos 0)) && all_on_grid bound (drop (i + 1) row))
+  -- whether a coordinate is beyond the bound, told one by one
+  pub beyond_folded : (row : List ℤ) (some : Bool) → fold (λ (b : Bool) (z : ℤ). b || not (on_grid bound z)) some row ≡ (some || not (all_on_grid bound row))
   unfolding all_on_grid
-  all_on_grid_more row i h = rw (drop-cons row i (pos 0) h, add-one i)
-
-  pub all_on_grid_none : (row : List ℤ) (i : ℕ) → i ≡ length row → all_on_grid bound (drop i row) ≡ true
-  unfolding all_on_grid
-  all_on_grid_none row i e = rw (e, drop-length row)
+  beyond_folded [] some = sym (or-false some)
+  beyond_folded (z ∷ row) some =
+      beyond_folded row (some || not (on_grid bound z))
+      ∙ or_assoc some (not (on_grid bound z)) (not (all_on_grid bound row))
+      ∙ ap (λ (t : Bool). some || t) (sym (not_both (on_grid bound z) (all_on_grid bound row)))
 
   -- two rows end to end are on the grid where both are
   pub on_joined : (p q : List ℤ) → all_on_grid bound (p ++ q) ≡ (all_on_grid bound p && all_on_grid bound q)

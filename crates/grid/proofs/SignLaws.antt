@@ -1,21 +1,8 @@
 -- Laws of signs.
-use Rattle.std.proofs.Common.{◌≡◌, zero, suc, ◌<◌, true, false, T, ℤ, pos, negsuc, sym, refl, subst, arith, ltb-true, ne_eqb}
+use Rattle.std.proofs.Common.{◌≡◌, zero, suc, true, false, T, ℤ, pos, negsuc, sym, refl, subst, arith, ne_eqb}
 use lib.Signed.{lt_z}
 use Rattle.integers.specs.Equal.{eq_z}
 use Rattle.grid.specs.Edges.{sign}
-
-pub sign_below : (z : ℤ) → lt_z z (pos 0) ≡ true → sign z ≡ negsuc 0
-sign_below (pos zero) e = absurd (subst T (sym e) tt)
-sign_below (pos (suc n)) e = absurd (no (ltb-true (suc n) 0 e))
-  where
-    no : suc n < 0 → ⊥
-    no h = omega arith
-sign_below (negsuc n) e = refl
-
-pub sign_above : (z : ℤ) → (z ≡ pos 0 → ⊥) → lt_z z (pos 0) ≡ false → sign z ≡ pos 1
-sign_above (pos zero) n e = absurd (n refl)
-sign_above (pos (suc m)) n e = refl
-sign_above (negsuc m) n e = absurd (subst T e tt)
 
 -- which sign a test shows
 pub sign_left : (z : ℤ) → lt_z (pos 0) (sign z) ≡ true → sign z ≡ pos 1

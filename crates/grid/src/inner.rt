@@ -4,7 +4,7 @@ pub mod boxes;
 
 ghost use Rattle.std.specs.Prelude.{◌≡◌, ◌+◌, ◌*◌, ◌<◌, true, length, ◌-ℤ◌};
 ghost use Rattle.grid.specs.Limits.{limit, on_grid, all_on_grid};
-ghost use Rattle.grid.specs.Points.{at, on, same as same_point};
+ghost use Rattle.grid.specs.Points.{at, on};
 ghost use Rattle.grid.specs.Edges.{between as between_of, cross as cross_of, dot as dot_of, sign as sign_of, turn as turn_of, turns_left as turns_left_of, aligned as aligned_of, backward as backward_of, reverses as reverses_of};
 ghost use Rattle.grid.specs.Domain.{Contour};
 ghost use Rattle.grid.specs.inside.Edges.{Short};
@@ -23,18 +23,12 @@ pub fn point_at(points: &[i32], i: usize) -> Point
     }
 }
 
-fn same(a: Point, b: Point) -> bool
-    ensures { result ≡ same_point a b }
-{
-    a.x == b.x && a.y == b.y
-}
-
 // From one coordinate to another.
 fn gap(from: i32, to: i32) -> i64
     requires { (on_grid limit from ≡ true) × (on_grid limit to ≡ true) }
     ensures { result ≡ to -ℤ from }
 {
-    integers::wide(to) - integers::wide(from)
+    i64::from(to) - i64::from(from)
 }
 
 // The edge from a to b.
@@ -78,13 +72,7 @@ fn dot(u: Edge, v: Edge) -> i64
 fn sign(z: i64) -> i32
     ensures { result ≡ sign_of z }
 {
-    if z == 0 {
-        0
-    } else if z < 0 {
-        -1
-    } else {
-        1
-    }
+    z.signum() as i32
 }
 
 // How the way turns from one edge to the next: 1 left, 0 straight on or back, -1 right.
@@ -124,7 +112,7 @@ pub fn reverses(u: Edge, v: Edge) -> bool
     requires { Short limit u v }
     ensures { result ≡ reverses_of u v }
 {
-    if aligned(u, v) { backward(u, v) } else { false }
+    aligned(u, v) && backward(u, v)
 }
 
 // The first position whose point differs from the last point; n where all are equal.
@@ -133,12 +121,5 @@ pub fn first_other(points: &[i32], n: usize) -> usize
     ensures { FirstOther points.now n result }
 {
     let last = point_at(points, n - 1);
-    let mut i: usize = 0;
-    while i < n {
-        if !same(point_at(points, i), last) {
-            return i;
-        }
-        i += 1;
-    }
-    n
+    (0..n).find(|i| point_at(points, *i) != last).unwrap_or(n)
 }

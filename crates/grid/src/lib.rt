@@ -8,7 +8,10 @@ ghost use Rattle.grid.specs.Limits.{limit};
 ghost use Rattle.grid.specs.Points.{on};
 ghost use Rattle.grid.specs.Edges.{still as still_of};
 ghost use Rattle.replies.specs.Ladder.{first_of};
+ghost use Rattle.replies.specs.Refusals.{told};
 ghost use Rattle.grid.specs.Domain.{domain as domain_of};
+
+use replies::Refusal;
 
 // The largest coordinate, either side of 0.
 pub const LIMIT: u32 = 1_073_741_823;
@@ -19,14 +22,14 @@ pub const NARROW: u32 = 536_870_912;
 // The most points of a contour or a set.
 pub const MOST: usize = 65_536;
 
-#[derive(Clone, Copy)]
+#[derive(Clone, Copy, PartialEq, Eq)]
 pub struct Point {
     pub x: i32,
     pub y: i32,
 }
 
 // An edge: how far it goes in x and in y.
-#[derive(Clone, Copy)]
+#[derive(Clone, Copy, PartialEq, Eq)]
 pub struct Edge {
     pub dx: i64,
     pub dy: i64,
@@ -39,9 +42,9 @@ pub fn point_on_grid(p: Point) -> bool
     inner::bounds::on_grid(LIMIT, p.x) & inner::bounds::on_grid(LIMIT, p.y)
 }
 
-// What every call asks of a row of coordinates: 0, or the number of its first refusal.
-pub fn domain(points: &[i32]) -> u32
-    ensures { result ≡ first_of (domain_of limit points.now) }
+// What every call asks of a row of coordinates: its first refusal, if any.
+pub fn domain(points: &[i32]) -> Result<(), Refusal>
+    ensures { told result ≡ first_of (domain_of limit points.now) }
 {
     inner::bounds::domain(LIMIT, points)
 }

@@ -19,7 +19,7 @@ use Rattle.setfile.proofs.Theorems.{an_edition_can_carry, room_decides}
 use Rattle.report.specs.inside.Lines.{Put}
 use Rattle.report.proofs.PutLaws.{put_front, front_within}
 use Rattle.jobpack.specs.declared.Lengths.{Lengths}
-use Rattle.jobpack.specs.Packing.{refusing, written, packed, Outcome, leaving, outcome, packing}
+use Rattle.jobpack.specs.Packing.{packed, Outcome, leaving, outcome, packing}
 
 -- a row for the longest file is never too short
 module _ (p : List ℤ) (cs ss : List (List ℕ)) (row : List ℕ) where
@@ -37,20 +37,6 @@ module _ (p : List ℤ) (cs ss : List (List ℕ)) (row : List ℕ) where
           ∙ ap (λ (k : ℕ). W.written k (edition_file s p cs ss) row)
           (room_clear _ (le-leb (length (edition_file s p cs ss)) (length row) (omega (arith, ((an_edition_can_carry p cs ss s).0 e).not_long, h))) ∙ sym e)
       go (suc k) e = held s (λ z. omega (arith, e))
-
--- by the number that was answered
-pub by_refusal : (k : ℕ) (f row words : List ℕ) (reply n : ℕ) (exit : List ℕ) → W.leaving reply n exit ≡ W.written k f row → (reply ≡ 0 → ⊥)
-    → outcome (refusing reply) exit words ≡ outcome (written k f) row words
-by_refusal zero f row words reply n exit e d = absurd (d (ap (λ (o : W.Outcome). o.answer.reply) e))
-by_refusal (suc k) f row words reply n exit e d =
-    ap₂ (λ (r : ℕ) (o : List ℕ). outcome (refusing r) o words) (ap (λ (o : W.Outcome). o.answer.reply) e) (ap (λ (o : W.Outcome). o.bytes) e)
-
-pub by_file : (k : ℕ) (f row words : List ℕ) (reply n : ℕ) (exit : List ℕ) → W.leaving reply n exit ≡ W.written k f row → reply ≡ 0
-    → leaving (record { bytes = n; words = 0 }) exit words ≡ outcome (written k f) row words
-by_file zero f row words reply n exit e ok =
-    ap₂ (λ (m : ℕ) (o : List ℕ). leaving (record { bytes = m; words = 0 }) o words) (ap (λ (o : W.Outcome). o.answer.bytes) e) (ap (λ (o : W.Outcome). o.bytes) e)
-by_file (suc k) f row words reply n exit e ok =
-    let z : suc k ≡ 0 = sym (ap (λ (o : W.Outcome). o.answer.reply) e) ∙ ok in absurd (omega arith)
 
 -- words that were put, and no file
 pub no_file : {said words : List ℕ} {r : ℕ} {exit : List ℕ} (out : List ℕ) → Put 0 said words r exit

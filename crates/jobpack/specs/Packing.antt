@@ -1,6 +1,7 @@
 -- What the program `pack` makes of a text: the file of its job, or why there is none, in words.
 use Rattle.std.specs.Prelude.{Bool, true, false, List, [], ◌∷◌, ◌++◌, ℕ, zero, suc, ◌+◌, eqb, ltb, length, get_or, ℤ}
 use Rattle.replies.specs.Ladder.{first_of}
+use Rattle.replies.specs.Refusals.{number}
 use Rattle.rows.specs.Rows.{front}
 use Rattle.setfile.specs.Promises.{edition_file, write_refusals}
 use Rattle.report.specs.Text.{decimal, line_end, refused}
@@ -45,7 +46,7 @@ packed_at Dash second s = damaging (s.lines.reader.contours + 2)
 packed_at (Number below size) second s = damaging (s.lines.reader.contours + 2)
 packed_at NoHead second s = damaging 1
 packed_at NoLine second s = damaging (s.lines.reader.contours + 2)
-packed_at (Refused r) second s = refusing r
+packed_at (Refused r) second s = refusing (number r)
 
 -- whether a text says that its edition is the second
 abbrev pub says_second : List ℕ → Bool

@@ -11,6 +11,7 @@ use borrow.Author.Tests.{leb-false}
 use Rattle.integers.proofs.Logic.{or_left, or_right}
 use Rattle.setfile.specs.Writing.{most_contours}
 use Rattle.jobtext.specs.Text.{word}
+use Rattle.replies.specs.declared.refusal.Refusal.TheVariants.{TooMany, OffGrid, CantCarry}
 use Rattle.jobread.specs.declared.Place.{Place}
 use Rattle.jobread.specs.declared.Place.TheVariants.{Head, Start, Word, Space, Dash, Number, NoHead, NoLine, Refused}
 use Rattle.jobread.specs.declared.Reader.{Reader}
@@ -45,7 +46,7 @@ ended_few l x = go (eqb (r.numbers % 2) 1 || (not r.begins && eqb r.shapes 0)) (
     r = l.reader
 
     next : Bool → Bool → Lines
-    next a b = elim a [ true ↦ lines_at l NoLine | false ↦ elim b [ true ↦ lines_at l (Refused 12) | false ↦ one_more l ] ]
+    next a b = elim a [ true ↦ lines_at l NoLine | false ↦ elim b [ true ↦ lines_at l (Refused CantCarry) | false ↦ one_more l ] ]
 
     go : (a b : Bool) → (leb most_contours r.contours || leb most_contours r.shapes) ≡ b → Few (next a b).reader
     go true b e = record { numbers = x.numbers; contours = x.contours; shapes = x.shapes }
@@ -88,7 +89,7 @@ number_few below size s c x = go (ltb (digit c) 10) (ltb largest size) (leb most
     next a b d =
         elim a [
           | true ↦ state_at s (after_digit below size (digit c))
-          | false ↦ elim b [ true ↦ state_at s (Refused 3) | false ↦ elim d [ true ↦ state_at s (Refused 2) | false ↦ taken s (value below size) c ] ]
+          | false ↦ elim b [ true ↦ state_at s (Refused OffGrid) | false ↦ elim d [ true ↦ state_at s (Refused TooMany) | false ↦ taken s (value below size) c ] ]
         ]
 
     go : (a b d : Bool) → leb most_numbers s.lines.reader.numbers ≡ d → Few (next a b d).lines.reader

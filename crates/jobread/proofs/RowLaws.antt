@@ -14,6 +14,7 @@ use mir.Val.{SFits, to_z, of_z}
 use mir.Facts.{to_z_pos, to_z-of_z}
 use Rattle.setfile.specs.Writing.{most_contours}
 use Rattle.jobtext.specs.Text.{word}
+use Rattle.replies.specs.declared.refusal.Refusal.TheVariants.{CantCarry}
 use Rattle.jobread.specs.declared.Place.TheVariants.{Start, Space, Word, NoLine, Refused}
 use Rattle.jobread.specs.declared.Reader.{Reader}
 use Rattle.jobread.specs.Reading.{Lines, moved, lines_at, opened, after_start, slot, opens, one_more, ended, behind, in_word, counted, taken}
@@ -65,7 +66,7 @@ unfolding ended
 ended_numbers l = go (eqb (l.reader.numbers % 2) 1 || (not l.reader.begins && eqb l.reader.shapes 0)) (leb most_contours l.reader.contours || leb most_contours l.reader.shapes)
   where
     next : Bool → Bool → Lines
-    next a b = elim a [ true ↦ lines_at l NoLine | false ↦ elim b [ true ↦ lines_at l (Refused 12) | false ↦ one_more l ] ]
+    next a b = elim a [ true ↦ lines_at l NoLine | false ↦ elim b [ true ↦ lines_at l (Refused CantCarry) | false ↦ one_more l ] ]
 
     go : (a b : Bool) → (next a b).reader.numbers ≡ l.reader.numbers
     go true b = refl

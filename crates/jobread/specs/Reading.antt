@@ -2,6 +2,7 @@
 use Rattle.std.specs.Prelude.{Bool, true, false, not, ◌&&◌, ◌||◌, List, [], ◌∷◌, ◌++◌, ℕ, ◌+◌, ◌-◌, ◌/◌, ◌%◌, eqb, ltb, leb, get_or, take, ℤ, pos, neg_ℤ}
 use Rattle.setfile.specs.Writing.{most_contours}
 use Rattle.jobtext.specs.Text.{word}
+use Rattle.replies.specs.declared.refusal.Refusal.TheVariants.{TooMany, OffGrid, CantCarry}
 use Rattle.jobread.specs.declared.Place.{Place}
 use Rattle.jobread.specs.declared.Place.TheVariants.{Head, Start, Word, Space, Dash, Number, NoHead, NoLine, Refused}
 use Rattle.jobread.specs.declared.Reader.{Reader}
@@ -68,7 +69,7 @@ ended l =
     let r = l.reader in
     elim (eqb (r.numbers % 2) 1 || (not r.begins && eqb r.shapes 0)) [
       | true ↦ lines_at l NoLine
-      | false ↦ elim (leb most_contours r.contours || leb most_contours r.shapes) [ true ↦ lines_at l (Refused 12) | false ↦ one_more l ]
+      | false ↦ elim (leb most_contours r.contours || leb most_contours r.shapes) [ true ↦ lines_at l (Refused CantCarry) | false ↦ one_more l ]
     ]
 
 -- behind a word or a number a space or the line's end is due
@@ -104,8 +105,8 @@ in_number below size s c =
     elim (ltb (digit c) 10) [
       | true ↦ state_at s (after_digit below size (digit c))
       | false ↦ elim (ltb largest size) [
-        | true ↦ state_at s (Refused 3)
-        | false ↦ elim (leb most_numbers s.lines.reader.numbers) [ true ↦ state_at s (Refused 2) | false ↦ taken s (value below size) c ]
+        | true ↦ state_at s (Refused OffGrid)
+        | false ↦ elim (leb most_numbers s.lines.reader.numbers) [ true ↦ state_at s (Refused TooMany) | false ↦ taken s (value below size) c ]
       ]
     ]
 

@@ -3,6 +3,8 @@
 
 pub mod inner;
 
+use replies::Refusal;
+
 // Where in a text its reader is.
 #[derive(Clone, Copy)]
 pub enum Place {
@@ -22,8 +24,8 @@ pub enum Place {
     NoHead,
     // Behind what is no line of a contour.
     NoLine,
-    // Behind what is refused with this number.
-    Refused(u32),
+    // Behind what is refused.
+    Refused(Refusal),
 }
 
 // A reader: its place; whether the contour of its line begins a shape; how many points stand before that line; how many numbers, contours

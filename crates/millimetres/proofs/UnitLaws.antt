@@ -2,25 +2,19 @@
 use Rattle.std.proofs.Common.{◌≡◌, ℕ, zero, suc, ◌+◌, ◌*◌, ◌<◌, ◌≤◌, Bool, true, false, ltb, leb, ℤ, pos, negsuc, sym, refl, ap, ◌∙◌, true≢false, le_of_suc-le-suc, zero-lt-suc, div-lt_iff_lt-mul, mul-pos, le-div_iff_mul-le, zero-mul, mul-one, arith, ltb-false, ltb-true, le-ltb, lt-ltb, le-leb, leb-true}
 use mathlib.Core.Bool.{false≢true}
 use borrow.Author.Tests.{lt-leb}
+use Rattle.std.specs.Float.{float_is_finite}
 use lib.Ieee.{Float, nan, inf, fin, up, down, lt, neg}
 use lib.Ieee.Fits.{up_pos, down_pos}
 use Rattle.grid.specs.Limits.{narrow}
 use Rattle.millimetres.specs.Scale.{near, finite, size, signed, units, on_grid}
 use Rattle.millimetres.specs.inside.Small.{Small}
 
--- a float between the infinities
-pub finite_inside : (v : Float) → lt v (inf false) ≡ true → lt (inf true) v ≡ finite v
-unfolding lt finite
-finite_inside nan t = refl
-finite_inside (inf true) t = refl
-finite_inside (inf false) t = absurd (false≢true t)
-finite_inside (fin s m e) t = refl
-
-pub finite_outside : (v : Float) → lt v (inf false) ≡ false → false ≡ finite v
-unfolding lt finite
-finite_outside nan t = refl
-finite_outside (inf s) t = refl
-finite_outside (fin s m e) t = absurd (true≢false t)
+-- what `is_finite` answers is what the specification says
+pub finite_is : (v : Float) → float_is_finite v ≡ finite v
+unfolding float_is_finite finite
+finite_is nan = refl
+finite_is (inf s) = refl
+finite_is (fin s m e) = refl
 
 -- half a unit past the last coordinate, either side
 abbrev pub edge_of : Bool → Float
@@ -39,22 +33,22 @@ before_edge a c C = go (ltb (a * 2048) (1073741825 * 1 * c)) refl
         let h : 1073741825 * 1 * c ≤ a * 2048 = ltb-false (a * 2048) (1073741825 * 1 * c) t in
         sym (lt-leb (near (1024 * a) c) narrow ((le-div_iff_mul-le {k = 2 * c} (omega arith)).1 (omega arith)))
 
-pub on_inside : (v : Float) → lt v (edge_of false) ≡ true → lt (edge_of true) v ≡ on_grid v
+pub on_inside : (v : Float) → lt (edge_of true) v ≡ true → lt v (edge_of false) ≡ on_grid v
 unfolding lt on_grid finite size
 on_inside nan t = absurd (false≢true t)
-on_inside (inf true) t = refl
-on_inside (inf false) t = absurd (false≢true t)
-on_inside (fin false m e) t =
-    lt-ltb 0 (1073741825 * 1 * down e + m * up e * 2048) (omega (arith, down_pos e))
+on_inside (inf true) t = absurd (false≢true t)
+on_inside (inf false) t = refl
+on_inside (fin false m e) t = before_edge (m * up e) (down e) (down_pos e)
+on_inside (fin true m e) t =
+    lt-ltb 0 (m * up e * 2048 + 1073741825 * 1 * down e) (omega (arith, down_pos e))
     ∙ sym t ∙ before_edge (m * up e) (down e) (down_pos e)
-on_inside (fin true m e) t = before_edge (m * up e) (down e) (down_pos e)
 
-pub on_outside : (v : Float) → lt v (edge_of false) ≡ false → false ≡ on_grid v
+pub on_outside : (v : Float) → lt (edge_of true) v ≡ false → false ≡ on_grid v
 unfolding lt on_grid finite size
 on_outside nan t = refl
 on_outside (inf s) t = refl
-on_outside (fin false m e) t = sym t ∙ before_edge (m * up e) (down e) (down_pos e)
-on_outside (fin true m e) t = absurd (true≢false (sym (lt-ltb 0 (m * up e * 2048 + 1073741825 * 1 * down e) (omega (arith, down_pos e))) ∙ t))
+on_outside (fin false m e) t = absurd (true≢false (sym (lt-ltb 0 (1073741825 * 1 * down e + m * up e * 2048) (omega (arith, down_pos e))) ∙ t))
+on_outside (fin true m e) t = sym t ∙ before_edge (m * up e) (down e) (down_pos e)
 
 -- a float on the grid is small enough for `steps`, without its sign
 pub size_within : (v : Float) → on_grid v ≡ true → size v ≤ narrow

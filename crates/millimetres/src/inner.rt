@@ -17,7 +17,7 @@ pub fn units(v: f64) -> i32
     ensures { result ≡ units_of v }
 {
     if v < 0.0 {
-        0 - steps(-v) as i32
+        -(steps(-v) as i32)
     } else {
         steps(v) as i32
     }

@@ -13,19 +13,19 @@ const EDGE: f64 = 524288.00048828125;
 pub fn finite(v: f64) -> bool
     ensures { result ≡ is_finite v }
 {
-    if v < 1.0 / 0.0 { -1.0 / 0.0 < v } else { false }
+    v.is_finite()
 }
 
 // Whether v is a coordinate of a drawing: rounded to units it is on the grid.
 pub fn on_grid(v: f64) -> bool
     ensures { result ≡ on_grid v }
 {
-    if v < EDGE { -EDGE < v } else { false }
+    -EDGE < v && v < EDGE
 }
 
 // x units in millimetres, exactly.
 pub fn exact(x: i32) -> f64
     ensures { result ≡ millimetres x }
 {
-    x as f64 / 1024.0
+    f64::from(x) / 1024.0
 }

@@ -1,10 +1,9 @@
 -- Which edges count, and their parity along a contour.
 use mathlib.Core.Path.{◌≡◌, refl, sym, ◌∙◌, ap}
-use mathlib.Core.Bool.{Bool, true, false, not, xor, beq, true≢false}
+use mathlib.Core.Bool.{Bool, true, false, not, xor, true≢false}
 use mathlib.Core.List.{List, [], ◌∷◌}
 use Prim.Native.Nat.{ℕ, zero, suc, ◌+◌, ◌-◌, ◌<◌, ◌≤◌}
 use native.Mathlib.Omega.{arith}
-use native.Mathlib.Decide.{dec_lt}
 use lib.ListN.{length, drop}
 use lib.IntN.{ℤ, pos, ◌-ℤ◌, ◌*ℤ◌}
 use lib.Signed.{lt_z}
@@ -18,9 +17,14 @@ use Rattle.grid.specs.Points.{at, on, points}
 use Rattle.grid.specs.Edges.{between, cross, turns_left}
 use Rattle.grid.specs.Corners.{last}
 use Rattle.grid.specs.Domain.{count, domain, Contour}
+use Rattle.replies.specs.declared.refusal.Refusal.{Refusal}
 use Rattle.replies.specs.Ladder.{first_of}
+use Rattle.replies.specs.Refusals.{number}
+use Rattle.replies.specs.Verdicts.{answered}
+use Rattle.std.proofs.Common.{Err, SFits, w32, to_z, of_z, to_z-of_z}
 use Rattle.grid.proofs.RowLaws.{points_count, points_more, points_done}
-use Rattle.replies.proofs.LadderLaws.{first_is, stopped, onward}
+use Rattle.replies.proofs.LadderLaws.{first_is, onward, clear, cleared}
+use Rattle.replies.proofs.RefusalLaws.{refusals_have_numbers}
 use Rattle.replies.proofs.LadderLaws.First.{here, past, foot}
 use Rattle.replies.proofs.VerdictLaws.{verdict_refused, verdict_given}
 use Rattle.grid.proofs.CornerLaws.{last_from}
@@ -183,74 +187,42 @@ module _ (row : List ℤ) (p : Point) {n : ℕ} (c : Contour row n) where
     pub changing_done : n ≤ i → sofar ≡ contained p (points row)
     changing_done h = counted_all row p c counted h
 
--- one side, or the other
-pub one_side : (t up : Bool) → beq t up ≡ true → t ≡ up
-one_side true true e = refl
-one_side false false e = refl
-one_side true false e = absurd (true≢false (sym e))
-one_side false true e = absurd (true≢false (sym e))
+-- the refusals of an asked point, one by one
+module _ (row : List ℤ) (p : Point) (e : first_of (domain limit row) ≡ 0) where
+  pub refused_off : on limit p ≡ false → 3 ≡ first_of (refusals p row)
+  refused_off f = first_is _ 3 (onward (domain limit row) _ 3 tt e (here (ap not f)))
 
-pub other_side : (t up : Bool) → beq t up ≡ false → t ≡ not up
-other_side true false e = refl
-other_side false true e = refl
-other_side true true e = absurd (true≢false e)
-other_side false false e = absurd (true≢false e)
+  pub refused_none : on limit p ≡ true → 0 ≡ first_of (refusals p row)
+  refused_none f = first_is _ 0 (onward (domain limit row) _ 0 tt e (past (ap not f) foot))
 
-module _ (row : List ℤ) (n i : ℕ) (p : Point) (up : Bool) where
-  -- a loop that looks for a point on the other side
-  pub record Passing (here : ℕ) : Type 0 where
-    pub from : i ≤ here
-    pub within : here ≤ n
-    pub skipped : (j : ℕ) → i ≤ j → j < here → above p (at row j) ≡ up
+-- what is asked of a contour that is not refused
+pub asked_of_none : (row : List ℤ) (p : Point) → first_of (refusals p row) ≡ 0 → (first_of (domain limit row) ≡ 0) × (on limit p ≡ true)
+asked_of_none row p e =
+    let d = cleared (domain limit row) ((not (on limit p), 3) ∷ []) tt e in
+    (d.0, not_false (on limit p) (clear ((not (on limit p), 3) ∷ []) tt d.1).0)
+  where
+    not_false : (b : Bool) → not b ≡ false → b ≡ true
+    not_false true f = refl
+    not_false false f = absurd (true≢false f)
 
-  pub passing_none : i ≤ n → Passing i
-  passing_none h = record { from = omega arith; within = h; skipped = λ j l m. absurd (omega arith) }
-
-  module _ {here : ℕ} (x : Passing here) where
-    pub passing_more : here < n → above p (at row here) ≡ up → Passing (here + 1)
-    passing_more h e = record { from = omega (arith, x.from); within = omega arith; skipped = λ j l m. go j l m (dec_lt j here) }
-      where
-        go : (j : ℕ) → i ≤ j → j < here + 1 → Dec (j < here) → above p (at row j) ≡ up
-        go j l m (yes k) = x.skipped j l k
-        go j l m (no k) = let f : j ≡ here = omega arith in rw f e
-
-    pub passing_found : above p (at row here) ≡ not up → Across row n i p up here
-    passing_found e = record { from = x.from; within = x.within; skipped = x.skipped; changed = λ h. e }
-
-    pub passing_out : n ≤ here → Across row n i p up n
-    passing_out h =
-        let e : here ≡ n = omega (arith, x.within) in
-        record { from = omega (arith, x.from); within = omega arith; skipped = λ j l m. x.skipped j l (omega arith); changed = λ k. absurd (omega arith) }
+-- the asked point, as it is passed on
+pub passed_on : (x y : ℤ) → SFits w32 x → SFits w32 y → ◌≡◌ {A = Point} (record { x = to_z w32 (of_z w32 x); y = to_z w32 (of_z w32 y) }) (record { x = x; y = y })
+passed_on x y f g = rw (to_z-of_z f, to_z-of_z g)
 
 -- the question as a whole
 module _ (row : List ℤ) (x y : ℤ) where
   abbrev asked : Point
   asked = record { x = x; y = y }
 
-  -- the refusals, one by one
-  pub refused_domain : (k : ℕ) → k ≡ first_of (domain limit row) → (k ≡ 0 → ⊥) → k ≡ first_of (refusals asked row)
-  refused_domain k e n = first_is _ k (stopped _ _ k e n)
-
-  module _ (e : first_of (domain limit row) ≡ 0) where
-    pub refused_off : on limit asked ≡ false → 3 ≡ first_of (refusals asked row)
-    refused_off f = first_is _ 3 (onward (domain limit row) _ 3 tt e (here (ap not f)))
-
-    pub refused_none : on limit asked ≡ true → first_of (refusals asked row) ≡ 0
-    refused_none f = sym (first_is _ 0 (onward (domain limit row) _ 0 tt e (past (ap not f) foot)))
-
   -- what is answered
-  pub contains_refused : (k : ℕ) → k ≡ first_of (domain limit row) → (k ≡ 0 → ⊥) → record { reply = k; yes = false } ≡ contains row x y
-  unfolding contains
-  contains_refused k e n = verdict_refused (refusals asked row) _ k (refused_domain k e n) n
-
-  module _ (e : first_of (domain limit row) ≡ 0) where
-    pub contains_off : on limit asked ≡ false → record { reply = 3; yes = false } ≡ contains row x y
+  module _ (p : Point) (q : p ≡ asked) where
+    pub contains_refused : (r : Refusal) → number r ≡ first_of (refusals p row) → answered (Err r) ≡ contains row x y
     unfolding contains
-    contains_off f = verdict_refused (refusals asked row) _ 3 (refused_off e f) (λ z. absurd (omega arith))
+    contains_refused r e = verdict_refused (refusals asked row) _ (number r) (e ∙ ap (λ (s : Point). first_of (refusals s row)) q) (refusals_have_numbers r)
 
-    pub contains_given : (b : Bool) → on limit asked ≡ true → b ≡ contained asked (points row) → record { reply = 0; yes = b } ≡ contains row x y
+    pub contains_given : (b : Bool) → first_of (refusals p row) ≡ 0 → b ≡ contained p (points row) → record { reply = 0; yes = b } ≡ contains row x y
     unfolding contains
-    contains_given b f g = verdict_given (refusals asked row) _ b (refused_none e f) g
+    contains_given b e g = verdict_given (refusals asked row) _ b (sym (ap (λ (s : Point). first_of (refusals s row)) q) ∙ e) (g ∙ ap (λ (s : Point). contained s (points row)) q)
 
 pub nothing_contained : (p : Point) (row : List ℤ) → count row ≡ 0 → false ≡ contained p (points row)
 unfolding contained
@@ -259,3 +231,7 @@ nothing_contained p row h = go (points row) (omega (arith, points_count row))
     go : (l : List Point) → length l ≡ 0 → false ≡ contained p l
     go [] e = refl
     go (o ∷ l) e = absurd (omega arith)
+
+-- the side of a point, read as another that it equals
+pub side_is : (p : Point) {a b : Point} {r : Bool} → r ≡ above p a → a ≡ b → r ≡ above p b
+side_is p e f = e ∙ ap (above p) f

@@ -1,13 +1,13 @@
 -- What has been seen of the corners, and the question as a whole.
 use mathlib.Core.Path.{◌≡◌, refl, sym, ◌∙◌, ap, ap₂}
-use mathlib.Core.Bool.{Bool, true, false, not, ◌&&◌, ◌||◌, or-true, or-false, true≢false}
+use mathlib.Core.Bool.{Bool, true, false, ◌&&◌, ◌||◌, or-true, or-false, true≢false}
 use mathlib.Core.List.{List, []}
-use Prim.Native.Nat.{ℕ, zero, suc, ◌+◌, ◌-◌, ◌<◌, ◌≤◌}
+use Prim.Native.Nat.{ℕ, ◌+◌, ◌-◌, ◌<◌, ◌≤◌}
 use native.Mathlib.Omega.{arith}
 use native.Mathlib.Decide.{dec_le}
 use lib.Dec.{leb}
 use lib.ListN.{length, drop}
-use lib.IntN.{ℤ, pos, negsuc}
+use lib.IntN.{ℤ, pos}
 use lib.Signed.{lt_z}
 use borrow.Author.Tests.{le-leb, lt-leb}
 use Rattle.integers.specs.Equal.{eq_z}
@@ -15,7 +15,7 @@ use Rattle.integers.proofs.Logic.{and_left, and_right}
 use Rattle.grid.specs.declared.Point.{Point}
 use Rattle.grid.specs.declared.Edge.{Edge}
 use Rattle.grid.specs.Points.{at, points}
-use Rattle.grid.specs.Edges.{between, still, cross, sign, turn, aligned, backward, reverses}
+use Rattle.grid.specs.Edges.{between, still, cross, turn, aligned, backward}
 use Rattle.grid.specs.Corners.{differing, corners, some, left_at, right_at, reverses_at}
 use Rattle.grid.specs.Domain.{count, Contour}
 use Rattle.grid.specs.inside.Rows.{FirstOther}
@@ -44,22 +44,6 @@ module _ (s : Seen) (u v : Edge) where
   looked_none : (r : Bool) → lt_z (pos 0) (turn u v) ≡ false → lt_z (turn u v) (pos 0) ≡ false → r ≡ backward u v
       → record { left = s.left; right = s.right; reversed = s.reversed || r } ≡ looked s u v
   looked_none r t f e = simp (aligned_turn u v, sign_none (cross u v) t f, or-false, e)
-
--- which turns are left and right
-left_test : (z : ℤ) → lt_z (pos 0) (sign z) ≡ eq_z (sign z) (pos 1)
-left_test (pos zero) = refl
-left_test (pos (suc n)) = refl
-left_test (negsuc n) = refl
-
-right_test : (z : ℤ) → lt_z (sign z) (pos 0) ≡ eq_z (sign z) (negsuc 0)
-right_test (pos zero) = refl
-right_test (pos (suc n)) = refl
-right_test (negsuc n) = refl
-
--- the closing corner
-pub closes_told : (s : Seen) (u v : Edge) (t : ℤ) (o : Bool) → t ≡ turn u v → o ≡ reverses u v
-    → (not ((s.left || lt_z (pos 0) t) && (s.right || lt_z t (pos 0))) && not (s.reversed || o)) ≡ one_sided (looked s u v)
-closes_told s u v t o e f = rw (e, f, left_test (cross u v), right_test (cross u v))
 
 -- what the two edges at a corner show is what the corner shows
 looked_corner : (s : Seen) {u v : Edge} (a b p : Point) → u ≡ between a b → v ≡ between b p → looked s u v ≡ record {

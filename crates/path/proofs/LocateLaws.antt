@@ -11,17 +11,21 @@ use Rattle.integers.specs.Linear.{num, at as of, ◌:-◌ as ◌less◌}
 use Rattle.integers.proofs.Equal.{eq_z_true}
 use Rattle.integers.proofs.Linear.{lt_fails, lt_means, lt_denies, same_parts}
 use Rattle.integers.proofs.Logic.{and_right, or_left, or_right}
-use Rattle.grid.specs.Limits.{limit}
 use Rattle.grid.specs.declared.Point.{Point}
-use Rattle.grid.specs.Points.{at, on, points, same}
-use Rattle.grid.specs.Domain.{count, domain, Contour}
+use Rattle.grid.specs.Points.{at, points, same}
+use Rattle.grid.specs.Domain.{count, Contour}
+use Rattle.replies.specs.declared.refusal.Refusal.{Refusal}
 use Rattle.replies.specs.Ladder.{first_of}
+use Rattle.replies.specs.Refusals.{number}
+use Rattle.replies.proofs.RefusalLaws.{refusals_have_numbers}
+use Rattle.std.proofs.Common.{Err}
 use Rattle.grid.proofs.RowLaws.{points_count, points_more, points_done}
-use Rattle.path.specs.Contains.{above, crosses, contained}
-use Rattle.path.specs.Locate.{on_edge, touched, on_boundary, location, answer, located}
+use Rattle.path.specs.Contains.{above, crosses, contained, refusals}
+use Rattle.path.specs.declared.Located.{Located}
+use Rattle.path.specs.Locate.{on_edge, touched, on_boundary, location, answer, answered, located}
 use Rattle.path.specs.inside.Contains.{Across, before}
 use Rattle.path.specs.inside.Locate.{under, Untouched}
-use Rattle.path.proofs.ContainsLaws.{Counted, counted_none, counted_more, counted_beside, counted_all, from_last, before_in, past_run, past_first_run, nothing_contained, refused_domain, refused_off, refused_none}
+use Rattle.path.proofs.ContainsLaws.{Counted, counted_none, counted_more, counted_beside, counted_all, from_last, before_in, past_run, past_first_run, nothing_contained}
 use Rattle.path.proofs.OnEdge.{not_under, not_over}
 
 -- what lies below p's horizontal is not p, nor above it
@@ -158,15 +162,18 @@ answer_refused (suc k) z n = refl
 
 -- the question as a whole
 module _ (row : List ℤ) (x y : ℤ) where
-  pub located_refused : (k : ℕ) → k ≡ first_of (domain limit row) → (k ≡ 0 → ⊥) → record { reply = k; place = 0 } ≡ located row x y
-  unfolding located
-  located_refused k e n = rw (← refused_domain row x y k e n) (answer_refused k _ n)
+  module _ (p : Point) (q : p ≡ record { x = x; y = y }) where
+    as_asked : first_of (refusals p row) ≡ first_of (refusals (record { x = x; y = y }) row)
+    as_asked = ap (λ (s : Point). first_of (refusals s row)) q
 
-  module _ (e : first_of (domain limit row) ≡ 0) where
-    pub located_off : on limit (record { x = x; y = y }) ≡ false → record { reply = 3; place = 0 } ≡ located row x y
-    unfolding located
-    located_off f = rw (← refused_off row x y e f)
+    due : ℕ → Located
+    due k = answer k (location (record { x = x; y = y }) (points row))
 
-    pub located_given : (k : ℕ) → on limit (record { x = x; y = y }) ≡ true → k ≡ location (record { x = x; y = y }) (points row) → record { reply = 0; place = k } ≡ located row x y
-    unfolding located
-    located_given k f g = rw (refused_none row x y e f, g)
+    pub located_refused : (r : Refusal) → number r ≡ first_of (refusals p row) → answered (Err r) ≡ located row x y
+    unfolding located due
+    located_refused r e = answer_refused (number r) _ (refusals_have_numbers r) ∙ ap due (e ∙ as_asked)
+
+    pub located_given : (k : ℕ) → first_of (refusals p row) ≡ 0 → k ≡ location p (points row) → record { reply = 0; place = k } ≡ located row x y
+    unfolding located due
+    located_given k e g =
+        ap (answer 0) (g ∙ ap (λ (s : Point). location s (points row)) q) ∙ ap due (sym e ∙ as_asked)

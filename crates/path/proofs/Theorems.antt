@@ -24,6 +24,7 @@ use Rattle.path.specs.Contains.{above, crosses, odd, contained, refusals, contai
 use Rattle.path.specs.Locate.{on_edge, touched, on_boundary, location, answer, located}
 use Rattle.path.proofs.ContainsLaws.{crosses_not, crosses_up, crosses_down, xor_assoc, xor_swap, false_xor}
 use Rattle.path.proofs.OnEdge.{on_edge_swap, end_on_edge}
+use Rattle.path.proofs.ContainsLaws.{refused_none}
 use Rattle.path.proofs.LocateLaws.{place_by, located_given}
 
 -- where the answer is inside or outside, `contains` says yes or no; and both refuse alike
@@ -78,7 +79,7 @@ a_vertex_is_located_on_the_boundary row i e h =
     let c = in_domain row e in
     let split : points row ≡ take i (points row) ++ at row i ∷ drop (i + 1) (points row) = sym (take-append-drop i (points row)) ∙ ap (λ (l : List Point). take i (points row) ++ l) (points_more c i h) in
     sym
-    (located_given row (at row i).x (at row i).y e 1 (at_on limit row i c.on)
+    (located_given row (at row i).x (at row i).y (at row i) refl 1 (sym (refused_none row (at row i) e (at_on limit row i c.on)))
     (sym (ap (location (at row i)) split ∙ a_vertex_is_on_the_boundary (at row i) (take i (points row)) (drop (i + 1) (points row)))))
 
 -- an edge counts the same either way

@@ -1,11 +1,13 @@
 -- Where a point lies: outside a contour, on its boundary or inside.
-use Rattle.std.specs.Prelude.{Bool, true, false, ◌&&◌, ◌||◌, List, [], ◌∷◌, ℕ, zero, suc, ℤ}
+use Rattle.std.specs.Prelude.{Bool, true, false, ◌&&◌, ◌||◌, Result, Ok, Err, List, [], ◌∷◌, ℕ, zero, suc, ℤ}
 use Rattle.std.specs.Int.Signed.{le_z}
 use Rattle.grid.specs.declared.Point.{Point}
 use Rattle.grid.specs.Points.{same, points}
 use Rattle.grid.specs.Edges.{between, aligned}
 use Rattle.grid.specs.Corners.{last}
+use Rattle.replies.specs.declared.refusal.Refusal.{Refusal}
 use Rattle.replies.specs.Ladder.{first_of}
+use Rattle.replies.specs.Refusals.{number}
 use Rattle.path.specs.declared.Located.{Located}
 use Rattle.path.specs.Contains.{contained, refusals}
 
@@ -35,6 +37,11 @@ location p c = elim (on_boundary p c) [ true ↦ 1 | false ↦ elim (contained p
 abbrev pub answer : ℕ → ℕ → Located
 answer zero k = record { reply = 0; place = k }
 answer (suc r) k = record { reply = suc r; place = 0 }
+
+-- a place or its refusal, as C has it
+abbrev pub answered : Result ℕ Refusal → Located
+answered (Ok k) = record { reply = 0; place = k }
+answered (Err r) = record { reply = number r; place = 0 }
 
 -- the answer
 unfoldable pub located : List ℤ → ℤ → ℤ → Located

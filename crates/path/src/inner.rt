@@ -40,56 +40,44 @@ fn closes(seen: Seen, to: Edge, from: Edge) -> bool
 }
 
 // Whether the contour turns one way and never back. Its point at `first` is the first that differs from the last. Only
-// where the way does not turn can an edge be still: it leads to an equal neighbour, and is passed over.
+// where the way does not turn can an edge be still: it leads to an equal neighbour, and is passed over. Each branch ends
+// by itself, since a common end takes LLVM three instructions a point more.
 pub fn one_way(points: &[i32], n: usize, first: usize) -> bool
     requires { Contour points.now n × FirstOther points.now n first × (first < n) }
     ensures { result ≡ convex_distinct (distinct_neighbours (points_of points.now)) }
 {
     let closing = grid::inner::edge_at(points, n - 1, first);
     let mut to = closing;
-    let mut left = false;
-    let mut right = false;
-    let mut reversed = false;
+    let mut seen = Seen {
+        left: false,
+        right: false,
+        reversed: false,
+    };
     let mut kept: usize = 1;
-    let mut i = first + 1;
-    while i < n {
+    for i in first + 1..n {
         let from = grid::inner::edge_at(points, i - 1, i);
         let turn = grid::inner::turn(to, from);
         if turn > 0 {
-            if right {
+            if seen.right {
                 return false;
             }
-            left = true;
+            seen.left = true;
             to = from;
             kept += 1;
-            i += 1;
         } else if turn < 0 {
-            if left {
+            if seen.left {
                 return false;
             }
-            right = true;
+            seen.right = true;
             to = from;
             kept += 1;
-            i += 1;
-        } else if grid::still(from) {
-            i += 1;
-        } else {
-            reversed = reversed | grid::inner::backward(to, from);
+        } else if !grid::still(from) {
+            seen.reversed |= grid::inner::backward(to, from);
             to = from;
             kept += 1;
-            i += 1;
         }
     }
-    kept <= 2
-        || closes(
-            Seen {
-                left,
-                right,
-                reversed,
-            },
-            to,
-            closing,
-        )
+    kept <= 2 || closes(seen, to, closing)
 }
 
 // Whether a lies above p's horizontal.
@@ -112,11 +100,8 @@ fn next_across(points: &[i32], n: usize, i: usize, p: Point, up: bool) -> usize
     requires { Contour points.now n × (i ≤ n) }
     ensures { Across points.now n i p up result }
 {
-    let mut here = i;
-    while here < n {
-        if lies_above(p, grid::inner::point_at(points, here)) == up {
-            here += 1;
-        } else {
+    for here in i..n {
+        if lies_above(p, grid::inner::point_at(points, here)) != up {
             return here;
         }
     }
@@ -156,11 +141,11 @@ fn parity_from(points: &[i32], n: usize, p: Point, from: usize, to: usize) -> bo
         let start = grid::inner::point_at(points, a);
         let end = grid::inner::point_at(points, i);
         if lies_above(p, end) {
-            odd = odd != meets_right(p, start, end);
+            odd ^= meets_right(p, start, end);
             i = next_across(points, n, i + 1, p, true);
             a = i - 1;
         } else {
-            odd = odd != meets_right(p, end, start);
+            odd ^= meets_right(p, end, start);
             i = next_across(points, n, i + 1, p, false);
             a = i - 1;
         }
@@ -168,17 +153,15 @@ fn parity_from(points: &[i32], n: usize, p: Point, from: usize, to: usize) -> bo
     odd
 }
 
-// Whether an odd number of the closed contour's edges crosses p's horizontal to the right of p.
+// Whether an odd number of the closed contour's edges crosses p's horizontal to the right of p. It is made anew for each
+// call, so that LLVM knows the count of four points and makes no loop of the search.
+#[inline(always)]
 fn parity(points: &[i32], n: usize, p: Point) -> bool
     requires { Contour points.now n × (0 < n) × (on limit p ≡ true) }
     ensures { result ≡ contained p (points_of points.now) }
 {
     let first = first_across(points, n, p);
-    if first < n {
-        parity_from(points, n, p, before(n, first), first)
-    } else {
-        false
-    }
+    first < n && parity_from(points, n, p, before(n, first), first)
 }
 
 // Whether a contour that no call refuses contains a point on the grid. It is handed on as a part, for which LLVM passes the
@@ -188,23 +171,15 @@ pub fn holds(points: &[i32], p: Point) -> bool
     ensures { result ≡ contained p (points_of points.now) }
 {
     let n = points.len() / 2;
-    if n == 0 {
-        return false;
-    }
-    parity(&points[..2 * n], n, p)
+    n != 0 && parity(&points[..2 * n], n, p)
 }
 
-// The parity of four points. Most contours are boxes: with the count known LLVM makes no loop of the search.
+// The parity of four points: most contours are boxes.
 pub fn parity_of_four(points: &[i32], p: Point) -> bool
     requires { Contour points.now 4 × (on limit p ≡ true) }
     ensures { result ≡ contained p (points_of points.now) }
 {
-    let first = first_across(points, 4, p);
-    if first < 4 {
-        parity_from(points, 4, p, before(4, first), first)
-    } else {
-        false
-    }
+    parity(points, 4, p)
 }
 
 // Whether z lies from a to b, both included, whichever is the smaller.
@@ -219,11 +194,9 @@ fn touches(p: Point, a: Point, b: Point) -> bool
     requires { (on limit p ≡ true) × (on limit a ≡ true) × (on limit b ≡ true) }
     ensures { result ≡ on_edge p a b }
 {
-    if amid(a.y, b.y, p.y) & amid(a.x, b.x, p.x) {
-        grid::inner::aligned(grid::inner::between(a, b), grid::inner::between(a, p))
-    } else {
-        false
-    }
+    amid(a.y, b.y, p.y)
+        && amid(a.x, b.x, p.x)
+        && grid::inner::aligned(grid::inner::between(a, b), grid::inner::between(a, p))
 }
 
 // How the way along the edge from l up to h turns on to p: left where the edge meets p's horizontal to the right of p,
@@ -275,7 +248,7 @@ fn location_from(points: &[i32], n: usize, p: Point, from: usize, to: usize) -> 
             if turn == 0 {
                 return BOUNDARY;
             }
-            odd = odd != (turn > 0);
+            odd ^= turn > 0;
             i = next_across(points, n, i + 1, p, true);
             a = i - 1;
         } else if lies_above(p, start) {
@@ -283,7 +256,7 @@ fn location_from(points: &[i32], n: usize, p: Point, from: usize, to: usize) -> 
             if turn == 0 {
                 return BOUNDARY;
             }
-            odd = odd != (turn > 0);
+            odd ^= turn > 0;
             i = next_reached(points, n, i + 1, p);
             a = i - 1;
         } else {
@@ -297,6 +270,20 @@ fn location_from(points: &[i32], n: usize, p: Point, from: usize, to: usize) -> 
     if odd { INSIDE } else { OUTSIDE }
 }
 
+// Where p lies to a contour of n points. It is made anew for each call, as the parity is.
+#[inline(always)]
+fn location_among(points: &[i32], n: usize, p: Point) -> u8
+    requires { Contour points.now n × (0 < n) × (on limit p ≡ true) }
+    ensures { result ≡ location_of p (points_of points.now) }
+{
+    let first = first_met(points, n, p);
+    if first < n {
+        location_from(points, n, p, before(n, first), first)
+    } else {
+        OUTSIDE
+    }
+}
+
 // Where a point on the grid lies to a contour that no call refuses.
 pub fn location(points: &[i32], p: Point) -> u8
     requires { (first_of (domain limit points.now) ≡ 0) × (on limit p ≡ true) }
@@ -306,23 +293,13 @@ pub fn location(points: &[i32], p: Point) -> u8
     if n == 0 {
         return OUTSIDE;
     }
-    let first = first_met(points, n, p);
-    if first < n {
-        location_from(points, n, p, before(n, first), first)
-    } else {
-        OUTSIDE
-    }
+    location_among(points, n, p)
 }
 
-// The same of four points, where LLVM makes no loop of the search.
+// The same of four points.
 pub fn location_of_four(points: &[i32], p: Point) -> u8
     requires { Contour points.now 4 × (on limit p ≡ true) }
     ensures { result ≡ location_of p (points_of points.now) }
 {
-    let first = first_met(points, 4, p);
-    if first < 4 {
-        location_from(points, 4, p, before(4, first), first)
-    } else {
-        OUTSIDE
-    }
+    location_among(points, 4, p)
 }

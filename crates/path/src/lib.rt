@@ -6,11 +6,14 @@ pub mod inner;
 ghost use Rattle.std.specs.Prelude.{◌≡◌};
 ghost use Rattle.path.specs.Convex.{convex as convex_verdict};
 ghost use Rattle.path.specs.Clockwise.{clockwise};
-ghost use Rattle.path.specs.Contains.{contains as contains_verdict};
-ghost use Rattle.path.specs.Locate.{located};
+ghost use Rattle.replies.specs.Ladder.{first_of};
+ghost use Rattle.replies.specs.Refusals.{told};
+ghost use Rattle.replies.specs.Verdicts.{answered};
+ghost use Rattle.path.specs.Contains.{refusals, contains as contains_verdict};
+ghost use Rattle.path.specs.Locate.{answered as place_answered, located};
 
 use grid::Point;
-pub use replies::Verdict;
+use replies::Refusal;
 
 pub const OUTSIDE: u8 = 0;
 
@@ -26,116 +29,80 @@ pub struct Located {
     pub place: u8,
 }
 
-// Whether all turns have one sign and no edge reverses, equal neighbours skipped. A box turns one way.
-pub fn is_convex(points: &[i32]) -> Verdict
-    ensures { result ≡ convex_verdict points.now }
-{
-    let refusal = grid::domain(points);
-    if refusal != 0 {
-        return Verdict {
-            reply: refusal,
-            yes: false,
-        };
+impl From<Result<u8, Refusal>> for Located {
+    ghost from_gives = { λ answer told. told ≡ place_answered answer };
+
+    fn from(answer: Result<u8, Refusal>) -> Located {
+        match answer {
+            Ok(place) => Located { reply: 0, place },
+            Err(refusal) => Located {
+                reply: refusal.number(),
+                place: OUTSIDE,
+            },
+        }
     }
+}
+
+// Whether all turns have one sign and no edge reverses, equal neighbours skipped. A box turns one way.
+pub fn is_convex(points: &[i32]) -> Result<bool, Refusal>
+    ensures { answered result ≡ convex_verdict points.now }
+{
+    grid::domain(points)?;
     let n = points.len() / 2;
     if n <= 2 {
-        return Verdict {
-            reply: replies::DONE,
-            yes: true,
-        };
+        return Ok(true);
     }
     let first = grid::inner::first_other(points, n);
     if first == n {
-        return Verdict {
-            reply: replies::DONE,
-            yes: true,
-        };
+        return Ok(true);
     }
     if grid::inner::boxes::is_box(points, n) {
-        return Verdict {
-            reply: replies::DONE,
-            yes: true,
-        };
+        return Ok(true);
     }
-    Verdict {
-        reply: replies::DONE,
-        yes: inner::one_way(points, n, first),
-    }
+    Ok(inner::one_way(points, n, first))
 }
 
 // Whether the reported doubled area is at or below zero.
-pub fn is_clockwise_ordered(points: &[i32]) -> Verdict
-    ensures { result ≡ clockwise points.now }
+pub fn is_clockwise_ordered(points: &[i32]) -> Result<bool, Refusal>
+    ensures { answered result ≡ clockwise points.now }
 {
-    let refusal = area::refusal(points);
-    if refusal != 0 {
-        return Verdict {
-            reply: refusal,
-            yes: false,
-        };
+    area::check(points)?;
+    Ok(area::inner::doubled_area(points) <= 0)
+}
+
+// The contour's domain, and then the asked point's. It is made anew for each call, since on boxes a call costs as much as
+// the test.
+#[inline(always)]
+fn check(points: &[i32], p: Point) -> Result<(), Refusal>
+    ensures { told result ≡ first_of (refusals p points.now) }
+{
+    grid::domain(points)?;
+    if !grid::point_on_grid(p) {
+        return Err(Refusal::OffGrid);
     }
-    Verdict {
-        reply: replies::DONE,
-        yes: area::inner::doubled_area(points) <= 0,
-    }
+    Ok(())
 }
 
 // Whether the contour contains the point x, y.
-pub fn contains_point(points: &[i32], x: i32, y: i32) -> Verdict
-    ensures { result ≡ contains_verdict points.now x y }
+pub fn contains_point(points: &[i32], x: i32, y: i32) -> Result<bool, Refusal>
+    ensures { answered result ≡ contains_verdict points.now x y }
 {
-    let refusal = grid::domain(points);
-    if refusal != 0 {
-        return Verdict {
-            reply: refusal,
-            yes: false,
-        };
-    }
     let p = Point { x, y };
-    if !grid::point_on_grid(p) {
-        return Verdict {
-            reply: replies::OFF_GRID,
-            yes: false,
-        };
-    }
+    check(points, p)?;
     if points.len() == 8 {
-        return Verdict {
-            reply: replies::DONE,
-            yes: inner::parity_of_four(points, p),
-        };
+        return Ok(inner::parity_of_four(points, p));
     }
-    Verdict {
-        reply: replies::DONE,
-        yes: inner::holds(points, p),
-    }
+    Ok(inner::holds(points, p))
 }
 
 // Where the point x, y lies: outside the contour, on its boundary or inside.
-pub fn locate(points: &[i32], x: i32, y: i32) -> Located
-    ensures { result ≡ located points.now x y }
+pub fn locate(points: &[i32], x: i32, y: i32) -> Result<u8, Refusal>
+    ensures { place_answered result ≡ located points.now x y }
 {
-    let refusal = grid::domain(points);
-    if refusal != 0 {
-        return Located {
-            reply: refusal,
-            place: OUTSIDE,
-        };
-    }
     let p = Point { x, y };
-    if !grid::point_on_grid(p) {
-        return Located {
-            reply: replies::OFF_GRID,
-            place: OUTSIDE,
-        };
-    }
+    check(points, p)?;
     if points.len() == 8 {
-        return Located {
-            reply: replies::DONE,
-            place: inner::location_of_four(points, p),
-        };
+        return Ok(inner::location_of_four(points, p));
     }
-    Located {
-        reply: replies::DONE,
-        place: inner::location(points, p),
-    }
+    Ok(inner::location(points, p))
 }

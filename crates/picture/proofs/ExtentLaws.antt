@@ -1,6 +1,6 @@
 -- The extent of points on the grid is on the grid, and its sizes are small.
-use mathlib.Core.Path.{◌≡◌, refl, sym, ◌∙◌, ap}
-use mathlib.Core.Bool.{Bool, true, false}
+use mathlib.Core.Path.{◌≡◌, refl, sym, ◌∙◌, ap, ap₂}
+use mathlib.Core.Bool.{Bool, true, false, cond}
 use mathlib.Core.List.{List}
 use Prim.Native.Nat.{ℕ, ◌+◌, ◌/◌, ◌≤◌, ◌<◌}
 use native.Mathlib.Omega.{arith}
@@ -10,7 +10,7 @@ use lib.IntN.{ℤ, nat_abs, ◌-ℤ◌}
 use lib.Signed.{lt_z}
 use mir.Syntax.{w64}
 use mir.Val.{to_z, of_z}
-use borrow.Author.Tests.{lt-ltb, le-ltb}
+use Rattle.std.specs.Int.{int_min, int_max}
 use Rattle.integers.proofs.Bound.{back}
 use Rattle.integers.proofs.Logic.{and_both}
 use Rattle.grid.specs.declared.Point.{Point}
@@ -20,7 +20,7 @@ use Rattle.grid.specs.Domain.{Contour}
 use Rattle.grid.proofs.PointLaws.{x_on, y_on, at_on, gap_in}
 use Rattle.grid.proofs.RowLaws.{points_more, points_done}
 use Rattle.picture.specs.declared.inner.frame.Extent.{Extent}
-use Rattle.picture.specs.Frame.{lesser, greater, widened, widened_by, extent, letter, sizes_by, sizes}
+use Rattle.picture.specs.Frame.{lesser, greater, widened, widened_by, extent, sizes_by, sizes}
 use Rattle.picture.specs.inside.Parts.{On, Small}
 
 -- one of two coordinates on the grid is on it
@@ -28,19 +28,21 @@ either_on : (b : Bool) (u v : ℤ) → on_grid limit u ≡ true → on_grid limi
 either_on true u v p q = p
 either_on false u v p q = q
 
--- which of two coordinates is the lesser, and which the greater
-module _ (a b : ℤ) where
-  pub lesser_first : lt_z a b ≡ true → a ≡ lesser a b
-  lesser_first e = sym (ap (λ (t : Bool). elim t [ true ↦ a | false ↦ b ]) e)
+-- the lesser and the greater of two coordinates, as std has them
+module _ {a b : ℤ} (p q : ℤ) (f : a ≡ p) (g : b ≡ q) (r : ℤ) where
+  pub lesser_is : r ≡ int_min b a → r ≡ lesser p q
+  lesser_is e = e ∙ go (lt_z a b) ∙ ap₂ lesser f g
+    where
+      go : (t : Bool) → cond t a b ≡ elim t [ true ↦ a | false ↦ b ]
+      go true = refl
+      go false = refl
 
-  pub lesser_second : lt_z a b ≡ false → b ≡ lesser a b
-  lesser_second e = sym (ap (λ (t : Bool). elim t [ true ↦ a | false ↦ b ]) e)
-
-  pub greater_second : lt_z a b ≡ true → b ≡ greater a b
-  greater_second e = sym (ap (λ (t : Bool). elim t [ true ↦ b | false ↦ a ]) e)
-
-  pub greater_first : lt_z a b ≡ false → a ≡ greater a b
-  greater_first e = sym (ap (λ (t : Bool). elim t [ true ↦ b | false ↦ a ]) e)
+  pub greater_is : r ≡ int_max b a → r ≡ greater p q
+  greater_is e = e ∙ go (lt_z a b) ∙ ap₂ greater f g
+    where
+      go : (t : Bool) → cond t b a ≡ elim t [ true ↦ b | false ↦ a ]
+      go true = refl
+      go false = refl
 
 pub widened_on : (e : Extent) (p : Point) → On e → on limit p ≡ true → On (widened e p)
 widened_on e p o q =
@@ -97,12 +99,6 @@ apart u v p q = omega (arith, (gap_in limit u v p q).abs)
 pub apart_back : (u v r : ℤ) → on_grid limit u ≡ true → on_grid limit v ≡ true → r ≡ v -ℤ u → to_z w64 (of_z w64 r) ≡ v -ℤ u
 unfolding limit
 apart_back u v r p q e = ap (λ (z : ℤ). to_z w64 (of_z w64 z)) e ∙ back w64 (gap_in limit u v p q) tt
-
-pub letter_higher : (w h : ℕ) → w < h → h / 40 + 1 ≡ letter w h
-letter_higher w h p = sym (ap (λ (t : Bool). elim t [ true ↦ h | false ↦ w ] / 40 + 1) (lt-ltb w h p))
-
-pub letter_wider : (w h : ℕ) → h ≤ w → w / 40 + 1 ≡ letter w h
-letter_wider w h p = sym (ap (λ (t : Bool). elim t [ true ↦ h | false ↦ w ] / 40 + 1) (le-ltb w h p))
 
 pub small : (w h : ℕ) → w ≤ 2147483646 → h ≤ 2147483646 → Small (sizes_by w h)
 small w h p q = record { wide = p; high = q; letters = go (ltb w h) }

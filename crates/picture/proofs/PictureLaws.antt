@@ -1,27 +1,24 @@
 -- What the picture of a file is, by how it was judged.
-use mathlib.Core.Path.{◌≡◌, refl, sym, ◌∙◌}
+use mathlib.Core.Path.{◌≡◌, refl, sym}
 use mathlib.Core.Bool.{Bool}
 use mathlib.Core.List.{List, ◌++◌}
 use Prim.Native.Nat.{ℕ, zero, suc, ◌*◌}
 use native.Mathlib.Omega.{arith}
-use lib.Dec.{leb}
 use lib.ListN.{length}
 use Rattle.grid.specs.Limits.{limit, most}
 use Rattle.grid.specs.Domain.{count, Contour}
 use Rattle.grid.proofs.LimitLaws.{all_on_wider}
 use Rattle.replies.specs.Ladder.{first_of}
-use Rattle.replies.proofs.LadderLaws.{clear_of}
 use Rattle.buffer.specs.Sets.{joined}
-use Rattle.setfile.specs.declared.inner.judging.Judged.{Judged}
 use Rattle.setfile.specs.Editions.{bound}
 use Rattle.setfile.proofs.HoldLaws.{bound_within}
 use Rattle.report.specs.Text.{decimal, line_end, refused}
-use Rattle.report.specs.Listing.{most_listed, job, listing_refusals}
+use Rattle.report.specs.Listing.{job, listing_refusals}
 use Rattle.report.specs.inside.Lines.{Listable}
-use Rattle.report.proofs.ReportLaws.{Told}
 use Rattle.picture.specs.Frame.{sizes}
 use Rattle.picture.specs.Picture.{drawn, job_extent, shown, picture}
 
+-- the picture of a file, by its first refusal
 pub picture_refused : (f : List ℕ) (k : ℕ) → k ≡ first_of (listing_refusals f) → (k ≡ 0 → ⊥) → picture f ≡ refused ++ decimal k ++ line_end
 unfolding picture
 picture_refused f zero e n = absurd (n refl)
@@ -39,6 +36,3 @@ job_contour {s} {f} {n} l many e = record {
   few = omega (arith, l.few);
   on = all_on_wider (bound s) limit (joined (job f)) (bound_within s) l.readable.on;
 }
-
-pub told_points : {s : Bool} {f : List ℕ} {j : Judged} {r : ℕ} → Told s f j r → r ≡ 0 → 2 * j.points ≡ length (joined (job f))
-told_points {s} {f} {j} file z = (file.judgement.counts (clear_of j.reply (leb j.points most_listed) (sym file.with_room ∙ z)).0).points

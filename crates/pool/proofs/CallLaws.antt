@@ -10,7 +10,7 @@ use lib.IntN.{ℤ}
 use borrow.Author.Tests.{not-false, leb-true, eqb-false}
 use Rattle.integers.proofs.Logic.{and_left, and_right}
 use Rattle.replies.specs.Ladder.{Rung, first_of, room}
-use Rattle.replies.proofs.LadderLaws.{First, first_is, clear, stopped, onward}
+use Rattle.replies.proofs.LadderLaws.{First, first_is, clear, onward}
 use Rattle.replies.proofs.LadderLaws.First.{here, past, foot}
 use Rattle.grid.specs.Limits.{limit}
 use Rattle.grid.specs.Domain.{count}
@@ -32,9 +32,6 @@ use Rattle.pool.proofs.SoundLaws.{there, sound_lies, sound_fair}
 module _ (contour : List ℤ) (sound : Bool) (mine others : ℕ) (enough : Bool) where
   abbrev over : Bool
   over = ltb (capacity - max others reserve) (mine + holding (count contour))
-
-  pub asked_first : (r : ℕ) → r ≡ first_of (set limit contour sound) → (r ≡ 0 → ⊥) → r ≡ first_of (of_adding contour sound mine others enough)
-  asked_first r e n = first_is _ r (stopped (set limit contour sound) (full mine others (count contour) ++ room enough) r e n)
 
   module _ (c : first_of (set limit contour sound) ≡ 0) where
     on : (r : ℕ) → First (full mine others (count contour) ++ room enough) r → r ≡ first_of (of_adding contour sound mine others enough)
@@ -141,6 +138,15 @@ module _ (s : Lent) (f : Survey) (u : Surveyed s f) where
       records_fit : length (contents s) < capacity
       records_fit = omega (arith, not_over, shares_both b, both_held sound_then, all_held sound_then, length_held (contents s))
 
+-- the records of a call that adds
+pub grown_not : (r n : ℕ) → (r ≡ 0 → ⊥) → grown r n ≡ n
+grown_not zero n h = absurd (h refl)
+grown_not (suc r) n h = refl
+
+pub grown_one : (r n : ℕ) → r ≡ 0 → grown r n ≡ n + 1
+grown_one zero n h = refl
+grown_one (suc r) n h = absurd (omega arith)
+
 -- what adding asks of lent rows, as far as the code has come
 pub record Asked (points : List ℤ) (records : List (List ℕ)) (n : ℕ) (b : Bool) (contour : List ℤ) (f : Survey) (r : ℕ) : Type 0 where
   pub survey : Surveyed (lent points records n) f
@@ -149,6 +155,12 @@ pub record Asked (points : List ℤ) (records : List (List ℕ)) (n : ℕ) (b : 
   pub mine : m ≡ share_of b f
   pub others : o ≡ share_of (not b) f
   pub reply : r ≡ first_of (of_adding contour f.sound m o (leb (2 * capacity) (length points) && leb capacity (length records)))
+
+pub asked :
+    {points : List ℤ} {records : List (List ℕ)} {n : ℕ} {b : Bool} {contour : List ℤ} {f : Survey} {r m o : ℕ} → Surveyed (lent points records n) f
+    → m ≡ share_of b f → o ≡ share_of (not b) f
+    → r ≡ first_of (of_adding contour f.sound m o (leb (2 * capacity) (length points) && leb capacity (length records))) → Asked points records n b contour f r
+asked u e g h = record { survey = u; m = _; o = _; mine = e; others = g; reply = h }
 
 module _ {points : List ℤ} {records : List (List ℕ)} {n : ℕ} {b : Bool} {contour : List ℤ} {f : Survey} {r : ℕ} (a : Asked points records n b contour f r) (tool : ℕ) where
   abbrev pool : Lent
@@ -163,6 +175,9 @@ module _ {points : List ℤ} {records : List (List ℕ)} {n : ℕ} {b : Bool} {c
   pub add_refused : (r ≡ 0 → ⊥) → leaving r points records n ≡ called (number b) (add tool contour) pool
   unfolding called
   add_refused z = refused_is r _ _ pool (asked_of ∙ asked_is pool f a.survey b tool contour) z
+
+  pub add_not : (r ≡ 0 → ⊥) → leaving r points records (grown r n) ≡ called (number b) (add tool contour) pool
+  add_not z = ap (leaving r points records) (grown_not r n z) ∙ add_refused z
 
   module _ (z : r ≡ 0) where
     none_asked : first_of (of_adding contour f.sound (share_of b f) (share_of (not b) f) (enough pool)) ≡ 0
@@ -190,15 +205,6 @@ module _ {points : List ℤ} {records : List (List ℕ)} {n : ℕ} {b : Bool} {c
     add_done press p q g h =
         done_is _ _ pool _ (sym (asked_is pool f a.survey b tool contour) ∙ none_asked)
         (h ∙ ap (λ (i : ℕ). laid_out (added (entry i tool contour) (contents pool)) pool) g)
-
--- the records of a call that adds
-pub grown_not : (r n : ℕ) → (r ≡ 0 → ⊥) → grown r n ≡ n
-grown_not zero n h = absurd (h refl)
-grown_not (suc r) n h = refl
-
-pub grown_one : (r n : ℕ) → r ≡ 0 → grown r n ≡ n + 1
-grown_one zero n h = refl
-grown_one (suc r) n h = absurd (omega arith)
 
 -- what an outcome answers
 pub outcome_reply : (s : Lent) (k : List Entry) (r : ℕ) → (outcome r k s).reply ≡ r

@@ -14,13 +14,13 @@ use Rattle.rows.proofs.RowLaws.{placed_next}
 use Rattle.rows.proofs.PlacedLaws.{set_placed}
 use Rattle.grid.specs.Domain.{count}
 use Rattle.buffer.specs.Sets.{joined}
-use Rattle.buffer.proofs.ListLaws.{map_at}
+use Rattle.std.proofs.lemmas.List.{get_or-map, map-set, take-map, drop-map}
 use Rattle.buffer.proofs.SetLaws.{joined-append}
 use Rattle.pool.specs.Lists.{Entry, entry, mine, has, added, removed, Every, Even}
 use Rattle.pool.specs.Rows.{Slot, slot, slots, Lent, lent, slot_at, slots_from, numbers, laid_out}
 use Rattle.pool.specs.inside.Records.{total, press_at, Lies, lowered, Gap}
 use Rattle.pool.proofs.ListLaws.{total-append, every_split, has_in, removed_is}
-use Rattle.pool.proofs.RowLaws.{map-drop, map-take, map-set, map_placed, placed_over, part_behind}
+use Rattle.pool.proofs.RowLaws.{map_placed, placed_over, part_behind}
 
 pub lent_is : {p q : List ℤ} {r s : List Slot} {n m : ℕ} → p ≡ q → r ≡ s → n ≡ m
     → ◌≡◌ {A = Lent} (record { points = p; records = r; contours = n }) (record { points = q; records = s; contours = m })
@@ -70,7 +70,7 @@ module _ (l : List Entry) (points : List ℤ) (records : List (List ℕ)) (n : �
   pub slot_is : (j : ℕ) → j < n → slot (get_or records j []) ≡ get_or (slots_from 0 l) j (slot [])
   slot_is j k =
       let m : j < length (slots_from 0 l) = omega (arith, slots_length 0 l, contours_are) in
-      sym (map_at slot records j (slot []) [] (omega (arith, records_long)))
+      sym (get_or-map slot records j [] (slot []) (omega (arith, records_long)))
       ∙ ap (λ (r : List Slot). get_or r j (slot [])) records_are
       ∙ get_or-append (slots_from 0 l) _ (slot []) j m
 
@@ -159,7 +159,7 @@ module _ (press : ℕ) (a : List Entry) (e : Entry) (b : List Entry) (points : L
       (ap slots g ∙ map_placed slot (length a) _ records
       ∙ ap (λ (x : List Slot). placed (length a) x (slots records))
       (lowered_slots d (take (length b) (drop (length a + 1) records))
-      ∙ ap (map (lower d)) (map-take slot (length b) (drop (length a + 1) records) ∙ ap (take (length b)) (map-drop slot (length a + 1) records)
+      ∙ ap (map (lower d)) (sym (take-map slot (length b) (drop (length a + 1) records)) ∙ ap (take (length b)) (sym (drop-map slot (length a + 1) records))
       ∙ part_behind (slots records) (slots_from 0 a) (slot_at (0 + total a) e ∷ []) (slots_from behind b) _ _ _ records_split v (slots_length behind b))
       ∙ slots_lower d (0 + total a) b)
       ∙ placed_over (slots records) (slots_from 0 a) _ (slots_from (0 + total a) b) (length a) records_split (slots_length 0 a)

@@ -1,18 +1,31 @@
--- Records whose contours move down.
-use mathlib.Core.Path.{◌≡◌, ◌∙◌, ap}
+-- Records that move down by one, and their contours with them.
+use mathlib.Core.Path.{◌≡◌, sym, ◌∙◌, ap}
 use mathlib.Core.List.{List, [], map}
-use Prim.Native.Nat.{ℕ, ◌+◌, ◌≤◌, ◌<◌}
+use Prim.Native.Nat.{ℕ, ◌+◌, ◌<◌}
 use native.Mathlib.Omega.{arith}
-use lib.ListN.{length, get_or, take, drop, length-map}
-use Rattle.buffer.proofs.ListLaws.{map_at}
-use Rattle.pool.specs.inside.Records.{lowered}
-use Rattle.pool.proofs.RowLaws.{part_length, part_at}
+use lib.ListN.{length, get_or, set, take, drop, length-map}
+use lib.Seq.{paste}
+use Rattle.std.proofs.lemmas.List.{get_or-map}
+use Rattle.std.proofs.lemmas.List.Edits.{paste_more}
+use Rattle.pool.specs.inside.Records.{lowered, Lowerable}
+use Rattle.pool.proofs.RowLaws.{ahead, part_length, part_at}
 
-module _ (row : List (List ℕ)) (from d n : ℕ) (h : from + n ≤ length row) where
-  pub lowered-length : length (map (lowered d) (take n (drop from row))) ≡ n
-  lowered-length = length-map (take n (drop from row)) (lowered d) ∙ part_length row from n h
+module _ (row r : List (List ℕ)) (at d n i : ℕ) where
+  -- i records have moved
+  abbrev pub Lowered : Type 0
+  Lowered = r ≡ paste row at (map (lowered d) (take n (drop (at + 1) row))) i
 
-  pub lowered_at : (i : ℕ) → i < n → get_or (map (lowered d) (take n (drop from row))) i [] ≡ lowered d (get_or row (from + i) [])
-  lowered_at i k =
-      map_at (lowered d) (take n (drop from row)) i [] [] (omega (arith, part_length row from n h))
-      ∙ ap (lowered d) (part_at row from n i [] k)
+  module _ (l : Lowerable row at d n) (h : i < n) (e : Lowered) where
+    long : length (map (lowered d) (take n (drop (at + 1) row))) ≡ n
+    long = length-map (take n (drop (at + 1) row)) (lowered d) ∙ part_length row (at + 1) n l.there
+
+    pub next_as_it_was : get_or r (at + 1 + i) [] ≡ get_or row (at + 1 + i) []
+    next_as_it_was = rw e (ahead row at _ i (at + 1 + i) [] (omega (arith, l.there)) (omega (arith, long)) (omega arith))
+
+    pub one_lowered : set r (at + i) (lowered d (get_or r (at + 1 + i) [])) ≡ paste row at (map (lowered d) (take n (drop (at + 1) row))) (i + 1)
+    one_lowered =
+        let read : get_or (map (lowered d) (take n (drop (at + 1) row))) i [] ≡ lowered d (get_or r (at + 1 + i) []) =
+        get_or-map (lowered d) (take n (drop (at + 1) row)) i [] [] (omega (arith, part_length row (at + 1) n l.there))
+        ∙ ap (lowered d) (part_at row (at + 1) n i [] h ∙ sym next_as_it_was) in
+        ap (set r (at + i)) (sym read) ∙ ap (λ (k : List (List ℕ)). set k (at + i) (get_or (map (lowered d) (take n (drop (at + 1) row))) i [])) e
+        ∙ paste_more row at _ i [] (omega (arith, l.there)) (omega (arith, long))

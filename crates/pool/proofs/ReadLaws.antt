@@ -14,8 +14,7 @@ use Rattle.buffer.specs.Spans.{span}
 use Rattle.buffer.specs.Sets.{contour}
 use Rattle.buffer.specs.Parts as Parts
 use Rattle.buffer.specs.Answers.{counted}
-use Rattle.buffer.specs.inside.Ranges.{Names}
-use Rattle.buffer.proofs.ListLaws.{map_at}
+use Rattle.std.proofs.lemmas.List.{get_or-map}
 use Rattle.buffer.proofs.PartLaws.{part_holds}
 use Rattle.pool.specs.Lists.{Entry, capacity, held, own, free}
 use Rattle.pool.specs.Calls.{unsound}
@@ -24,7 +23,7 @@ use Rattle.pool.specs.Outcome.{number, count_of, own_slots, contours_count, held
 use Rattle.pool.specs.inside.Records.{Found}
 use Rattle.pool.specs.inside.Surveys.{Surveyed, share_of}
 use Rattle.pool.specs.declared.inner.survey.Survey.{Survey}
-use Rattle.pool.proofs.RecordLaws.{lain}
+use Rattle.pool.proofs.RecordLaws.{Lain, lain}
 use Rattle.pool.proofs.SoundLaws.{chain, read_own}
 use Rattle.pool.proofs.CallLaws.{share_is, both_held, all_held, records_there}
 
@@ -82,28 +81,21 @@ module _ (points : Part) (records : List (List ℕ)) (n : ℕ) (f : Survey) (u :
     within : n ≤ length records
     within = records_there points.numbers records n f u e
 
-    module _ (r : ℕ) (w : Found p k n records r) where
-      spans_long : length (map (Parts.named points) own_spans) ≡ length (own_slots p (used rows))
-      spans_long = length-map own_spans (Parts.named points) ∙ length-map (own_slots p (used rows)) span_of
+    pub part_absent : length (own_slots p (used rows)) ≤ k → none points ≡ contour_of points records n p k
+    part_absent z =
+        let l : length (map (Parts.named points) own_spans) ≤ k = omega (arith, length-map own_spans (Parts.named points), length-map (own_slots p (used rows)) span_of) in
+        handed_sound (none points) (sym (get_or-eq_default (map (Parts.named points) own_spans) (none points) l))
 
-      pub part_absent : r ≡ 0 → none points ≡ contour_of points records n p k
-      part_absent z =
-          let l : length (map (Parts.named points) own_spans) ≤ k = omega (arith, spans_long, w.absent z) in
-          handed_sound (none points) (sym (get_or-eq_default (map (Parts.named points) own_spans) (none points) l))
+    module _ (i : ℕ) (w : Found p k n records i) where
+      pub part_lain : Lain (count points.numbers) (slot (get_or records i []))
+      part_lain = lain (count points.numbers) n records i within (chain rows is_sound) w.within
 
-      module _ (z : r ≡ 0 → ⊥) where
-        pub part_names : Names points.numbers records (r - 1)
-        part_names =
-            let j = lain (count points.numbers) n records (r - 1) within (chain rows is_sound) (omega (arith, w.within)) in
-            record { there = omega (arith, w.within, within); forward = j.forward; fits = omega (arith, j.ends) }
-
-        pub part_there : Parts.named points (span (get_or records (r - 1) [])) ≡ contour_of points records n p k
-        part_there =
-            let t = w.there (omega arith) in
-            handed_sound _
-            (ap (λ (s : Slot). Parts.named points (span_of s)) t.1
-            ∙ sym (map_at (Parts.named points) own_spans k (none points) (span []) (omega (arith, t.0, length-map (own_slots p (used rows)) span_of))
-            ∙ ap (Parts.named points) (map_at span_of (own_slots p (used rows)) k (span []) (slot []) t.0)))
+      pub part_there : Parts.named points (span (get_or records i [])) ≡ contour_of points records n p k
+      part_there =
+          handed_sound _
+          (ap (λ (s : Slot). Parts.named points (span_of s)) w.is
+          ∙ sym (get_or-map (Parts.named points) own_spans k (span []) (none points) (omega (arith, w.there, length-map (own_slots p (used rows)) span_of))
+          ∙ ap (Parts.named points) (get_or-map span_of (own_slots p (used rows)) k (slot []) (span []) w.there)))
 
 -- the contours that a press reads by number are its own, in order
 pub read_by_number : (points : Part) (records : List (List ℕ)) (n p k : ℕ) → sound (lent points.numbers records n) ≡ true

@@ -1,18 +1,21 @@
 -- Records that are read one after the other.
 use mathlib.Core.Path.{◌≡◌, refl, sym, ◌∙◌, ap, subst}
-use mathlib.Core.Bool.{Bool, true, false, ◌&&◌, and_assoc, and-false}
+use mathlib.Core.Bool.{Bool, true, false, cond, ◌&&◌, and_assoc, and-false}
 use mathlib.Core.List.{List, [], ◌∷◌}
 use Prim.Native.Nat.{ℕ, zero, suc, ◌+◌, ◌-◌, ◌*◌, ◌≤◌, ◌<◌}
 use native.Mathlib.Omega.{arith}
 use native.Mathlib.Numerals.{add-one}
+use Rattle.std.specs.Prelude.{count_by}
+use Rattle.std.proofs.lemmas.Bool.Decides.{nat_tests}
+use Rattle.std.proofs.lemmas.List.Recursion.{is_count_by}
 use lib.Dec.{leb, eqb}
 use lib.ListN.{length, get_or, take, drop, drop_of_length-le, length-map}
 use lib.Seq.{drop-cons, length-take-le, get_or-take}
-use borrow.Author.Tests.{eqb-true, eqb-false, leb-true, le-leb, eq-eqb, ne_eqb}
+use borrow.Author.Tests.{eqb-true, leb-true, le-leb, eq-eqb, ne_eqb}
 use Rattle.integers.proofs.Logic.{and_left, and_right}
 use Rattle.buffer.specs.Spans as Spans
-use Rattle.buffer.proofs.ListLaws.{map_at}
-use Rattle.pool.specs.Lists.{holding}
+use Rattle.std.proofs.lemmas.List.{get_or-map}
+use Rattle.pool.specs.Lists.{holding, if_so}
 use Rattle.pool.specs.Rows.{Slot, slot, slots, span_of, follows, chained, if_mine, held_by}
 use Rattle.pool.specs.Outcome.{own_slots}
 use Rattle.pool.specs.inside.Records.{end_of, press_at, Found}
@@ -26,7 +29,7 @@ module _ (records : List (List ℕ)) (n i : ℕ) (fit : n ≤ length records) wh
   here h =
       let k : i < length (take n (slots records)) = omega (arith, taken) in
       drop-cons (take n (slots records)) i (slot []) k
-      ∙ rw (add-one i, get_or-take n (slots records) i (slot []) h, map_at slot records i (slot []) [] (omega arith))
+      ∙ rw (add-one i, get_or-take n (slots records) i (slot []) h, get_or-map slot records i [] (slot []) (omega arith))
 
   nothing : n ≤ i → drop i (take n (slots records)) ≡ []
   nothing h = let k : length (take n (slots records)) ≤ i = omega (arith, taken) in drop_of_length-le (take n (slots records)) k
@@ -58,17 +61,13 @@ module _ {records : List (List ℕ)} {n press k i rest : ℕ} (fit : n ≤ lengt
   abbrev later : List Slot
   later = own_slots press (drop (i + 1) (take n (slots records)))
 
-  pub seeking_here : i < n → press_at records i ≡ press → rest ≡ 0 → Found press k n records (i + 1)
+  pub seeking_here : i < n → press_at records i ≡ press → rest ≡ 0 → Found press k n records i
   seeking_here h e z =
       let o = own_mine records n i fit press h e in
       record {
-        within = omega arith;
-        there = λ w. (
-          omega (arith, s.counts, ap length o),
-          ap (λ (j : ℕ). slot (get_or records j [])) (omega arith)
-              ∙ sym (s.is ∙ ap (λ (l : List Slot). get_or l rest (slot [])) o ∙ ap (λ (j : ℕ). get_or (slot (get_or records i []) ∷ later) j (slot [])) z),
-        );
-        absent = λ w. absurd (omega arith);
+        within = h;
+        there = omega (arith, s.counts, ap length o);
+        is = sym (s.is ∙ ap (λ (l : List Slot). get_or l rest (slot [])) o ∙ ap (λ (j : ℕ). get_or (slot (get_or records i []) ∷ later) j (slot [])) z);
       }
 
   pub seeking_past : i < n → press_at records i ≡ press → (rest ≡ 0 → ⊥) → Seeking records n press k (i + 1) (rest - 1)
@@ -86,12 +85,22 @@ module _ {records : List (List ℕ)} {n press k i rest : ℕ} (fit : n ≤ lengt
       let o = own_others records n i fit press h f in
       record { within = omega arith; counts = s.counts ∙ ap (λ (l : List Slot). length l + k) o; is = s.is ∙ ap (λ (l : List Slot). get_or l rest (slot [])) o }
 
-  pub seeking_none : n ≤ i → Found press k n records 0
-  seeking_none h = record {
-    within = omega arith;
-    there = λ w. absurd (omega arith);
-    absent = λ w. omega (arith, s.counts, ap length (own_done records n i fit press h));
-  }
+  pub seeking_none : n ≤ i → length (own_slots press (take n (slots records))) ≤ k
+  seeking_none h = omega (arith, s.counts, ap length (own_done records n i fit press h))
+
+eqb-comm : (m n : ℕ) → eqb m n ≡ eqb n m
+eqb-comm m n = grind (arith, nat_tests)
+
+-- a press's records, counted in the row
+counted_first : (t : Bool) (s : Slot) (l : List Slot) → length (if_so t s l) ≡ cond t (1 + length l) (length l)
+counted_first true s l = omega arith
+counted_first false s l = refl
+
+pub own_counted : (press : ℕ) (records : List (List ℕ)) → length (own_slots press (slots records)) ≡ count_by (λ r. eqb (get_or r 3 0) press) records
+unfolding own_slots
+own_counted press =
+    is_count_by (λ l. length (own_slots press (slots l))) (λ r. eqb (get_or r 3 0) press) refl
+    (λ r l. rw (eqb-comm (get_or r 3 0) press) (counted_first (eqb press (get_or r 3 0)) (slot r) (own_slots press (slots l))))
 
 -- what the first of sound records says
 pub record Next (places p : ℕ) (s : Slot) (l : List Slot) : Type 0 where
@@ -132,14 +141,6 @@ first_chained places p s l = ap (λ (t : Bool). follows p s && t) (go (chained p
     go true e = rw (le-leb s.end places (rises places s.end l e))
     go false e = rw e (sym (and-false (leb s.end places)))
 
--- a record that starts at a point runs forward from there
-pub along : (at start end : ℕ) → (eqb at start && leb at end) ≡ (eqb at start && leb start end)
-along at start end = go (eqb at start) refl
-  where
-    go : (t : Bool) → eqb at start ≡ t → (t && leb at end) ≡ (t && leb start end)
-    go true e = ap (λ (k : ℕ). leb k end) (eqb-true at start e)
-    go false e = refl
-
 -- a number that counts for either press, and for the second by its number
 either_mine : (press k : ℕ) → press ≤ 1 → if_mine (eqb 0 press) k + if_mine (eqb 1 press) k ≡ k
 either_mine zero k h = omega arith
@@ -162,18 +163,6 @@ pub record Surveying (records : List (List ℕ)) (n places at all second i : ℕ
   pub both : all + held_by 0 (drop i (take n (slots records))) + held_by 1 (drop i (take n (slots records)))
       ≡ held_by 0 (take n (slots records)) + held_by 1 (take n (slots records))
   pub one : second + held_by 1 (drop i (take n (slots records))) ≡ held_by 1 (take n (slots records))
-
-pub surveying_none : (records : List (List ℕ)) (n places : ℕ) → Surveying records n places 0 0 0 0
-surveying_none records n places = record {
-  within = omega arith;
-  ends = omega arith;
-  small = omega arith;
-  part = omega arith;
-  chain = refl;
-  end = refl;
-  both = omega arith;
-  one = omega arith;
-}
 
 module _ {records : List (List ℕ)} {n places at all second i : ℕ} (fit : n ≤ length records) (s : Surveying records n places at all second i) where
   abbrev this : Slot
@@ -242,13 +231,5 @@ pub lain : (places n : ℕ) (records : List (List ℕ)) (i : ℕ) → n ≤ leng
     → Lain places (slot (get_or records i []))
 lain places n records i fit e h =
     let k : i < length (take n (slots records)) = omega (arith, taken records n i fit) in
-    subst (Lain places) (get_or-take n (slots records) i (slot []) h ∙ map_at slot records i (slot []) [] (omega arith))
+    subst (Lain places) (get_or-take n (slots records) i (slot []) h ∙ get_or-map slot records i [] (slot []) (omega arith))
     (lain_at places 0 (take n (slots records)) i (slot []) e k)
-
--- what holds of no number from i on, nor of the one before, holds of none from there on
-pub one_below : (P : ℕ → Type 0) (i n : ℕ) → ((j : ℕ) → i ≤ j → j < n → P j → ⊥) → (P (i - 1) → ⊥) → (j : ℕ) → i - 1 ≤ j → j < n → P j → ⊥
-one_below P i n f g j a b x = go (eqb j (i - 1)) refl
-  where
-    go : (t : Bool) → eqb j (i - 1) ≡ t → ⊥
-    go true e = g (subst P (eqb-true j (i - 1) e) x)
-    go false e = f j (omega (arith, eqb-false j (i - 1) e)) b x

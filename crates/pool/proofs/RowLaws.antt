@@ -1,35 +1,20 @@
 -- Rows that are written to, and what is read of each element.
 use mathlib.Core.Path.{◌≡◌, refl, sym, ◌∙◌, ap, ap₂}
-use mathlib.Core.List.{List, [], ◌∷◌, ◌++◌, map, append_assoc, map-append}
-use Prim.Native.Nat.{ℕ, zero, suc, ◌+◌, ◌-◌, ◌≤◌, ◌<◌}
+use mathlib.Core.List.{List, ◌++◌, map, append_assoc, map-append}
+use Prim.Native.Nat.{ℕ, ◌+◌, ◌-◌, ◌≤◌, ◌<◌}
 use native.Mathlib.Omega.{arith}
-use lib.ListN.{length, get_or, set, take, drop, length-append, length-map, length-drop}
-use lib.Seq.{take_at, drop_at, drop-paste, get_or-drop, get_or-take, length-take-le}
+use lib.ListN.{length, get_or, take, drop, length-append, length-map, length-drop}
+use lib.Seq.{paste, take_at, drop_at, drop-paste, get_or-drop, get_or-take, length-take-le}
+use Rattle.std.proofs.lemmas.List.{take-map, drop-map}
 use Rattle.rows.specs.Rows.{front, placed}
-use Rattle.rows.proofs.RowLaws.{Copied}
 
 module _ {A B : Type 0} (f : A → B) where
-  pub map-drop : (n : ℕ) (l : List A) → map f (drop n l) ≡ drop n (map f l)
-  map-drop zero l = refl
-  map-drop (suc n) [] = refl
-  map-drop (suc n) (a ∷ l) = map-drop n l
-
-  pub map-take : (n : ℕ) (l : List A) → map f (take n l) ≡ take n (map f l)
-  map-take zero l = refl
-  map-take (suc n) [] = refl
-  map-take (suc n) (a ∷ l) = ap (λ (k : List B). f a ∷ k) (map-take n l)
-
-  pub map-set : (l : List A) (i : ℕ) (v : A) → map f (set l i v) ≡ set (map f l) i (f v)
-  map-set [] i v = refl
-  map-set (x ∷ l) zero v = refl
-  map-set (x ∷ l) (suc i) v = ap (λ (k : List B). f x ∷ k) (map-set l i v)
-
   pub map_placed : (at : ℕ) (l row : List A) → map f (placed at l row) ≡ placed at (map f l) (map f row)
   map_placed at l row =
       map-append f (take at row ++ l) (drop (at + length l) row)
       ∙ ap₂ (λ (a b : List B). a ++ b)
-      (map-append f (take at row) l ∙ ap (λ (a : List B). a ++ map f l) (map-take at row))
-      (map-drop (at + length l) row ∙ ap (λ (n : ℕ). drop (at + n) (map f row)) (sym (length-map l f)))
+      (map-append f (take at row) l ∙ ap (λ (a : List B). a ++ map f l) (sym (take-map f at row)))
+      (sym (drop-map f (at + length l) row) ∙ ap (λ (n : ℕ). drop (at + n) (map f row)) (sym (length-map l f)))
 
 module _ {A : Type 0} where
   -- a row that begins with a list, and what is placed behind that
@@ -49,15 +34,15 @@ module _ {A : Type 0} where
       ∙ take_at b rest m k
 
 -- a row to which i elements of a list were copied is ahead of them as it was
-module _ {A : Type 0} (row₀ : List A) (at : ℕ) (l : List A) where
-  pub ahead : {row : List A} {i : ℕ} → Copied row₀ at l row i → (m : ℕ) (d : A) → at ≤ length row₀ → at + i ≤ m → get_or row m d ≡ get_or row₀ m d
-  ahead {row} {i} c m d h k =
-      let e : at + i + (m - (at + i)) ≡ m = omega arith in
-      ap (λ (n : ℕ). get_or row n d) (sym e)
-      ∙ sym (get_or-drop (at + i) row (m - (at + i)) d)
-      ∙ ap (λ (r : List A). get_or r (m - (at + i)) d) (ap (drop (at + i)) c.is ∙ drop-paste row₀ at l i h c.within)
-      ∙ get_or-drop (at + i) row₀ (m - (at + i)) d
-      ∙ ap (λ (n : ℕ). get_or row₀ n d) e
+pub ahead : {A : Type 0} (row : List A) (at : ℕ) (l : List A) (i m : ℕ) (d : A) → at ≤ length row → i ≤ length l → at + i ≤ m
+    → get_or (paste row at l i) m d ≡ get_or row m d
+ahead {A} row at l i m d h w k =
+    let e : at + i + (m - (at + i)) ≡ m = omega arith in
+    ap (λ (n : ℕ). get_or (paste row at l i) n d) (sym e)
+    ∙ sym (get_or-drop (at + i) (paste row at l i) (m - (at + i)) d)
+    ∙ ap (λ (r : List A). get_or r (m - (at + i)) d) (drop-paste row at l i h w)
+    ∙ get_or-drop (at + i) row (m - (at + i)) d
+    ∙ ap (λ (n : ℕ). get_or row n d) e
 
 -- a part of a row, by its length and its elements
 module _ {A : Type 0} (row : List A) (from n : ℕ) where

@@ -2,6 +2,5 @@
 pub mod adding;
 pub mod changing;
 pub mod moving;
-pub mod parts;
 pub mod records;
 pub mod survey;

@@ -4,13 +4,15 @@
 pub mod inner;
 
 ghost use Rattle.std.specs.Prelude.{◌≡◌};
+ghost use Rattle.replies.specs.Refusals.{told};
 ghost use Rattle.rows.specs.Parts.{part};
+ghost use Rattle.buffer.specs.Answers.{counted_as};
 ghost use Rattle.pool.specs.Calls.Call.{add as adding, remove as removing};
 ghost use Rattle.pool.specs.Rows.{lent};
 ghost use Rattle.pool.specs.Outcome.{leaving, called, number, contours_count, held_count, free_count, contour_of};
 
-use buffer::Counted;
 use inner::{changing, records, survey};
+use replies::Refusal;
 
 // A press adds a contour, which becomes its newest; its tool is 0.
 pub fn add(
@@ -19,19 +21,16 @@ pub fn add(
     contours: &mut usize,
     second: bool,
     contour: &[i32],
-) -> u32
-    ensures { leaving result points.new records.new contours.new
+) -> Result<(), Refusal>
+    ensures { leaving (told result) points.new records.new contours.new
         ≡ called (number second) (adding 0 contour.now)
         (lent points.old records.old contours.old) }
 {
     let n = *contours;
     let found = survey::surveyed(points, records, n);
-    let reply = inner::adding::add_surveyed(points, records, n, found, second, 0, contour);
-    if reply != 0 {
-        return reply;
-    }
+    inner::adding::add_surveyed(points, records, n, found, second, 0, contour)?;
     *contours = n + 1;
-    reply
+    Ok(())
 }
 
 // A press removes its newest contour; later ones move down.
@@ -40,23 +39,23 @@ pub fn remove(
     records: &mut [[usize; 4]],
     contours: &mut usize,
     second: bool,
-) -> u32
-    ensures { leaving result points.new records.new contours.new
+) -> Result<(), Refusal>
+    ensures { leaving (told result) points.new records.new contours.new
         ≡ called (number second) removing
         (lent points.old records.old contours.old) }
 {
     let n = *contours;
     let found = survey::surveyed(points, records, n);
     if !found.sound {
-        return replies::RANGES;
+        return Err(Refusal::Ranges);
     }
     let newest = records::newest(records, n, survey::number(second));
     if newest == 0 {
-        return replies::NONE_LEFT;
+        return Err(Refusal::NoneLeft);
     }
     changing::take_out(points, records, n, found.points, newest);
     *contours = n - 1;
-    replies::DONE
+    Ok(())
 }
 
 // How many contours a press has.
@@ -65,40 +64,41 @@ pub fn contours_count(
     records: &[[usize; 4]],
     contours: usize,
     second: bool,
-) -> Counted
-    ensures { result ≡ contours_count (number second) (lent points.now records.now contours) }
+) -> Result<usize, Refusal>
+    ensures { counted_as result ≡ contours_count (number second) (lent points.now records.now contours) }
 {
     let found = survey::surveyed(points, records, contours);
     if !found.sound {
-        return buffer::answer::how_many(replies::RANGES, 0);
+        return Err(Refusal::Ranges);
     }
-    let n = records::count(records, contours, survey::number(second));
-    buffer::answer::how_many(replies::DONE, n)
+    Ok(records::count(records, contours, survey::number(second)))
 }
 
 // How many points a press holds; an empty contour counts as one.
-pub fn held(points: &[i32], records: &[[usize; 4]], contours: usize, second: bool) -> Counted
-    ensures { result ≡ held_count (number second) (lent points.now records.now contours) }
+pub fn held(
+    points: &[i32],
+    records: &[[usize; 4]],
+    contours: usize,
+    second: bool,
+) -> Result<usize, Refusal>
+    ensures { counted_as result ≡ held_count (number second) (lent points.now records.now contours) }
 {
     let found = survey::surveyed(points, records, contours);
     if !found.sound {
-        return buffer::answer::how_many(replies::RANGES, 0);
+        return Err(Refusal::Ranges);
     }
-    buffer::answer::how_many(replies::DONE, survey::share(found, second))
+    Ok(survey::share(found, second))
 }
 
 // The free count: the pool less all held.
-pub fn free(points: &[i32], records: &[[usize; 4]], contours: usize) -> Counted
-    ensures { result ≡ free_count (lent points.now records.now contours) }
+pub fn free(points: &[i32], records: &[[usize; 4]], contours: usize) -> Result<usize, Refusal>
+    ensures { counted_as result ≡ free_count (lent points.now records.now contours) }
 {
     let found = survey::surveyed(points, records, contours);
     if !found.sound {
-        return buffer::answer::how_many(replies::RANGES, 0);
+        return Err(Refusal::Ranges);
     }
-    buffer::answer::how_many(
-        replies::DONE,
-        records::CAPACITY - (found.first + found.second),
-    )
+    Ok(records::CAPACITY - (found.first + found.second))
 }
 
 // Contour number k of a press, as a part of the points; the empty part at their front where it is not there.
@@ -115,9 +115,9 @@ pub fn contour_of<'a>(
     if !found.sound {
         return &points[..0];
     }
-    let at = records::find(records, contours, survey::number(second), k);
-    if at == 0 {
+    let Some(at) = records::find(records, contours, survey::number(second), k) else {
         return &points[..0];
-    }
-    inner::parts::named(points, records, at - 1)
+    };
+    let [start, end, ..] = records[at];
+    buffer::inner::parts::between(points, start, end)
 }

@@ -1,65 +1,46 @@
-// What the library answers to a case of the kind `h`: a history of two presses that share a pool.
+// What the library answers to a case of a history of two presses that share a pool.
 #![tactic(auto)]
 
 mod calls;
 mod reads;
-mod records;
 
 use cases::answer::Answer;
 use cases::case::HEAD;
+use cases::given::Set;
 use cases::room::{LONG, LONG_NUMBERS};
 use cases::{answer, room};
 
-// The kind `h`: calls in rows of given lengths, full of canaries behind the records that are given.
-pub fn lent(
-    head: [usize; HEAD],
-    numbers: &[i32],
-    given: &[[usize; 2]],
-    steps: &[[usize; 2]],
-) -> Answer {
+// Calls in rows of given lengths, full of canaries behind the records that are given. Each of these is two pairs of the
+// case's contours, and the calls stand as its shapes.
+pub fn lent(head: [usize; HEAD], set: Set<'_>) -> Answer {
     let mut points = [-7i32; LONG_NUMBERS];
     let mut row = [[7usize; 4]; LONG];
-    records::put(given, &mut row);
-    cut(head, numbers, steps, &mut points, &mut row)
+    put(set.contours, &mut row);
+    let points = room::front_mut(&mut points, head[0]);
+    let records = room::front_mut(&mut row, head[1]);
+    after_calls(head[2], set, points, records)
 }
 
-// The rows, cut to their lengths.
-fn cut(
-    head: [usize; HEAD],
-    numbers: &[i32],
-    steps: &[[usize; 2]],
-    points: &mut [i32],
-    row: &mut [[usize; 4]],
-) -> Answer {
-    let points_end = room::at_most(head[0], points.len());
-    let records_end = room::at_most(head[1], row.len());
-    after_calls(
-        head[2],
-        numbers,
-        steps,
-        &mut points[0..points_end],
-        &mut row[0..records_end],
-    )
+// Puts the records in front of the row, each of two pairs.
+fn put(given: &[[usize; 2]], row: &mut [[usize; 4]]) {
+    for (record, [one, two]) in row.iter_mut().zip(given.as_chunks::<2>().0) {
+        *record = [one[0], one[1], two[0], two[1]];
+    }
 }
 
 // The calls, and what is told and left.
 fn after_calls(
     start: usize,
-    numbers: &[i32],
-    steps: &[[usize; 2]],
+    set: Set<'_>,
     points: &mut [i32],
-    row: &mut [[usize; 4]],
+    records: &mut [[usize; 4]],
 ) -> Answer {
     let mut contours = start;
-    let told = calls::make(numbers, steps, points, row, &mut contours);
-    let columns = [
-        told.last as u64,
-        told.count as u64,
-        told.sum,
-        contours as u64,
-        cases::numbers::checksum(points),
-        records::checksum(row),
-    ];
-    let answer = answer::begin().numbers(&columns);
-    reads::with_both(answer, points, row, contours)
+    let told = calls::make(set.points, set.shapes, points, records, &mut contours);
+    let answer = told
+        .columns(answer::begin())
+        .amount(contours)
+        .sum(points)
+        .sum(records);
+    reads::with_both(answer, points, records, contours)
 }

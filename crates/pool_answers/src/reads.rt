@@ -1,7 +1,6 @@
 // What is read of a pool after a history.
 use answers::{column, parts};
 use cases::answer::Answer;
-use cases::room;
 
 // How many contours are read by number from the front.
 const FIRST: usize = 16;
@@ -13,9 +12,9 @@ pub fn with_both(
     records: &[[usize; 4]],
     contours: usize,
 ) -> Answer {
-    let mut answer = with_press(before, points, records, contours, false);
-    answer = with_press(answer, points, records, contours, true);
-    column::with_counted(answer, pool::free(points, records, contours))
+    let first = with_press(before, points, records, contours, false);
+    let second = with_press(first, points, records, contours, true);
+    second.with(column::counted(pool::free(points, records, contours)))
 }
 
 // How many contours a press has, how many points it holds, and its contours by number.
@@ -28,10 +27,10 @@ fn with_press(
 ) -> Answer {
     let own = pool::contours_count(points, records, contours, second);
     let held = pool::held(points, records, contours, second);
-    let count = own.count;
-    let mut answer = column::with_counted(before, own);
-    answer = column::with_counted(answer, held);
-    answer.with(b' ', by_number(points, records, contours, second, count))
+    before
+        .with(column::counted(own))
+        .with(column::counted(held))
+        .word(by_number(points, records, contours, second, own.unwrap_or(0)))
 }
 
 // The first contours of a press, the last and the one past the end, in one checksum.
@@ -41,14 +40,10 @@ fn by_number(
     contours: usize,
     second: bool,
     count: usize,
-) -> u64 {
-    let mut sum: u64 = 0;
-    for k in 0..room::at_most(count, FIRST) {
-        let part = pool::contour_of(points, records, contours, second, k);
-        sum = parts::with_part(sum, part);
-    }
-    let last = pool::contour_of(points, records, contours, second, room::without(count, 1));
-    sum = parts::with_part(sum, last);
-    let past = pool::contour_of(points, records, contours, second, count);
-    parts::with_part(sum, past)
+) -> u32 {
+    (0..count.min(FIRST))
+        .chain([count.saturating_sub(1), count])
+        .fold(0, |sum, k| {
+            parts::with_part(sum, pool::contour_of(points, records, contours, second, k))
+        })
 }

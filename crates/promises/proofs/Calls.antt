@@ -22,8 +22,8 @@ module _ {K T R O : Type 0} {Learnt : K → T → R → T → Type 0} {seen : R 
   follows is = record { equals_the_rule = is; any_two_outcomes_are_identical = λ κs a x y d e p q. is κs a x d p ∙ sym (is κs a y e q) }
 
 -- an answer that goes by the number of the first rung that holds
-module _ (kind : Kind) (ladder : List Rung) (by : ℕ → kind.Answer) (refusing : (k : ℕ) → by (suc k) ≡ kind.only (suc k)) where
-  pub numbered : ((kind.reply (by 0) ≡ 0) ⊎ (kind.reply (by 0) ≡ 7)) → {x : kind.Answer} → x ≡ by (first_of ladder) → Numbered kind ladder x
+module _ (kind : Kind) (ladder : List Rung) (by : ℕ → kind.Told) (refusing : (k : ℕ) → by (suc k) ≡ kind.only (suc k)) where
+  pub numbered : ((kind.reply (by 0) ≡ 0) ⊎ (kind.reply (by 0) ≡ 7)) → {x : kind.Told} → x ≡ by (first_of ladder) → Numbered kind ladder x
   numbered done is = record {
     a_bad_input_gets_its_number = λ bad. is ∙ go (first_of ladder) bad;
     no_other_input_is_refused = λ none. rw (is, none) done;

@@ -57,8 +57,8 @@ nothing_traps = record {
   clean·despike·despiked = record { is_proved = clean.despike.despiked.Met.met; asks_nothing = λ κs a. tt };
   clean·kept_part = record { is_proved = clean.kept_part.Met.met; asks_nothing = λ κs a. tt };
   buffer·ranges·sound = record { is_proved = buffer.ranges.sound.Met.met; asks_nothing = λ κs a. tt };
-  buffer·contours·refused = record { is_proved = buffer.contours.refused.Met.met; asks_nothing = λ κs a. tt };
-  buffer·shapes·refused = record { is_proved = buffer.shapes.refused.Met.met; asks_nothing = λ κs a. tt };
+  buffer·contours·check = record { is_proved = buffer.contours.check.Met.met; asks_nothing = λ κs a. tt };
+  buffer·shapes·check = record { is_proved = buffer.shapes.check.Met.met; asks_nothing = λ κs a. tt };
   buffer·contours·set_with_contour = record { is_proved = buffer.contours.set_with_contour.Met.met; asks_nothing = λ κs a. tt };
   buffer·contours·set_with_shape = record { is_proved = buffer.contours.set_with_shape.Met.met; asks_nothing = λ κs a. tt };
   buffer·contours·set_with_shapes = record { is_proved = buffer.contours.set_with_shapes.Met.met; asks_nothing = λ κs a. tt };
@@ -148,8 +148,8 @@ every_bad_input_gets_its_number = record {
   sets·shapes·area = λ κs a x e h. area_numbered _ h;
   clean·simple·simplified = λ κs a x e h. cleaning_numbered Collinear _ _ _ h;
   clean·despike·despiked = λ κs a x e h. cleaning_numbered Spike _ _ _ h;
-  buffer·contours·refused = λ κs a x e h. numbered numbers _ (λ k. k) (λ k. refl) (inl refl) h;
-  buffer·shapes·refused = λ κs a x e h. numbered numbers _ (λ k. k) (λ k. refl) (inl refl) h;
+  buffer·contours·check = λ κs a x e h. numbered numbers _ (λ k. k) (λ k. refl) (inl refl) h;
+  buffer·shapes·check = λ κs a x e h. numbered numbers _ (λ k. k) (λ k. refl) (inl refl) h;
   buffer·contours·set_with_contour = λ κs a x e h. packing_numbered _ _ _ _ _ _ _ _ h;
   buffer·contours·set_with_shape = λ κs a x e h. packing_numbered _ _ _ _ _ _ _ _ h;
   buffer·contours·set_with_shapes = λ κs a x e h. packing_numbered _ _ _ _ _ _ _ _ h;

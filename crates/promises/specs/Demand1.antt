@@ -72,8 +72,8 @@ pub record NothingTraps : Type 2 where
   pub clean·despike·despiked : NeverTraps clean.despike.despiked.Statement.statement clean.despike.despiked.Reads.Asked
   pub clean·kept_part : NeverTraps clean.kept_part.Statement.statement clean.kept_part.Reads.Asked
   pub buffer·ranges·sound : NeverTraps buffer.ranges.sound.Statement.statement buffer.ranges.sound.Reads.Asked
-  pub buffer·contours·refused : NeverTraps buffer.contours.refused.Statement.statement buffer.contours.refused.Reads.Asked
-  pub buffer·shapes·refused : NeverTraps buffer.shapes.refused.Statement.statement buffer.shapes.refused.Reads.Asked
+  pub buffer·contours·check : NeverTraps buffer.contours.check.Statement.statement buffer.contours.check.Reads.Asked
+  pub buffer·shapes·check : NeverTraps buffer.shapes.check.Statement.statement buffer.shapes.check.Reads.Asked
   pub buffer·contours·set_with_contour : NeverTraps buffer.contours.set_with_contour.Statement.statement buffer.contours.set_with_contour.Reads.Asked
   pub buffer·contours·set_with_shape : NeverTraps buffer.contours.set_with_shape.Statement.statement buffer.contours.set_with_shape.Reads.Asked
   pub buffer·contours·set_with_shapes : NeverTraps buffer.contours.set_with_shapes.Statement.statement buffer.contours.set_with_shapes.Reads.Asked
@@ -234,8 +234,8 @@ pub record EveryBadInputGetsItsNumber : Type 0 where
   pub clean·simple·simplified : Refuses cleanings clean.simple.simplified.Reads.Learnt λ a. of_contour cleaning_refusals a (contour_lent a)
   pub clean·despike·despiked : Refuses cleanings clean.despike.despiked.Reads.Learnt λ a. of_contour cleaning_refusals a (contour_lent a)
   -- Sets, asked for their refusal.
-  pub buffer·contours·refused : Refuses numbers buffer.contours.refused.Reads.Learnt (of_set Contours.refusals)
-  pub buffer·shapes·refused : Refuses numbers buffer.shapes.refused.Reads.Learnt (of_shapes Shapes.refusals)
+  pub buffer·contours·check : Refuses numbers buffer.contours.check.Reads.Learnt (of_set Contours.refusals)
+  pub buffer·shapes·check : Refuses numbers buffer.shapes.check.Reads.Learnt (of_shapes Shapes.refusals)
   -- Packing.
   pub buffer·contours·set_with_contour : Refuses packings buffer.contours.set_with_contour.Reads.Learnt λ a. three a λ contour out records.
       packed (domain limit contour.now) contour.now (whole contour.now ∷ []) [] out.now records.now []
@@ -292,7 +292,7 @@ pub record EveryBadInputGetsItsNumber : Type 0 where
       Numbered
       (comparisons (five a λ points ranges others other-ranges listing.
       Comparing.whose (first_of (Contours.refusals points.now ranges.now)) (first_of (Contours.refusals others.now other-ranges.now))))
-      (five a λ points ranges others other-ranges listing. Comparing.all_refusals points.now ranges.now others.now other-ranges.now listing.now) x
+      (five a λ points ranges others other-ranges listing. Comparing.all_refusals points.now ranges.now others.now other-ranges.now listing.now) (Comparing.compared_as x)
   pub pool·add : Refuses numbers pool.add.Reads.Learnt λ a. five a λ points records contours second contour.
       PoolCalls.rungs (number second) (add 0 contour.now) (Pool.lent points.now records.now contours.now)
   pub pool·remove : Refuses numbers pool.remove.Reads.Learnt λ a. four a λ points records contours second.
@@ -336,8 +336,8 @@ pub record ACollapsedContourLeavesOutputUntouchedAndItsScratchZeroed : Type 0 wh
   pub clean·despike·despiked : Collapses cleanings clean.despike.despiked.Reads.Learnt OnlyZeroed (of_contour count) contour_lent
   pub sets·simple·simplified_shape : Collapses set_cleanings sets.simple.simplified_shape.Reads.Learnt ShapeOnlyZeroed (of_contour count) shape_lent
   pub sets·despike·despiked_shape : Collapses set_cleanings sets.despike.despiked_shape.Reads.Learnt ShapeOnlyZeroed (of_contour count) shape_lent
-  pub sets·simple·simplified_shapes : Always sets.simple.simplified_shapes.Reads.Learnt λ a x e. x.reply ≡ 7 → ⊥
-  pub sets·despike·despiked_shapes : Always sets.despike.despiked_shapes.Reads.Learnt λ a x e. x.reply ≡ 7 → ⊥
+  pub sets·simple·simplified_shapes : Always sets.simple.simplified_shapes.Reads.Learnt λ a x e. (SetCleaning.cleaned_as x).reply ≡ 7 → ⊥
+  pub sets·despike·despiked_shapes : Always sets.despike.despiked_shapes.Reads.Learnt λ a x e. (SetCleaning.cleaned_as x).reply ≡ 7 → ⊥
 
 pub record Demand1 : Type 2 where
   pub nothing_traps_whatever_numbers_arrive : NothingTraps

@@ -9,6 +9,7 @@ use contract.Lifetimes.{Lfts}
 use contract.Monad.{Fun}
 use denote.Triple.Entry.{Args}
 use denote.Triple.Clauses.{AtExit}
+use Rattle.replies.specs.Refusals.{told}
 use Rattle.replies.specs.Ladder.{first_of}
 use Rattle.replies.proofs.OneOutcome.{ensuring, two, three, four, five, six, eight}
 use Rattle.area.specs.Answers as Areas
@@ -57,127 +58,127 @@ use Rattle.pool.proofs as pool
 use Rattle.ukmerelt.proofs as ukmerelt
 use Rattle.buffer.specs.contracts.ranges.sound_spans
 use Rattle.ukmerelt.specs.contracts.contour_sets.ukm_ranges_sound
-use Rattle.promises.specs.Calls.{of_contour, of_set, of_shapes, contour_lent, shape_lent, shapes_lent, fates_lent, Follows, Answers, HandsOut}
+use Rattle.promises.specs.Calls.{of_contour, of_set, of_shapes, contour_lent, shape_lent, shapes_lent, fates_lent, Follows, Answers, Tells, HandsOut, numbers, verdicts, areas, locations, counts}
 
 -- each function, and its rule: what it answers, or what it answers and leaves in the rows that it was lent
 pub record EveryAnswerEqualsTheRules : Type 0 where
   -- The grid and its arithmetic.
-  pub area·area_two : Answers area.area_two.Reads.Learnt (of_contour Areas.doubled)
-  pub area·area : Answers area.area.Reads.Learnt (of_contour Areas.half)
-  pub path·is_clockwise_ordered : Answers path.is_clockwise_ordered.Reads.Learnt (of_contour clockwise)
+  pub area·area_two : Tells areas area.area_two.Reads.Learnt (of_contour Areas.doubled)
+  pub area·area : Tells areas area.area.Reads.Learnt (of_contour Areas.half)
+  pub path·is_clockwise_ordered : Tells verdicts path.is_clockwise_ordered.Reads.Learnt (of_contour clockwise)
   -- Verdicts.
-  pub clean·simple·is_simple : Answers clean.simple.is_simple.Reads.Learnt (of_contour Verdicts.simple)
-  pub clean·despike·has_no_spikes : Answers clean.despike.has_no_spikes.Reads.Learnt (of_contour Verdicts.spike_free)
-  pub path·is_convex : Answers path.is_convex.Reads.Learnt (of_contour convex)
-  pub path·contains_point : Answers path.contains_point.Reads.Learnt λ a. three a λ points x y. contains points.now x y
-  pub sets·simple·is_simple : Answers sets.simple.is_simple.Reads.Learnt (of_set SetVerdicts.simple)
-  pub sets·despike·has_no_spikes : Answers sets.despike.has_no_spikes.Reads.Learnt (of_set SetVerdicts.spike_free)
-  pub sets·shapes·is_simple : Answers sets.shapes.is_simple.Reads.Learnt (of_shapes SetVerdicts.shapes_simple)
-  pub sets·shapes·has_no_spikes : Answers sets.shapes.has_no_spikes.Reads.Learnt (of_shapes SetVerdicts.shapes_spike_free)
+  pub clean·simple·is_simple : Tells verdicts clean.simple.is_simple.Reads.Learnt (of_contour Verdicts.simple)
+  pub clean·despike·has_no_spikes : Tells verdicts clean.despike.has_no_spikes.Reads.Learnt (of_contour Verdicts.spike_free)
+  pub path·is_convex : Tells verdicts path.is_convex.Reads.Learnt (of_contour convex)
+  pub path·contains_point : Tells verdicts path.contains_point.Reads.Learnt λ a. three a λ points x y. contains points.now x y
+  pub sets·simple·is_simple : Tells verdicts sets.simple.is_simple.Reads.Learnt (of_set SetVerdicts.simple)
+  pub sets·despike·has_no_spikes : Tells verdicts sets.despike.has_no_spikes.Reads.Learnt (of_set SetVerdicts.spike_free)
+  pub sets·shapes·is_simple : Tells verdicts sets.shapes.is_simple.Reads.Learnt (of_shapes SetVerdicts.shapes_simple)
+  pub sets·shapes·has_no_spikes : Tells verdicts sets.shapes.has_no_spikes.Reads.Learnt (of_shapes SetVerdicts.shapes_spike_free)
   -- The area of a set.
-  pub sets·areas·area_two : Answers sets.areas.area_two.Reads.Learnt (of_set SetAreas.doubled)
-  pub sets·areas·area : Answers sets.areas.area.Reads.Learnt (of_set SetAreas.half)
-  pub sets·shapes·area_two : Answers sets.shapes.area_two.Reads.Learnt (of_shapes SetAreas.shapes_doubled)
-  pub sets·shapes·area : Answers sets.shapes.area.Reads.Learnt (of_shapes SetAreas.shapes_half)
+  pub sets·areas·area_two : Tells areas sets.areas.area_two.Reads.Learnt (of_set SetAreas.doubled)
+  pub sets·areas·area : Tells areas sets.areas.area.Reads.Learnt (of_set SetAreas.half)
+  pub sets·shapes·area_two : Tells areas sets.shapes.area_two.Reads.Learnt (of_shapes SetAreas.shapes_doubled)
+  pub sets·shapes·area : Tells areas sets.shapes.area.Reads.Learnt (of_shapes SetAreas.shapes_half)
   -- The walk, and the second call.
   pub clean·simple·simplified : Follows clean.simple.simplified.Reads.Learnt
-      (λ x e. Cleaning.leaving x (contour_lent e)) (λ a. of_contour (Cleaning.outcome Collinear) a (contour_lent a))
+      (λ x e. Cleaning.leaving (Cleaning.cleaned_as x) (contour_lent e)) (λ a. of_contour (Cleaning.outcome Collinear) a (contour_lent a))
   pub clean·despike·despiked : Follows clean.despike.despiked.Reads.Learnt
-      (λ x e. Cleaning.leaving x (contour_lent e)) (λ a. of_contour (Cleaning.outcome Spike) a (contour_lent a))
+      (λ x e. Cleaning.leaving (Cleaning.cleaned_as x) (contour_lent e)) (λ a. of_contour (Cleaning.outcome Spike) a (contour_lent a))
   pub clean·kept_part : HandsOut clean.kept_part.Reads.Learnt λ a. three a λ contour out k. kept_part (part contour) (part out) k
   -- Sets: their ranges.
   pub buffer·ranges·sound : Answers buffer.ranges.sound.Reads.Learnt λ a. two a λ ranges count. sound (spans ranges.now) count
-  pub buffer·contours·refused : Answers buffer.contours.refused.Reads.Learnt λ a. two a λ points ranges. first_of (Contours.refusals points.now ranges.now)
-  pub buffer·shapes·refused : Answers buffer.shapes.refused.Reads.Learnt λ a. three a λ points contours shapes. first_of (Shapes.refusals points.now contours.now shapes.now)
+  pub buffer·contours·check : Tells numbers buffer.contours.check.Reads.Learnt λ a. two a λ points ranges. first_of (Contours.refusals points.now ranges.now)
+  pub buffer·shapes·check : Tells numbers buffer.shapes.check.Reads.Learnt λ a. three a λ points contours shapes. first_of (Shapes.refusals points.now contours.now shapes.now)
   -- Packing.
   pub buffer·contours·set_with_contour : Follows buffer.contours.set_with_contour.Reads.Learnt
-      (λ x e. three e λ contour out records. Packing.leaving x out.now records.now [])
+      (λ x e. three e λ contour out records. Packing.leaving (Packing.packed_as x) out.now records.now [])
       (λ a. three a λ contour out records. Contours.with_contour contour.now out.now records.now)
   pub buffer·contours·set_with_shape : Follows buffer.contours.set_with_shape.Reads.Learnt
-      (λ x e. four e λ points ranges out records. Packing.leaving x out.now records.now [])
+      (λ x e. four e λ points ranges out records. Packing.leaving (Packing.packed_as x) out.now records.now [])
       (λ a. four a λ points ranges out records. Contours.with_shape points.now ranges.now out.now records.now)
   pub buffer·contours·set_with_shapes : Follows buffer.contours.set_with_shapes.Reads.Learnt
-      (λ x e. five e λ points contours shapes out records. Packing.leaving x out.now records.now [])
+      (λ x e. five e λ points contours shapes out records. Packing.leaving (Packing.packed_as x) out.now records.now [])
       (λ a. five a λ points contours shapes out records. Contours.with_shapes points.now contours.now shapes.now out.now records.now)
   pub buffer·shapes·set_with_contour : Follows buffer.shapes.set_with_contour.Reads.Learnt
-      (λ x e. four e λ contour out records groups. Packing.leaving x out.now records.now groups.now)
+      (λ x e. four e λ contour out records groups. Packing.leaving (Packing.packed_as x) out.now records.now groups.now)
       (λ a. four a λ contour out records groups. Shapes.with_contour contour.now out.now records.now groups.now)
   pub buffer·shapes·set_with_shape : Follows buffer.shapes.set_with_shape.Reads.Learnt
-      (λ x e. five e λ points ranges out records groups. Packing.leaving x out.now records.now groups.now)
+      (λ x e. five e λ points ranges out records groups. Packing.leaving (Packing.packed_as x) out.now records.now groups.now)
       (λ a. five a λ points ranges out records groups. Shapes.with_shape points.now ranges.now out.now records.now groups.now)
   pub buffer·shapes·set_with_shapes : Follows buffer.shapes.set_with_shapes.Reads.Learnt
-      (λ x e. six e λ points contours shapes out records groups. Packing.leaving x out.now records.now groups.now)
+      (λ x e. six e λ points contours shapes out records groups. Packing.leaving (Packing.packed_as x) out.now records.now groups.now)
       (λ a. six a λ points contours shapes out records groups. Shapes.with_shapes points.now contours.now shapes.now out.now records.now groups.now)
   -- Adding one.
   pub buffer·contours·add_contour : Follows buffer.contours.add_contour.Reads.Learnt
-      (λ x e. five e λ points ranges contour out records. Packing.leaving x out.now records.now [])
+      (λ x e. five e λ points ranges contour out records. Packing.leaving (Packing.packed_as x) out.now records.now [])
       (λ a. five a λ points ranges contour out records. Contours.with_one_more points.now ranges.now contour.now out.now records.now)
   pub buffer·shapes·add_shape : Follows buffer.shapes.add_shape.Reads.Learnt
-      (λ x e. eight e λ points contours shapes more ranges out records groups. Packing.leaving x out.now records.now groups.now)
+      (λ x e. eight e λ points contours shapes more ranges out records groups. Packing.leaving (Packing.packed_as x) out.now records.now groups.now)
       (λ a. eight a λ points contours shapes more ranges out records groups.
       Shapes.with_one_more points.now contours.now shapes.now more.now ranges.now out.now records.now groups.now)
   -- Counting.
-  pub buffer·contours·is_empty : Answers buffer.contours.is_empty.Reads.Learnt (of_set Contours.is_empty)
-  pub buffer·contours·is_single_contour : Answers buffer.contours.is_single_contour.Reads.Learnt (of_set Contours.is_single)
-  pub buffer·contours·points_count : Answers buffer.contours.points_count.Reads.Learnt (of_set Contours.points_count)
-  pub buffer·contours·contours_count : Answers buffer.contours.contours_count.Reads.Learnt (of_set Contours.contours_count)
-  pub buffer·shapes·is_empty : Answers buffer.shapes.is_empty.Reads.Learnt (of_shapes Shapes.is_empty)
-  pub buffer·shapes·points_count : Answers buffer.shapes.points_count.Reads.Learnt (of_shapes Shapes.points_count)
-  pub buffer·shapes·contours_count : Answers buffer.shapes.contours_count.Reads.Learnt (of_shapes Shapes.contours_count)
-  pub buffer·shapes·shapes_count : Answers buffer.shapes.shapes_count.Reads.Learnt (of_shapes Shapes.shapes_count)
-  pub buffer·shapes·contours_in : Answers buffer.shapes.contours_in.Reads.Learnt λ a. four a λ points contours shapes s. Shapes.contours_in points.now contours.now shapes.now s
+  pub buffer·contours·is_empty : Tells verdicts buffer.contours.is_empty.Reads.Learnt (of_set Contours.is_empty)
+  pub buffer·contours·is_single_contour : Tells verdicts buffer.contours.is_single_contour.Reads.Learnt (of_set Contours.is_single)
+  pub buffer·contours·points_count : Tells counts buffer.contours.points_count.Reads.Learnt (of_set Contours.points_count)
+  pub buffer·contours·contours_count : Tells counts buffer.contours.contours_count.Reads.Learnt (of_set Contours.contours_count)
+  pub buffer·shapes·is_empty : Tells verdicts buffer.shapes.is_empty.Reads.Learnt (of_shapes Shapes.is_empty)
+  pub buffer·shapes·points_count : Tells counts buffer.shapes.points_count.Reads.Learnt (of_shapes Shapes.points_count)
+  pub buffer·shapes·contours_count : Tells counts buffer.shapes.contours_count.Reads.Learnt (of_shapes Shapes.contours_count)
+  pub buffer·shapes·shapes_count : Tells counts buffer.shapes.shapes_count.Reads.Learnt (of_shapes Shapes.shapes_count)
+  pub buffer·shapes·contours_in : Tells counts buffer.shapes.contours_in.Reads.Learnt λ a. four a λ points contours shapes s. Shapes.contours_in points.now contours.now shapes.now s
   -- Unpacking.
   pub buffer·contours·contour : HandsOut buffer.contours.contour.Reads.Learnt λ a. three a λ points ranges k. Contours.contour_at (part points) ranges.now k
   pub buffer·contours·first_contour : HandsOut buffer.contours.first_contour.Reads.Learnt λ a. two a λ points ranges. Contours.first_contour (part points) ranges.now
   pub buffer·shapes·contour_of : HandsOut buffer.shapes.contour_of.Reads.Learnt λ a. five a λ points contours shapes s c. Shapes.contour_of (part points) contours.now shapes.now s c
   -- Cleaning one shape, and shapes.
   pub sets·simple·simplified_shape : Follows sets.simple.simplified_shape.Reads.Learnt
-      (λ x e. SetCleaning.leaving x (shape_lent e)) (λ a. of_set (SetCleaning.shape_outcome Collinear) a (shape_lent a))
+      (λ x e. SetCleaning.leaving (SetCleaning.cleaned_as x) (shape_lent e)) (λ a. of_set (SetCleaning.shape_outcome Collinear) a (shape_lent a))
   pub sets·despike·despiked_shape : Follows sets.despike.despiked_shape.Reads.Learnt
-      (λ x e. SetCleaning.leaving x (shape_lent e)) (λ a. of_set (SetCleaning.shape_outcome Spike) a (shape_lent a))
+      (λ x e. SetCleaning.leaving (SetCleaning.cleaned_as x) (shape_lent e)) (λ a. of_set (SetCleaning.shape_outcome Spike) a (shape_lent a))
   pub sets·simple·simplified_shapes : Follows sets.simple.simplified_shapes.Reads.Learnt
-      (λ x e. SetCleaning.leaving x (shapes_lent e)) (λ a. of_shapes (SetCleaning.shapes_outcome Collinear) a (shapes_lent a))
+      (λ x e. SetCleaning.leaving (SetCleaning.cleaned_as x) (shapes_lent e)) (λ a. of_shapes (SetCleaning.shapes_outcome Collinear) a (shapes_lent a))
   pub sets·despike·despiked_shapes : Follows sets.despike.despiked_shapes.Reads.Learnt
-      (λ x e. SetCleaning.leaving x (shapes_lent e)) (λ a. of_shapes (SetCleaning.shapes_outcome Spike) a (shapes_lent a))
+      (λ x e. SetCleaning.leaving (SetCleaning.cleaned_as x) (shapes_lent e)) (λ a. of_shapes (SetCleaning.shapes_outcome Spike) a (shapes_lent a))
   -- The set file.
   pub setfile·read : Follows setfile.read.Reads.Learnt
-      (λ x e. four e λ bytes out records groups. Reading.leaving x out.now records.now groups.now)
+      (λ x e. four e λ bytes out records groups. Reading.leaving (Reading.read_as x) out.now records.now groups.now)
       (λ a. four a λ bytes out records groups. Reading.outcome bytes.now out.now records.now groups.now)
   pub setfile·write : Follows setfile.write.Reads.Learnt
-      (λ x e. four e λ points contours shapes bytes. Writing.leaving x.reply x.bytes bytes.now)
+      (λ x e. four e λ points contours shapes bytes. Writing.leaving (Writing.written_as x).reply (Writing.written_as x).bytes bytes.now)
       (λ a. four a λ points contours shapes bytes. Writing.outcome points.now contours.now shapes.now bytes.now)
   -- Beyond 01: where a point lies, and whether a shape has it, which 02 says in place of 01; what becomes of each contour, a file of edition 2 written, salvage of a file, drawings in millimetres, two sets compared, and a pool that two presses share.
   pub setfile·write_2 : Follows setfile.write_2.Reads.Learnt
-      (λ x e. four e λ points contours shapes bytes. Writing.leaving x.reply x.bytes bytes.now)
+      (λ x e. four e λ points contours shapes bytes. Writing.leaving (Writing.written_as x).reply (Writing.written_as x).bytes bytes.now)
       (λ a. four a λ points contours shapes bytes. Writing2.outcome points.now contours.now shapes.now bytes.now)
-  pub path·locate : Answers path.locate.Reads.Learnt λ a. three a λ points x y. located points.now x y
-  pub sets·in_shape : Answers sets.in_shape.Reads.Learnt λ a. four a λ points ranges x y. in_shape points.now ranges.now x y
+  pub path·locate : Tells locations path.locate.Reads.Learnt λ a. three a λ points x y. located points.now x y
+  pub sets·in_shape : Tells verdicts sets.in_shape.Reads.Learnt λ a. four a λ points ranges x y. in_shape points.now ranges.now x y
   pub fates·simplified : Follows fates.simplified.Reads.Learnt
-      (λ x e. Fates.leaving x (fates_lent e)) (λ a. of_shapes (Fates.fates_outcome Collinear) a (fates_lent a))
+      (λ x e. Fates.leaving (Packing.counted_as x) (fates_lent e)) (λ a. of_shapes (Fates.fates_outcome Collinear) a (fates_lent a))
   pub fates·despiked : Follows fates.despiked.Reads.Learnt
-      (λ x e. Fates.leaving x (fates_lent e)) (λ a. of_shapes (Fates.fates_outcome Spike) a (fates_lent a))
+      (λ x e. Fates.leaving (Packing.counted_as x) (fates_lent e)) (λ a. of_shapes (Fates.fates_outcome Spike) a (fates_lent a))
   pub salvage·mend : Follows salvage.mend.Reads.Learnt
-      (λ x e. three e λ bytes out dropped. Salvage.leaving x out.now dropped.now)
+      (λ x e. three e λ bytes out dropped. Salvage.leaving (Salvage.salvaged_as x) out.now dropped.now)
       (λ a. three a λ bytes out dropped. Salvage.outcome bytes.now out.now dropped.now)
   pub drawing·import : Follows drawing.import.Reads.Learnt
-      (λ x e. four e λ kinds floats points ranges. Packing.leaving x points.now ranges.now [])
+      (λ x e. four e λ kinds floats points ranges. Packing.leaving (Packing.packed_as x) points.now ranges.now [])
       (λ a. four a λ kinds floats points ranges. Importing.outcome kinds.now floats.now points.now ranges.now)
   pub drawing·export : Follows drawing.export.Reads.Learnt
-      (λ x e. four e λ points ranges kinds floats. Exporting.leaving x kinds.now floats.now)
+      (λ x e. four e λ points ranges kinds floats. Exporting.leaving (Exporting.drawn_as x) kinds.now floats.now)
       (λ a. four a λ points ranges kinds floats. Exporting.outcome points.now ranges.now kinds.now floats.now)
   pub difference·compare : Follows difference.compare.Reads.Learnt
-      (λ x e. five e λ points ranges others other-ranges listing. Comparing.leaving x listing.now)
+      (λ x e. five e λ points ranges others other-ranges listing. Comparing.leaving (Comparing.compared_as x) listing.now)
       (λ a. five a λ points ranges others other-ranges listing. Comparing.outcome points.now ranges.now others.now other-ranges.now listing.now)
   pub difference·walker·reached : HandsOut difference.walker.reached.Reads.Learnt λ a. three a λ points place end. Walking.handed (part points) place end
   pub pool·add : Follows pool.add.Reads.Learnt
-      (λ x e. three e λ points records contours. Pool.leaving x points.now records.now contours.now)
+      (λ x e. three e λ points records contours. Pool.leaving (told x) points.now records.now contours.now)
       (λ a. five a λ points records contours second contour. Pool.called (Pool.number second) (add 0 contour.now) (lent points.now records.now contours.now))
   pub pool·remove : Follows pool.remove.Reads.Learnt
-      (λ x e. three e λ points records contours. Pool.leaving x points.now records.now contours.now)
+      (λ x e. three e λ points records contours. Pool.leaving (told x) points.now records.now contours.now)
       (λ a. four a λ points records contours second. Pool.called (Pool.number second) remove (lent points.now records.now contours.now))
-  pub pool·contours_count : Answers pool.contours_count.Reads.Learnt λ a. four a λ points records contours second. Pool.contours_count (Pool.number second) (lent points.now records.now contours)
-  pub pool·held : Answers pool.held.Reads.Learnt λ a. four a λ points records contours second. Pool.held_count (Pool.number second) (lent points.now records.now contours)
-  pub pool·free : Answers pool.free.Reads.Learnt λ a. three a λ points records contours. Pool.free_count (lent points.now records.now contours)
+  pub pool·contours_count : Tells counts pool.contours_count.Reads.Learnt λ a. four a λ points records contours second. Pool.contours_count (Pool.number second) (lent points.now records.now contours)
+  pub pool·held : Tells counts pool.held.Reads.Learnt λ a. four a λ points records contours second. Pool.held_count (Pool.number second) (lent points.now records.now contours)
+  pub pool·free : Tells counts pool.free.Reads.Learnt λ a. three a λ points records contours. Pool.free_count (lent points.now records.now contours)
   pub pool·contour_of : HandsOut pool.contour_of.Reads.Learnt λ a. five a λ points records contours second k. Pool.contour_of (part points) records.now contours (Pool.number second) k
 
 -- a file is a row of bytes

@@ -6,7 +6,7 @@ use Rattle.grid.specs.Domain.{count}
 use Rattle.ring.specs.declared.Rule.{Rule}
 use Rattle.ring.specs.declared.Rule.TheVariants.{Collinear, Spike}
 use Rattle.ring.specs.Rule.{goes_at}
-use Rattle.clean.specs.Outcome.{walked, Lent, Outcome, leaving, outcome}
+use Rattle.clean.specs.Outcome.{cleaned_as, walked, Lent, Outcome, leaving, outcome}
 use Rattle.clean.specs.Promises.{InDomainWithRoom, kept_points, Keeps, Stands, Unchanged}
 use Rattle.clean.proofs as clean
 use Rattle.promises.specs.Calls.{contour_lent, Always}
@@ -45,5 +45,5 @@ DemandedOf rule row l o = 3 ≤ count row → InDomainWithRoom row l → Demande
 -- by either rule, of every outcome that the contract allows; so of every call of the two functions
 pub record Demand3 : Type 0 where
   pub of_every_outcome : (rule : Rule) (row : List ℤ) (l : Lent) (o : Outcome) → o ≡ outcome rule row l → DemandedOf rule row l o
-  pub clean·simple·simplified : Always clean.simple.simplified.Reads.Learnt λ a x e. DemandedOf Collinear a.0.now (contour_lent a) (leaving x (contour_lent e))
-  pub clean·despike·despiked : Always clean.despike.despiked.Reads.Learnt λ a x e. DemandedOf Spike a.0.now (contour_lent a) (leaving x (contour_lent e))
+  pub clean·simple·simplified : Always clean.simple.simplified.Reads.Learnt λ a x e. DemandedOf Collinear a.0.now (contour_lent a) (leaving (cleaned_as x) (contour_lent e))
+  pub clean·despike·despiked : Always clean.despike.despiked.Reads.Learnt λ a x e. DemandedOf Spike a.0.now (contour_lent a) (leaving (cleaned_as x) (contour_lent e))

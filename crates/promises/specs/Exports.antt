@@ -11,7 +11,7 @@ use Rattle.drawing.proofs as drawing
 use Rattle.difference.proofs as difference
 use Rattle.pool.proofs as pool
 use Rattle.ukmerelt.proofs as ukmerelt
-use Rattle.promises.specs.Calls.{NeverTraps, HandsOn}
+use Rattle.promises.specs.Calls.{NeverTraps, HandsOnAs, numbers, verdicts, areas, locations, counts, packings, readings, cleanings, set_cleanings, writings, salvagings, drawings, comparisons}
 
 -- each never traps
 pub record NoExportTraps : Type 2 where
@@ -60,45 +60,45 @@ pub record NoExportTraps : Type 2 where
 
 -- each hands on
 pub record EveryExportHandsOn : Type 0 where
-  pub ukm_area_two : HandsOn ukmerelt.contours.ukm_area_two.Reads.Learnt area.area_two.Reads.Learnt
-  pub ukm_area : HandsOn ukmerelt.contours.ukm_area.Reads.Learnt area.area.Reads.Learnt
-  pub ukm_is_convex : HandsOn ukmerelt.contours.ukm_is_convex.Reads.Learnt path.is_convex.Reads.Learnt
-  pub ukm_is_clockwise : HandsOn ukmerelt.contours.ukm_is_clockwise.Reads.Learnt path.is_clockwise_ordered.Reads.Learnt
-  pub ukm_contains : HandsOn ukmerelt.contours.ukm_contains.Reads.Learnt path.contains_point.Reads.Learnt
-  pub ukm_locate : HandsOn ukmerelt.contours.ukm_locate.Reads.Learnt path.locate.Reads.Learnt
-  pub ukm_is_simple : HandsOn ukmerelt.contours.ukm_is_simple.Reads.Learnt clean.simple.is_simple.Reads.Learnt
-  pub ukm_has_no_spikes : HandsOn ukmerelt.contours.ukm_has_no_spikes.Reads.Learnt clean.despike.has_no_spikes.Reads.Learnt
-  pub ukm_simplified : HandsOn ukmerelt.contours.ukm_simplified.Reads.Learnt clean.simple.simplified.Reads.Learnt
-  pub ukm_despiked : HandsOn ukmerelt.contours.ukm_despiked.Reads.Learnt clean.despike.despiked.Reads.Learnt
-  pub ukm_set_is_simple : HandsOn ukmerelt.contour_sets.ukm_set_is_simple.Reads.Learnt sets.simple.is_simple.Reads.Learnt
-  pub ukm_set_has_no_spikes : HandsOn ukmerelt.contour_sets.ukm_set_has_no_spikes.Reads.Learnt sets.despike.has_no_spikes.Reads.Learnt
-  pub ukm_set_area_two : HandsOn ukmerelt.contour_sets.ukm_set_area_two.Reads.Learnt sets.areas.area_two.Reads.Learnt
-  pub ukm_set_area : HandsOn ukmerelt.contour_sets.ukm_set_area.Reads.Learnt sets.areas.area.Reads.Learnt
-  pub ukm_in_shape : HandsOn ukmerelt.contour_sets.ukm_in_shape.Reads.Learnt sets.in_shape.Reads.Learnt
-  pub ukm_shapes_is_simple : HandsOn ukmerelt.shape_sets.ukm_shapes_is_simple.Reads.Learnt sets.shapes.is_simple.Reads.Learnt
-  pub ukm_shapes_has_no_spikes : HandsOn ukmerelt.shape_sets.ukm_shapes_has_no_spikes.Reads.Learnt sets.shapes.has_no_spikes.Reads.Learnt
-  pub ukm_shapes_area_two : HandsOn ukmerelt.shape_sets.ukm_shapes_area_two.Reads.Learnt sets.shapes.area_two.Reads.Learnt
-  pub ukm_shapes_area : HandsOn ukmerelt.shape_sets.ukm_shapes_area.Reads.Learnt sets.shapes.area.Reads.Learnt
-  pub ukm_simplified_shape : HandsOn ukmerelt.shapes.ukm_simplified_shape.Reads.Learnt sets.simple.simplified_shape.Reads.Learnt
-  pub ukm_despiked_shape : HandsOn ukmerelt.shapes.ukm_despiked_shape.Reads.Learnt sets.despike.despiked_shape.Reads.Learnt
-  pub ukm_simplified_shapes : HandsOn ukmerelt.shapes.ukm_simplified_shapes.Reads.Learnt sets.simple.simplified_shapes.Reads.Learnt
-  pub ukm_despiked_shapes : HandsOn ukmerelt.shapes.ukm_despiked_shapes.Reads.Learnt sets.despike.despiked_shapes.Reads.Learnt
-  pub ukm_simplified_fates : HandsOn ukmerelt.telling.ukm_simplified_fates.Reads.Learnt fates.simplified.Reads.Learnt
-  pub ukm_despiked_fates : HandsOn ukmerelt.telling.ukm_despiked_fates.Reads.Learnt fates.despiked.Reads.Learnt
-  pub ukm_pack_contour : HandsOn ukmerelt.packing.ukm_pack_contour.Reads.Learnt buffer.shapes.set_with_contour.Reads.Learnt
-  pub ukm_pack_shape : HandsOn ukmerelt.packing.ukm_pack_shape.Reads.Learnt buffer.shapes.set_with_shape.Reads.Learnt
-  pub ukm_pack_shapes : HandsOn ukmerelt.packing.ukm_pack_shapes.Reads.Learnt buffer.shapes.set_with_shapes.Reads.Learnt
-  pub ukm_add_contour : HandsOn ukmerelt.packing.ukm_add_contour.Reads.Learnt buffer.contours.add_contour.Reads.Learnt
-  pub ukm_add_shape : HandsOn ukmerelt.packing.ukm_add_shape.Reads.Learnt buffer.shapes.add_shape.Reads.Learnt
-  pub ukm_read_set : HandsOn ukmerelt.files.ukm_read_set.Reads.Learnt setfile.read.Reads.Learnt
-  pub ukm_write_set : HandsOn ukmerelt.files.ukm_write_set.Reads.Learnt setfile.write.Reads.Learnt
-  pub ukm_write_set_2 : HandsOn ukmerelt.files.ukm_write_set_2.Reads.Learnt setfile.write_2.Reads.Learnt
-  pub ukm_salvage : HandsOn ukmerelt.files.ukm_salvage.Reads.Learnt salvage.mend.Reads.Learnt
-  pub ukm_import_mm : HandsOn ukmerelt.drawings.ukm_import_mm.Reads.Learnt drawing.import.Reads.Learnt
-  pub ukm_export_mm : HandsOn ukmerelt.drawings.ukm_export_mm.Reads.Learnt drawing.export.Reads.Learnt
-  pub ukm_compare_sets : HandsOn ukmerelt.comparing.ukm_compare_sets.Reads.Learnt difference.compare.Reads.Learnt
-  pub ukm_pool_add : HandsOn ukmerelt.pools.ukm_pool_add.Reads.Learnt pool.add.Reads.Learnt
-  pub ukm_pool_remove : HandsOn ukmerelt.pools.ukm_pool_remove.Reads.Learnt pool.remove.Reads.Learnt
-  pub ukm_pool_contours : HandsOn ukmerelt.pools.ukm_pool_contours.Reads.Learnt pool.contours_count.Reads.Learnt
-  pub ukm_pool_held : HandsOn ukmerelt.pools.ukm_pool_held.Reads.Learnt pool.held.Reads.Learnt
-  pub ukm_pool_free : HandsOn ukmerelt.pools.ukm_pool_free.Reads.Learnt pool.free.Reads.Learnt
+  pub ukm_area_two : HandsOnAs ukmerelt.contours.ukm_area_two.Reads.Learnt areas.told area.area_two.Reads.Learnt
+  pub ukm_area : HandsOnAs ukmerelt.contours.ukm_area.Reads.Learnt areas.told area.area.Reads.Learnt
+  pub ukm_is_convex : HandsOnAs ukmerelt.contours.ukm_is_convex.Reads.Learnt verdicts.told path.is_convex.Reads.Learnt
+  pub ukm_is_clockwise : HandsOnAs ukmerelt.contours.ukm_is_clockwise.Reads.Learnt verdicts.told path.is_clockwise_ordered.Reads.Learnt
+  pub ukm_contains : HandsOnAs ukmerelt.contours.ukm_contains.Reads.Learnt verdicts.told path.contains_point.Reads.Learnt
+  pub ukm_locate : HandsOnAs ukmerelt.contours.ukm_locate.Reads.Learnt locations.told path.locate.Reads.Learnt
+  pub ukm_is_simple : HandsOnAs ukmerelt.contours.ukm_is_simple.Reads.Learnt verdicts.told clean.simple.is_simple.Reads.Learnt
+  pub ukm_has_no_spikes : HandsOnAs ukmerelt.contours.ukm_has_no_spikes.Reads.Learnt verdicts.told clean.despike.has_no_spikes.Reads.Learnt
+  pub ukm_simplified : HandsOnAs ukmerelt.contours.ukm_simplified.Reads.Learnt cleanings.told clean.simple.simplified.Reads.Learnt
+  pub ukm_despiked : HandsOnAs ukmerelt.contours.ukm_despiked.Reads.Learnt cleanings.told clean.despike.despiked.Reads.Learnt
+  pub ukm_set_is_simple : HandsOnAs ukmerelt.contour_sets.ukm_set_is_simple.Reads.Learnt verdicts.told sets.simple.is_simple.Reads.Learnt
+  pub ukm_set_has_no_spikes : HandsOnAs ukmerelt.contour_sets.ukm_set_has_no_spikes.Reads.Learnt verdicts.told sets.despike.has_no_spikes.Reads.Learnt
+  pub ukm_set_area_two : HandsOnAs ukmerelt.contour_sets.ukm_set_area_two.Reads.Learnt areas.told sets.areas.area_two.Reads.Learnt
+  pub ukm_set_area : HandsOnAs ukmerelt.contour_sets.ukm_set_area.Reads.Learnt areas.told sets.areas.area.Reads.Learnt
+  pub ukm_in_shape : HandsOnAs ukmerelt.contour_sets.ukm_in_shape.Reads.Learnt verdicts.told sets.in_shape.Reads.Learnt
+  pub ukm_shapes_is_simple : HandsOnAs ukmerelt.shape_sets.ukm_shapes_is_simple.Reads.Learnt verdicts.told sets.shapes.is_simple.Reads.Learnt
+  pub ukm_shapes_has_no_spikes : HandsOnAs ukmerelt.shape_sets.ukm_shapes_has_no_spikes.Reads.Learnt verdicts.told sets.shapes.has_no_spikes.Reads.Learnt
+  pub ukm_shapes_area_two : HandsOnAs ukmerelt.shape_sets.ukm_shapes_area_two.Reads.Learnt areas.told sets.shapes.area_two.Reads.Learnt
+  pub ukm_shapes_area : HandsOnAs ukmerelt.shape_sets.ukm_shapes_area.Reads.Learnt areas.told sets.shapes.area.Reads.Learnt
+  pub ukm_simplified_shape : HandsOnAs ukmerelt.shapes.ukm_simplified_shape.Reads.Learnt set_cleanings.told sets.simple.simplified_shape.Reads.Learnt
+  pub ukm_despiked_shape : HandsOnAs ukmerelt.shapes.ukm_despiked_shape.Reads.Learnt set_cleanings.told sets.despike.despiked_shape.Reads.Learnt
+  pub ukm_simplified_shapes : HandsOnAs ukmerelt.shapes.ukm_simplified_shapes.Reads.Learnt set_cleanings.told sets.simple.simplified_shapes.Reads.Learnt
+  pub ukm_despiked_shapes : HandsOnAs ukmerelt.shapes.ukm_despiked_shapes.Reads.Learnt set_cleanings.told sets.despike.despiked_shapes.Reads.Learnt
+  pub ukm_simplified_fates : HandsOnAs ukmerelt.telling.ukm_simplified_fates.Reads.Learnt counts.told fates.simplified.Reads.Learnt
+  pub ukm_despiked_fates : HandsOnAs ukmerelt.telling.ukm_despiked_fates.Reads.Learnt counts.told fates.despiked.Reads.Learnt
+  pub ukm_pack_contour : HandsOnAs ukmerelt.packing.ukm_pack_contour.Reads.Learnt packings.told buffer.shapes.set_with_contour.Reads.Learnt
+  pub ukm_pack_shape : HandsOnAs ukmerelt.packing.ukm_pack_shape.Reads.Learnt packings.told buffer.shapes.set_with_shape.Reads.Learnt
+  pub ukm_pack_shapes : HandsOnAs ukmerelt.packing.ukm_pack_shapes.Reads.Learnt packings.told buffer.shapes.set_with_shapes.Reads.Learnt
+  pub ukm_add_contour : HandsOnAs ukmerelt.packing.ukm_add_contour.Reads.Learnt packings.told buffer.contours.add_contour.Reads.Learnt
+  pub ukm_add_shape : HandsOnAs ukmerelt.packing.ukm_add_shape.Reads.Learnt packings.told buffer.shapes.add_shape.Reads.Learnt
+  pub ukm_read_set : HandsOnAs ukmerelt.files.ukm_read_set.Reads.Learnt readings.told setfile.read.Reads.Learnt
+  pub ukm_write_set : HandsOnAs ukmerelt.files.ukm_write_set.Reads.Learnt writings.told setfile.write.Reads.Learnt
+  pub ukm_write_set_2 : HandsOnAs ukmerelt.files.ukm_write_set_2.Reads.Learnt writings.told setfile.write_2.Reads.Learnt
+  pub ukm_salvage : HandsOnAs ukmerelt.files.ukm_salvage.Reads.Learnt salvagings.told salvage.mend.Reads.Learnt
+  pub ukm_import_mm : HandsOnAs ukmerelt.drawings.ukm_import_mm.Reads.Learnt packings.told drawing.import.Reads.Learnt
+  pub ukm_export_mm : HandsOnAs ukmerelt.drawings.ukm_export_mm.Reads.Learnt drawings.told drawing.export.Reads.Learnt
+  pub ukm_compare_sets : HandsOnAs ukmerelt.comparing.ukm_compare_sets.Reads.Learnt (comparisons 0).told difference.compare.Reads.Learnt
+  pub ukm_pool_add : HandsOnAs ukmerelt.pools.ukm_pool_add.Reads.Learnt numbers.told pool.add.Reads.Learnt
+  pub ukm_pool_remove : HandsOnAs ukmerelt.pools.ukm_pool_remove.Reads.Learnt numbers.told pool.remove.Reads.Learnt
+  pub ukm_pool_contours : HandsOnAs ukmerelt.pools.ukm_pool_contours.Reads.Learnt counts.told pool.contours_count.Reads.Learnt
+  pub ukm_pool_held : HandsOnAs ukmerelt.pools.ukm_pool_held.Reads.Learnt counts.told pool.held.Reads.Learnt
+  pub ukm_pool_free : HandsOnAs ukmerelt.pools.ukm_pool_free.Reads.Learnt counts.told pool.free.Reads.Learnt

@@ -8,28 +8,20 @@
 mod answering;
 mod list;
 
-use cases::floats::FLOATS;
-use cases::marks::MARKS;
-use cases::numbers::NUMBERS;
-use cases::records::RECORDS;
-use cases::source::{BUFFER, LINE};
+use cases::given::{BYTES, FLOATS, NUMBERS, RECORDS, Rows};
+use cases::source;
+use cases::source::LINE;
 use std::io;
 
 fn main(rt: HostRuntime) -> io::Result<()> {
-    let mut bytes = [0u8; BUFFER];
+    let mut source = source::begin(rt.stdin());
     let mut line = [0u8; LINE];
-    let mut row = [0i32; NUMBERS];
-    let mut given = [[0usize; 2]; RECORDS];
-    let mut file = [0u8; MARKS];
-    let mut floats = [0.0f64; FLOATS];
+    let mut rows = Rows {
+        numbers: [0; NUMBERS],
+        records: [[0; 2]; RECORDS],
+        bytes: [0; BYTES],
+        floats: [0.0; FLOATS],
+    };
     rt.stdout().write_all(b"case answers\n")?;
-    list::replay(
-        &rt,
-        &mut bytes,
-        &mut line,
-        &mut row,
-        &mut given,
-        &mut file,
-        &mut floats,
-    )
+    list::replay(&rt, &mut source, &mut line, &mut rows)
 }

@@ -1,3 +1,4 @@
 pub mod LadderLaws
 pub mod VerdictLaws
 pub mod OneOutcome
+pub mod RefusalLaws

@@ -1,15 +1,10 @@
 -- A verdict, refused or given.
 use mathlib.Core.Path.{◌≡◌, refl}
-use mathlib.Core.Bool.{Bool, false, ◌&&◌}
+use mathlib.Core.Bool.{Bool, false}
 use mathlib.Core.List.{List}
 use Prim.Native.Nat.{ℕ, zero, suc}
-use lib.Dec.{eqb, eqb-suc-zero}
 use Rattle.replies.specs.Ladder.{Rung, first_of}
 use Rattle.replies.specs.Verdicts.{verdict}
-
-pub verdict_is : (r : ℕ) (b : Bool) → record { reply = r; yes = eqb r 0 && b } ≡ verdict r b
-verdict_is zero b = refl
-verdict_is (suc r) b = rw (eqb-suc-zero r)
 
 verdict_no : (k : ℕ) (b : Bool) → (k ≡ 0 → ⊥) → record { reply = k; yes = false } ≡ verdict k b
 verdict_no zero b n = absurd (n refl)

@@ -1,4 +1,4 @@
-// The reply numbers. A call answers with the first whose condition holds, in the order 1, 2, 6, 3, 12, 4, 5, 8, 7; an import in the order 13, 14, 3, 2, 5, the first three by its first faulty command; an addition to a pool in the order 1, 2, 6, 3, 17, 5.
+// Refusals, and the reply numbers that C gets of them. A call answers with the first whose condition holds, in the order 1, 2, 6, 3, 12, 4, 5, 8, 7; an import in the order 13, 14, 3, 2, 5, the first three by its first faulty command; an addition to a pool in the order 1, 2, 6, 3, 17, 5.
 //
 // | No. | Given exactly when | Leaves |
 // |---|---|---|
@@ -23,51 +23,16 @@
 // | 18 | removing with none left | all unchanged |
 #![tactic(auto)]
 
-ghost use Rattle.std.specs.Prelude.{◌≡◌, ◌++◌};
-ghost use Rattle.replies.specs.Ladder.{first_of, so_far, room as room_for};
-ghost use Rattle.replies.specs.Verdicts.{verdict as verdict_of};
+ghost use Rattle.std.specs.Prelude.{◌≡◌};
 
-pub const DONE: u32 = 0;
+mod refusal;
 
-pub const ODD: u32 = 1;
+pub use refusal::{Refusal, told};
 
-pub const TOO_MANY: u32 = 2;
-
-pub const OFF_GRID: u32 = 3;
-
-pub const SCRATCH: u32 = 4;
-
-pub const ROOM: u32 = 5;
-
-pub const RANGES: u32 = 6;
-
+// The reply of a cleaning that collapsed, which is no refusal.
 pub const COLLAPSED: u32 = 7;
 
-pub const EMPTY: u32 = 8;
-
-pub const EDITION: u32 = 9;
-
-pub const LENGTH: u32 = 10;
-
-pub const NO_SHAPE: u32 = 11;
-
-pub const CANT_CARRY: u32 = 12;
-
-pub const NO_DRAWING: u32 = 13;
-
-pub const NOT_FINITE: u32 = 14;
-
-pub const WIDTH: u32 = 15;
-
-pub const FILL: u32 = 16;
-
-pub const FULL: u32 = 17;
-
-pub const NONE_LEFT: u32 = 18;
-
-pub const FIGURES_FULL: u32 = 21;
-
-// The answer to a question of yes or no: its reply number, and no where it is refused.
+// The answer to a question of yes or no, as C has it: its reply number, and no where it is refused.
 #[repr(C)]
 #[derive(Clone, Copy)]
 pub struct Verdict {
@@ -75,25 +40,18 @@ pub struct Verdict {
     pub yes: bool,
 }
 
-// No where it is refused, or the answer.
-pub fn answered(refusal: u32, yes: bool) -> Verdict
-    ensures { result ≡ verdict_of refusal yes }
-{
-    Verdict {
-        reply: refusal,
-        yes: (refusal == 0) & yes,
-    }
-}
+impl From<Result<bool, Refusal>> for Verdict {
+    ghost use Rattle.replies.specs.Verdicts.{answered};
 
-// A refusal so far, or 5 where there is no room.
-pub fn or_room(refusal: u32, room: bool) -> u32
-    ensures { result ≡ first_of (so_far refusal ++ room_for room) }
-{
-    if refusal != 0 {
-        return refusal;
+    ghost from_gives = { λ answer verdict. verdict ≡ answered answer };
+
+    fn from(answer: Result<bool, Refusal>) -> Verdict {
+        match answer {
+            Ok(yes) => Verdict { reply: 0, yes },
+            Err(refusal) => Verdict {
+                reply: refusal.number(),
+                yes: false,
+            },
+        }
     }
-    if !room {
-        return ROOM;
-    }
-    DONE
 }

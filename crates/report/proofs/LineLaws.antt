@@ -1,11 +1,15 @@
 -- The line of a contour, by what was answered of it.
-use mathlib.Core.Path.{◌≡◌, refl, sym, ◌∙◌}
+use mathlib.Core.Path.{◌≡◌, refl, sym, ◌∙◌, ap}
 use mathlib.Core.List.{List, [], ◌∷◌, ◌++◌, append_assoc, append-nil}
-use Prim.Native.Nat.{ℕ, ◌≤◌}
+use Prim.Native.Nat.{ℕ, ◌+◌, ◌≤◌}
+use Rattle.std.specs.Prelude.{Option, Some, None}
 use lib.ListN.{length, take}
 use lib.Seq.{length-take-le}
 use borrow.Author.Tests.{eq-eqb, ne_eqb}
 use lib.IntN.{ℤ}
+use mir.Syntax.{w64}
+use mir.Val.{SFits, to_z, of_z}
+use mir.Facts.{to_z-of_z}
 use Rattle.grid.specs.Points.{points}
 use Rattle.grid.specs.Area.{reported}
 use Rattle.replies.specs.Ladder.{first_of}
@@ -17,21 +21,24 @@ use Rattle.ring.specs.Walk.End.{kept, collapsed}
 use Rattle.area.specs.Answers.{refusals}
 use Rattle.area.proofs.AnswerLaws.{refused_none}
 use Rattle.clean.specs.declared.cleaning.Cleaned.{Cleaned}
-use Rattle.clean.specs.Outcome.{Lent, lent, walked, finished}
+use Rattle.clean.specs.declared.cleaning.Cleaning.{Cleaning}
+use Rattle.clean.specs.Outcome.{ended_with, as_cleaned, Lent, lent, walked, finished}
 use Rattle.clean.specs.inside.Settling.{alone}
 use Rattle.buffer.specs.Sets.{joined}
 use Rattle.report.specs.Text.{decimal, signed, dash, space, line_end}
 use Rattle.report.specs.Listing.{after, area2, line}
 use Rattle.report.specs.inside.Lines.{Cleanable, cell, kept_text, figures}
+use Rattle.report.proofs.PutLaws.{Going, going_none}
 
-module _ (r : Cleaned) where
-  pub kept_count : r.reply ≡ 0 → kept_text r ≡ decimal r.points
+-- how many points are kept, as text
+module _ {o : Option ℕ} (d t : ℕ) where
+  pub kept_count : {n : ℕ} → o ≡ Some n → kept_text (ended_with o d t) ≡ decimal n
   unfolding kept_text
-  kept_count e = rw (eq-eqb r.reply 0 e, kept_text)
+  kept_count e = rw e refl
 
-  pub kept_none : (r.reply ≡ 0 → ⊥) → kept_text r ≡ dash
+  pub kept_none : o ≡ None → kept_text (ended_with o d t) ≡ dash
   unfolding kept_text
-  kept_none n = rw (ne_eqb r.reply 0 n, kept_text)
+  kept_none e = rw e refl
 
 -- the area of a contour as text
 module _ (c : List ℤ) where
@@ -42,17 +49,30 @@ module _ (c : List ℤ) where
     pub area_signed : area2 c ≡ signed (reported (points c))
     area_signed = rw (ne_eqb (count c) 0 n, area2)
 
+    -- the words that are put, where the area was told
+    pub area_put : (r : ℤ) → SFits w64 r → r ≡ reported (points c) → area2 c ++ line_end ≡ signed (to_z w64 (of_z w64 r)) ++ line_end
+    area_put r f e = ap (λ (w : List ℕ). w ++ line_end) (area_signed ∙ ap signed (sym (to_z-of_z f ∙ e)))
+
     -- it is not refused
     pub area_clear : Contour c (count c) → first_of (refusals c) ≡ 0
     area_clear x = sym (refused_none c (contour_clear c x) n)
 
 -- the words of a line
-abbrev pub figure_words : ℕ → List ℤ → Cleaned → List (List ℕ)
-figure_words k c r = cell k ∷ cell (count c) ∷ (kept_text r ++ space) ∷ cell r.decisions ∷ (area2 c ++ line_end) ∷ []
+abbrev pub figure_words : ℕ → List ℤ → Cleaning → List (List ℕ)
+figure_words k c r = cell k ∷ cell (count c) ∷ (kept_text (as_cleaned r) ++ space) ∷ cell r.decisions ∷ (area2 c ++ line_end) ∷ []
 
-pub figures_joined : (k : ℕ) (c : List ℤ) (r : Cleaned) → figures k c r ≡ joined (figure_words k c r)
+-- it decided as often, whether points are kept or not
+ended_decisions : (o : Option ℕ) (d t : ℕ) → (ended_with o d t).decisions ≡ d
+ended_decisions (Some n) d t = refl
+ended_decisions None d t = refl
+
+-- all are to be put
+pub figures_begun : (at k : ℕ) (c : List ℤ) (r : Cleaning) (text : List ℕ) → at + length (figures k c (as_cleaned r)) ≤ length text
+    → Going at (figures k c (as_cleaned r)) text at text (figure_words k c r)
 unfolding figures
-figures_joined k c r = refl
+figures_begun at k c r text h =
+    going_none at text (figure_words k c r)
+    (ap (λ (d : ℕ). joined (cell k ∷ cell (count c) ∷ (kept_text (as_cleaned r) ++ space) ∷ cell d ∷ (area2 c ++ line_end) ∷ [])) (ended_decisions r.kept r.decisions r.turns)) h
 
 -- what the end of a walk answers, as text
 finished_text : (c : List ℤ) (e : End) (t : Tally) (l : Lent) → kept_text (finished c e t l).answer ≡ after e

@@ -33,8 +33,8 @@ module _ (s : Bool) (f : List ℕ) (at : ℕ) (h : Header) (e : h ≡ header_in 
   contour_long = omega (arith, front_length s (from_bit f at), ap (λ (h : Header). h.count) e)
 
   -- it is what was written in front of a row
-  pub contour_read : (row : List ℤ) → take (2 * h.count) (placed 0 (contour_at s f at) row) ≡ contour_at s f at
-  contour_read row = ap (take (2 * h.count)) (placed_front row (contour_at s f at)) ∙ take_at (contour_at s f at) _ (2 * h.count) contour_long
+  pub contour_read : (row : List ℤ) {out : List ℤ} → out ≡ placed 0 (contour_at s f at) row → take (2 * h.count) out ≡ contour_at s f at
+  contour_read row p = ap (take (2 * h.count)) (p ∙ placed_front row (contour_at s f at)) ∙ take_at (contour_at s f at) _ (2 * h.count) contour_long
 
 -- behind i of a file's n contours, from bit at on, the lines of the rest are due
 pub record Lining (s : Bool) (f : List ℕ) (n from : ℕ) (text₀ : List ℕ) (behind : ℕ) (text : List ℕ) (i at : ℕ) : Type 0 where
@@ -84,6 +84,9 @@ module _ {s : Bool} {f : List ℕ} {n from : ℕ} {text₀ : List ℕ} {behind :
 
     pub lining_few : length (contour_at s f at) ≤ 2 * most_listed
     lining_few = omega (arith, all_few)
+
+    pub lining_roomy : (head : Header) → head ≡ header_in s (from_bit f at) → (points : List ℤ) → 2 * most_listed ≤ length points → 2 * head.count ≤ length points
+    lining_roomy head e points r = omega (arith, lining_few, contour_long s f at head e)
 
     pub lining_cleanable : (next prev mark : List ℕ) → most_listed ≤ length next → most_listed ≤ length prev → most_listed ≤ length mark
         → Cleanable (contour_at s f at) next prev mark

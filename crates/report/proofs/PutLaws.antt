@@ -49,10 +49,14 @@ pub two_words : (a b : List ℕ) → a ++ b ≡ joined (a ∷ b ∷ [])
 unfolding joined
 two_words a b = simp append-nil
 
+-- two words that are to be put
+pub going_two : (at : ℕ) (text a b : List ℕ) → at + length (a ++ b) ≤ length text → Going at (a ++ b) text at text (a ∷ b ∷ [])
+going_two at text a b h = going_none at text (a ∷ b ∷ []) (two_words a b) h
+
 -- a word that is put, and another behind it
 module _ {at : ℕ} {text a : List ℕ} {r : ℕ} {t : List ℕ} (p : Put at a text r t) (b : List ℕ) (h : at + length (a ++ b) ≤ length text) where
   one_put : Going at (a ++ b) text r t (b ∷ [])
-  one_put = going_more (going_none at text (a ∷ b ∷ []) (two_words a b) h) p
+  one_put = going_more (going_two at text a b h) p
 
   pub room_behind : r + length b ≤ length t
   room_behind = going_room one_put
@@ -63,6 +67,10 @@ module _ {at : ℕ} {text a : List ℕ} {r : ℕ} {t : List ℕ} (p : Put at a t
 pub three_words : (a b c : List ℕ) → a ++ b ++ c ≡ joined (a ∷ b ∷ c ∷ [])
 unfolding joined
 three_words a b c = simp (append_assoc, append-nil)
+
+-- three words that are to be put
+pub going_three : (at : ℕ) (text a b c : List ℕ) → at + length (a ++ b ++ c) ≤ length text → Going at (a ++ b ++ c) text at text (a ∷ b ∷ c ∷ [])
+going_three at text a b c h = going_none at text (a ∷ b ∷ c ∷ []) (three_words a b c) h
 
 -- a word that is put in front
 pub put_front : {word text : List ℕ} {r : ℕ} {exit : List ℕ} → Put 0 word text r exit → (r ≡ length word) × (exit ≡ front word text)

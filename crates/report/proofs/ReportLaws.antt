@@ -2,27 +2,29 @@
 use mathlib.Core.Path.{◌≡◌, refl, sym, ◌∙◌, ap}
 use mathlib.Core.Bool.{Bool, true, false, not}
 use mathlib.Core.List.{List, [], ◌∷◌, ◌++◌}
-use Prim.Native.Nat.{ℕ, zero, suc, ◌+◌, ◌*◌, ◌≤◌}
+use Prim.Native.Nat.{ℕ, zero, suc, ◌+◌, ◌*◌, ◌≤◌, ◌<◌}
 use native.Mathlib.Omega.{arith}
 use lib.Dec.{eqb-suc-zero, leb}
 use lib.ListN.{length, length-append, length-map}
 use lib.Seq.{take-append_seam, drop-append_seam}
 use lib.IntN.{ℤ}
-use borrow.Author.Tests.{leb-true, not-false}
+use borrow.Author.Tests.{leb-true, le-leb, lt-leb, not-false}
 use Rattle.grid.specs.Limits.{limit, most, all_on_grid}
 use Rattle.grid.specs.Domain.{count}
+use Rattle.replies.specs.declared.refusal.Refusal.{Refusal}
 use Rattle.replies.specs.Ladder.{first_of, so_far, room}
-use Rattle.replies.proofs.LadderLaws.{Clear, clear, first_is, stopped, past_clear, front_clear, clear_of}
-use Rattle.replies.proofs.LadderLaws.First.{here, past}
+use Rattle.replies.specs.Refusals.{number}
+use Rattle.replies.proofs.RefusalLaws.{refusals_have_numbers}
+use Rattle.replies.proofs.LadderLaws.{Clear, clear, first_is, past_clear, front_clear}
+use Rattle.replies.proofs.LadderLaws.First.{here, past, foot}
 use Rattle.grid.proofs.LimitLaws.{narrow_within, all_on_wider, on_taken, on_dropped}
 use Rattle.buffer.specs.Sets.{joined, Even}
 use Rattle.buffer.proofs.Theorems.{points_total}
-use Rattle.setfile.specs.declared.inner.judging.Judged.{Judged}
 use Rattle.setfile.specs.Entries.{Entry, damage, read_contours}
 use Rattle.setfile.specs.Layouts.{promised}
 use Rattle.setfile.specs.Editions.{bound, is_second, parsed}
 use Rattle.setfile.specs.Reading.{refusals}
-use Rattle.setfile.specs.inside.Reading.{Judgement}
+use Rattle.setfile.specs.inside.Reading.{Judged, Judgement}
 use Rattle.setfile.proofs.SizeLaws.{promised_few}
 use Rattle.report.specs.Text.{decimal, line_end, heading, refused}
 use Rattle.report.specs.Listing.{lines, rule_of, most_listed, job, listing_refusals, listing}
@@ -76,26 +78,30 @@ accepted f e =
     let on : all_on_grid limit (joined (job f)) ≡ true = all_on_wider (bound (is_second f)) limit _ (bound_within (is_second f)) (not-false _ c.1.1.0) in
     record { few = few; on = on; sound = all_contours (job f) even on few }
 
--- the listing, by the first refusal
-listing_refused : (f : List ℕ) (k : ℕ) → k ≡ first_of (listing_refusals f) → (k ≡ 0 → ⊥) → listing f ≡ refused ++ decimal k ++ line_end
+-- the listing, by the number of the first refusal
+refused_by : (f : List ℕ) (k : ℕ) → k ≡ first_of (listing_refusals f) → (k ≡ 0 → ⊥) → listing f ≡ refused ++ decimal k ++ line_end
 unfolding listing
-listing_refused f zero e n = absurd (n refl)
-listing_refused f (suc k) e n = rw (sym e, listing)
+refused_by f zero e n = absurd (n refl)
+refused_by f (suc k) e n = rw (sym e, listing)
 
-listing_done : (f : List ℕ) → first_of (listing_refusals f) ≡ 0 → listing f ≡ heading ++ lines (rule_of (is_second f)) 1 (job f)
+-- the listing, by the first refusal
+pub listing_refused : (f : List ℕ) (r : Refusal) → number r ≡ first_of (listing_refusals f) → listing f ≡ refused ++ decimal (number r) ++ line_end
+listing_refused f r e = refused_by f (number r) e (refusals_have_numbers r)
+
+pub listing_done : {s : Bool} (f : List ℕ) → s ≡ is_second f → 0 ≡ first_of (listing_refusals f) → listing f ≡ heading ++ lines (rule_of s) 1 (job f)
 unfolding listing
-listing_done f e = rw (e, listing)
+listing_done f own e = rw (← e, own, listing)
 
 -- it has at most 45 characters for each contour that the file promises
 pub listing_promised : (f : List ℕ) → length (listing f) ≤ 37 + 45 * promised f
 listing_promised f = go (first_of (listing_refusals f)) refl
   where
     go : (k : ℕ) → first_of (listing_refusals f) ≡ k → length (listing f) ≤ 37 + 45 * promised f
-    go (suc k) e = rw (listing_refused f (suc k) (sym e) (λ z. omega arith)) (simp length-append (omega (arith, decimal_short (suc k))))
+    go (suc k) e = rw (refused_by f (suc k) (sym e) (λ z. omega arith)) (simp length-append (omega (arith, decimal_short (suc k))))
     go zero e =
         let n : length (job f) ≤ promised f = omega (arith, (job_sized f).few, length-map (read_contours (parsed f)) (λ (e : Entry). e.points)) in
         let h = lines-length (rule_of (is_second f)) 1 (job f) (accepted f e).sound (omega (arith, promised_few f)) in
-        rw (listing_done f e) (simp length-append (omega arith))
+        rw (listing_done f refl (sym e)) (simp length-append (omega arith))
 
 pub listing-length : (f : List ℕ) → length (listing f) ≤ 184312
 listing-length f = omega (arith, listing_promised f, promised_few f)
@@ -104,37 +110,20 @@ listing-length f = omega (arith, listing_promised f, promised_few f)
 pub listing_by_count : (f : List ℕ) (n : ℕ) → n ≡ promised f → (length (listing f) ≤ 37 + 45 * n) × (n ≤ 4095)
 listing_by_count f n e = (omega (arith, listing_promised f), omega (arith, promised_few f))
 
--- a file that was judged, and r what is refused of it and of the room
-pub record Told (s : Bool) (f : List ℕ) (j : Judged) (r : ℕ) : Type 0 where
-  pub own : s ≡ is_second f
-  pub judgement : Judgement s f j
-  pub with_room : r ≡ first_of (so_far j.reply ++ room (leb j.points most_listed))
+-- a file that was judged, and that the reader takes
+module _ {s : Bool} {f : List ℕ} {j : Judged} (file : Judgement s f j) (taken : j.reply ≡ 0) where
+  by_room : first_of (room (leb j.points most_listed)) ≡ first_of (listing_refusals f)
+  by_room =
+      let n : j.points ≡ count (joined (job f)) = omega (arith, (file.counts taken).points) in
+      ap (λ (k : ℕ). first_of (room (leb k most_listed))) n ∙ sym (past_clear (refusals f) _ (clear_reading f (sym file.reply ∙ taken)))
 
-module _ {s : Bool} {f : List ℕ} {j : Judged} {r : ℕ} (file : Told s f j r) where
-  pub refusal_is : r ≡ first_of (listing_refusals f)
-  refusal_is = go j.reply refl file.with_room
-    where
-      go : (k : ℕ) → j.reply ≡ k → r ≡ first_of (so_far k ++ room (leb j.points most_listed)) → r ≡ first_of (listing_refusals f)
-      go (suc k) g e =
-          e ∙ sym (first_is (so_far (suc k) ++ room (leb j.points most_listed)) (suc k) (here (ap not (eqb-suc-zero k))))
-          ∙ first_is (listing_refusals f) (suc k) (stopped (refusals f) _ (suc k) (sym g ∙ file.judgement.reply) (λ z. omega arith))
-      go zero g e =
-          let n : j.points ≡ count (joined (job f)) = omega (arith, (file.judgement.counts g).points) in
-          e ∙ past_clear (so_far 0) (room (leb j.points most_listed)) (refl, tt) ∙ ap (λ (k : ℕ). first_of (room (leb k most_listed))) n
-          ∙ sym (past_clear (refusals f) _ (clear_reading f (sym file.judgement.reply ∙ g)))
+  pub too_many : most_listed < j.points → 5 ≡ first_of (listing_refusals f)
+  too_many h = first_is (room (leb j.points most_listed)) 5 (here (ap not (lt-leb _ _ h))) ∙ by_room
 
-  pub told_refused : (r ≡ 0 → ⊥) → listing f ≡ refused ++ decimal r ++ line_end
-  told_refused n = listing_refused f r refusal_is n
+  pub few_enough : j.points ≤ most_listed → 0 ≡ first_of (listing_refusals f)
+  few_enough h = first_is (room (leb j.points most_listed)) 0 (past (ap not (le-leb _ _ h)) foot) ∙ by_room
 
-  module _ (z : r ≡ 0) where
-    pub told_listed : listing f ≡ heading ++ lines (rule_of s) 1 (job f)
-    told_listed = listing_done f (sym refusal_is ∙ z) ∙ ap (λ (s : Bool). heading ++ lines (rule_of s) 1 (job f)) (sym file.own)
-
-    pub told_listable : Listable s f j.contours
-    told_listable =
-        let a = accepted f (sym refusal_is ∙ z) in
-        record {
-          readable = (file.judgement.counts (clear_of j.reply (leb j.points most_listed) (sym file.with_room ∙ z)).0).readable;
-          few = a.few;
-          sound = a.sound;
-        }
+  pub listable : j.points ≤ most_listed → Listable s f j.contours
+  listable h =
+      let a = accepted f (sym (few_enough h)) in
+      record { readable = (file.counts taken).readable; few = a.few; sound = a.sound }

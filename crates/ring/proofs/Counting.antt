@@ -12,7 +12,8 @@ use lib.Dec.{eqb}
 use borrow.Author.Tests.{eq-eqb, ne_eqb}
 use Rattle.ring.specs.Walk.{marked, removed, occurrences}
 use Rattle.ring.proofs.Branches.{same?}
-use Rattle.ring.proofs.Marks.{one, count-cons}
+use Rattle.ring.proofs.Marks.{count-cons}
+use Rattle.std.specs.Int.{from_bool as one}
 
 -- so many were found below position i
 pub record Found (x : ℕ) (m : List ℕ) (found i : ℕ) : Type 0 where
@@ -27,10 +28,6 @@ module _ (x : ℕ) (m : List ℕ) where
   module _ {found i : ℕ} (f : Found x m found i) where
     step : (h : i < length m) (b : Bool) → eqb (get_or m i 0) x ≡ b → occurrences x (drop i m) ≡ one b + occurrences x (drop (i + 1) m)
     step h b e = rw (drop-cons m i 0 h, add-one i) (count-cons x (get_or m i 0) _ ∙ rw e)
-
-    -- one that has the mark is not among those found yet
-    pub found_less : i < length m → get_or m i 0 ≡ x → found < occurrences x m
-    found_less h e = omega (arith, f.is, step h _ (eq-eqb _ _ e))
 
     pub found_one : i < length m → get_or m i 0 ≡ x → Found x m (found + 1) (i + 1)
     found_one h e = record { few = omega (arith, f.few); within = omega arith; is = omega (arith, f.is, step h _ (eq-eqb _ _ e)) }

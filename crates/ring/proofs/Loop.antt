@@ -1,14 +1,13 @@
 -- What a turn of the walk's loop does, for the code that has a rule. The loop stops at the first marked position, where nothing goes any more.
 use Prim.Native.Nat.{ℕ, suc, ◌+◌, ◌-◌, ◌*◌, ◌^◌, ◌<◌, ◌≤◌}
 use native.Mathlib.Omega.{arith}
-use mathlib.Core.Path.{◌≡◌, sym, ap, ap₂, ◌∙◌, subst}
+use mathlib.Core.Path.{◌≡◌, sym, ap, ap₂, ◌∙◌}
 use mathlib.Core.List.{List}
 use mathlib.Core.Bool.{Bool, true, false, true≢false}
 use lib.ListN.{length, get_or, set}
 use Rattle.ring.specs.Walk.{unmarked, marked, removed, mark_at, Survivor, survivors, successor, predecessor, occurrences, tally, ending, to_go}
 use Rattle.ring.specs.Walk.End.{kept, collapsed}
 use Rattle.ring.specs.Promises.{idle_round}
-use Rattle.ring.specs.declared.Ending.{Ending}
 use Rattle.ring.specs.inside.Rows.{Linked, AllLinked, first_marked, FirstStand, Begun, Removable, Removed, Ended}
 use Rattle.rows.proofs.RowLaws.{any_default}
 use Rattle.ring.proofs.Marks.{first_unmarked}
@@ -71,6 +70,13 @@ module _ (goes : ℕ → ℕ → ℕ → Bool) (n : ℕ) where
             fewer = omega (arith, x.remaining_is, survivor_count 0 mark);
             paid = omega (arith, y.paid, x.remaining_is, x.total_is);
           }
+
+      -- The mark that is read is the walk's, and the rule speaks of the neighbours that are read.
+      pub due_here : get_or mark p 0 ≡ unmarked → mark_at mark p ≡ unmarked
+      due_here e = sym known.read ∙ e
+
+      pub said : {before after : ℕ} {r : Bool} → before ≡ get_or prev p 0 → after ≡ get_or next p 0 → r ≡ goes before p after → to_go goes mark p ≡ r
+      said b a e = sym (rw (b ∙ known.at.prev_is, a ∙ known.at.next_is) at e)
 
       -- At a marked position all that survives is kept, what isn't marked is decided once, and the last round ends there.
       pub turn_ends : mark_at mark p ≡ marked → n * 5 < 2 ^ 64 → Ended goes n mark prev (record { kept = true; decisions = total; at = p })
@@ -143,7 +149,3 @@ begun_first {n = n} {k = k} x h f e = record {
   marks = e;
   linked = rw e (linked_same (first_same n k (omega arith)) (rw x.marks at x.linked));
 }
-
--- The ring is as long as it was.
-pub ended_long : {goes : ℕ → ℕ → ℕ → Bool} {n k : ℕ} {mark prev : List ℕ} {e : Ending} → n ≡ k → Ended goes n mark prev e → Ended goes k mark prev e
-ended_long {goes = goes} {mark = mark} {prev = prev} {e = e} h x = subst (λ (i : ℕ). Ended goes i mark prev e) h x

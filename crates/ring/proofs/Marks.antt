@@ -9,6 +9,9 @@ use mathlib.Core.Bool.{Bool, true, false}
 use lib.ListN.{length, set, replicate, length-replicate, get_or-replicate, replicate-append-replicate}
 use lib.Seq.{set_at, get_or_at}
 use lib.Dec.{eqb}
+use Rattle.std.specs.Int.{from_bool as one}
+use Rattle.std.specs.List.{sum_by}
+use Rattle.std.proofs.lemmas.List.Sums.{sum_by-cons}
 use borrow.Author.Tests.{eqb-true, eq-eqb, ne_eqb}
 use Rattle.ring.specs.Walk.{unmarked, marked, removed, mark_at, Survivor, occurrences, unmark, fresh}
 use Rattle.ring.specs.inside.Rows.{first_marked}
@@ -20,10 +23,6 @@ inside [] p h = omega arith
 inside (y ∷ m) zero h = omega arith
 inside (y ∷ m) (suc p) h = omega (arith, inside m p h)
 
-abbrev pub one : Bool → ℕ
-one true = 1
-one false = 0
-
 pub count-cons : (x y : ℕ) (m : List ℕ) → occurrences x (y ∷ m) ≡ one (eqb y x) + occurrences x m
 unfolding occurrences
 count-cons x y m = go (eqb y x)
@@ -31,6 +30,12 @@ count-cons x y m = go (eqb y x)
     go : (b : Bool) → elim b as (λ _. ℕ) [ true ↦ suc (occurrences x m) | false ↦ occurrences x m ] ≡ one b + occurrences x m
     go true = omega arith
     go false = omega arith
+
+-- the count as a sum of ones
+pub count-sum : (x : ℕ) (m : List ℕ) → sum_by (λ y. one (eqb y x)) m ≡ occurrences x m
+unfolding occurrences
+count-sum x [] = refl
+count-sum x (y ∷ m) = sum_by-cons (λ y. one (eqb y x)) y m ∙ ap (λ n. one (eqb y x) + n) (count-sum x m) ∙ sym (count-cons x y m)
 
 count_set : (x : ℕ) (m : List ℕ) (p w : ℕ) → p < length m → occurrences x (set m p w) + one (eqb (mark_at m p) x) ≡ occurrences x m + one (eqb w x)
 count_set x [] p w h = omega arith

@@ -174,8 +174,5 @@ module _ {m prev : List ℕ} {e : Ending} (x : Halted m prev e) where
   pub all_decided : occurrences unmarked m ≡ 0 → e.decisions ≡ turns_of e m
   all_decided z = omega (arith, round_done m e.at z)
 
-  pub halted_idling : {remaining : ℕ} → remaining ≡ length (survivors m) → (occurrences unmarked m ≡ 0 → ⊥) → Idling m prev e.at remaining
-  halted_idling is some = record { prev_long = x.prev_long; to_predecessor = x.to_predecessor; met = x.met; some = some; remaining_is = is }
-
   pub turns_fit : e.decisions + idle_round m e.at < 2 ^ 64
   turns_fit = omega (arith, x.small, round_short m e.at (omega (arith, x.met)), rising_few 0 (length m) (survivors m) (survivors_rise 0 (length m) m (omega arith)))

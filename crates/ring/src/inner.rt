@@ -36,15 +36,12 @@ pub fn link(next: &mut [u32], prev: &mut [u32], mark: &mut [u8])
         mark.new next.new prev.new }
 {
     let n = mark.len();
-    mark[0] = 0;
-    prev[0] = narrow(n - 1);
-    let mut i: usize = 1;
-    while i < n {
-        mark[i] = 0;
+    mark.fill(0);
+    for i in 1..n {
         prev[i] = narrow(i - 1);
         next[i - 1] = narrow(i);
-        i += 1;
     }
+    prev[0] = narrow(n - 1);
     next[n - 1] = 0;
 }
 
@@ -53,11 +50,7 @@ fn mark_first(mark: &mut [u8], k: usize)
     requires { (mark.old ≡ fresh (length mark.old)) × (k ≤ length mark.old) }
     ensures { mark.new ≡ first_marked (length mark.old) k }
 {
-    let mut i: usize = 0;
-    while i < k {
-        mark[i] = 1;
-        i += 1;
-    }
+    mark[..k].fill(1);
 }
 
 // Takes the mark off a survivor p, and says how many marks that was: its mark is 0 or 1.
@@ -67,7 +60,7 @@ fn unmark(mark: &mut [u8], p: usize) -> usize
 {
     let was = mark[p];
     mark[p] = 0;
-    was as usize
+    usize::from(was)
 }
 
 // Takes the marks off p and its neighbours, and says how many marks that was.
@@ -156,14 +149,12 @@ pub fn standing_by(collinear: bool, points: &[i32], n: usize) -> usize
     let last = n - 1;
     let closing = grid::inner::edge_at(points, last, 0);
     let mut to = closing;
-    let mut i: usize = 0;
-    while i < last {
+    for i in 0..last {
         let from = grid::inner::edge_at(points, i, i + 1);
         if goes_along(collinear, to, from) {
             return i;
         }
         to = from;
-        i += 1;
     }
     if goes_along(collinear, to, closing) {
         return last;
@@ -190,17 +181,8 @@ pub fn unmarked(mark: &[u8]) -> usize
     requires { occurrences due_mark mark.now < 2 ^ 16 }
     ensures { result ≡ occurrences due_mark mark.now }
 {
-    let mut found: u16 = 0;
-    let mut i: usize = 0;
-    while i < mark.len() {
-        if mark[i] == 0 {
-            found += 1;
-            i += 1;
-        } else {
-            i += 1;
-        }
-    }
-    found as usize
+    let found: u16 = mark.iter().map(|m| u16::from(*m == 0)).sum();
+    usize::from(found)
 }
 
 // How many positions a round from a marked one has up to its last unmarked one: all that remain, but for the marked ones

@@ -9,9 +9,13 @@ use lib.ListN.{length, take, drop, length-append}
 use lib.Seq.{drop_at, length-take-le}
 use borrow.Author.Tests.{leb-true, leb-false, lt-ltb, le-ltb, not-false}
 use Rattle.integers.proofs.Logic.{and_left, and_right}
+use Rattle.std.specs.Prelude.{Err}
+use Rattle.replies.specs.declared.refusal.Refusal.{Refusal}
 use Rattle.replies.specs.Ladder.{first_of, room}
+use Rattle.replies.specs.Refusals.{number}
+use Rattle.replies.proofs.RefusalLaws.{refusals_have_numbers}
 use Rattle.rows.specs.Rows.{front, placed}
-use Rattle.replies.proofs.LadderLaws.{First, first_is, cleared, clear, stopped, onward}
+use Rattle.replies.proofs.LadderLaws.{First, first_is, cleared, clear, onward}
 use Rattle.replies.proofs.LadderLaws.First.{here, past, foot}
 use Rattle.rows.proofs.RowLaws.{placed_front}
 use Rattle.rows.proofs.PlacedLaws.{placed_long}
@@ -26,7 +30,7 @@ use Rattle.setfile.specs.inside.Writing.{Put, Room}
 use Rattle.setfile.proofs.FaultLaws.{head_long}
 use Rattle.setfile.proofs.ByteLaws.{come_by_bytes}
 use Rattle.salvage.specs.declared.answer.Salvaged.{Salvaged}
-use Rattle.salvage.specs.Outcome.{Outcome, leaving, salvaged, mended, kept_of, dropped_of, answered, outcome}
+use Rattle.salvage.specs.Outcome.{Outcome, leaving, salvaged, salvaged_as, mended, kept_of, dropped_of, answered, outcome}
 use Rattle.salvage.specs.inside.Sifting.{refusals, none_sifted, Roomy, ended, ending}
 use Rattle.salvage.proofs.FileLaws.{the_counts, mended_is, kept_within}
 
@@ -44,9 +48,6 @@ either_lacks false y = refl
 
 -- the refusals, rung by rung
 module _ (f : List ℕ) (out list : ℕ) where
-  pub refused_head : (r : ℕ) → r ≡ first_of (head_refusals f) → (r ≡ 0 → ⊥) → r ≡ first_of (refusals f out list)
-  refused_head r e z = first_is _ _ (stopped (head_refusals f) (room (leb (length f) out && leb (promised f) list)) r e z)
-
   module _ (e : first_of (head_refusals f) ≡ 0) (n : ℕ) (g : n ≡ promised f) where
     beyond : (r : ℕ) → First (room (leb (length f) out && leb (promised f) list)) r → r ≡ first_of (refusals f out list)
     beyond r x = first_is _ _ (onward (head_refusals f) (room (leb (length f) out && leb (promised f) list)) r tt e x)
@@ -63,14 +64,13 @@ module _ (f : List ℕ) (out list : ℕ) where
     pub not_refused : (ltb out (length f) || ltb list n) ≡ false → 0 ≡ first_of (refusals f out list)
     not_refused h = beyond 0 (past (either false h) foot)
 
-module _ (f : List ℕ) (out : List ℕ) (list : List (List ℕ)) where
-  pub mend_refused : (r : ℕ) → r ≡ first_of (refusals f (length out) (length list)) → (r ≡ 0 → ⊥) → {s : Salvaged} → s ≡ salvaged r 0 0 0 0 → leaving s out list ≡ outcome f out list
-  unfolding outcome
-  mend_refused r e z {s} g = ap (λ (s : Salvaged). leaving s out list) g ∙ go r z ∙ ap (λ (k : ℕ). answered k f out list) e
-    where
-      go : (r : ℕ) → (r ≡ 0 → ⊥) → leaving (salvaged r 0 0 0 0) out list ≡ answered r f out list
-      go zero z = absurd (z refl)
-      go (suc r) z = refl
+pub mend_refused : (f out : List ℕ) (list : List (List ℕ)) (r : Refusal) → number r ≡ first_of (refusals f (length out) (length list)) → leaving (salvaged_as (Err r)) out list ≡ outcome f out list
+unfolding outcome
+mend_refused f out list r e = go (number r) (refusals_have_numbers r) ∙ ap (λ (k : ℕ). answered k f out list) e
+  where
+    go : (k : ℕ) → (k ≡ 0 → ⊥) → leaving (salvaged k 0 0 0 0) out list ≡ answered k f out list
+    go zero z = absurd (z refl)
+    go (suc k) z = refl
 
 -- a part that is written in front of another
 placed_before : (a b row : List ℕ) → length a + length b ≤ length row → placed 0 a (placed (length a) b row) ≡ placed 0 (a ++ b) row

@@ -1,13 +1,13 @@
 -- The shapes of what is kept.
 use mathlib.Core.Path.{◌≡◌, refl, sym, ◌∙◌, ap, ap₂}
-use mathlib.Core.Bool.{Bool, true, false, not, ◌||◌}
+use mathlib.Core.Bool.{Bool, true, false, cond, not, ◌||◌}
 use mathlib.Core.List.{List, [], ◌∷◌}
 use lib.IntN.{ℤ}
 use Rattle.grid.specs.Limits.{narrow, all_on_grid}
 use Rattle.replies.specs.Ladder.{first_of}
 use Rattle.setfile.specs.Entries.{Entry, Gathered, gather, gathered, shapes_of}
 use Rattle.salvage.specs.Fates.{reason, open_behind, fates, keep, kept}
-use Rattle.salvage.specs.Promises.{if_so, sound_contours, sound_shapes}
+use Rattle.salvage.specs.Promises.{sound_contours, sound_shapes}
 
 -- those that belong to a shape that stands open, where it is kept
 abbrev if_kept : Bool → List (List ℤ) → List (List ℤ)
@@ -32,15 +32,15 @@ shape_step : (on begins b : Bool) (e : Entry) (l : List Entry) (g : Gathered) �
 unfolding first_of gathered sound_contours sound_shapes
 shape_step true true b e l g p q h =
     ap₂ (λ (t : Bool) (x : Gathered). gather t e.points x) q h
-    ∙ ap₂ gathered_as (sym (no_contours b)) (sym (ap (λ (t : Bool). if_so t (e.points ∷ sound_contours g.loose) (sound_shapes g.shapes)) p))
+    ∙ ap₂ gathered_as (sym (no_contours b)) (sym (ap (λ (t : Bool). cond t ((e.points ∷ sound_contours g.loose) ∷ sound_shapes g.shapes) (sound_shapes g.shapes)) p))
 shape_step true false true e l g p q h =
     ap₂ (λ (t : Bool) (x : Gathered). gather t e.points x) q h
-    ∙ ap (λ (t : Bool). gathered_as (if_so t e.points (sound_contours g.loose)) (sound_shapes g.shapes)) (sym p)
+    ∙ ap (λ (t : Bool). gathered_as (cond t (e.points ∷ sound_contours g.loose) (sound_contours g.loose)) (sound_shapes g.shapes)) (sym p)
 shape_step true false false e l g p q h = h
 shape_step false true b e l g p q h =
-    h ∙ ap₂ gathered_as (sym (no_contours b)) (sym (ap (λ (t : Bool). if_so t (e.points ∷ sound_contours g.loose) (sound_shapes g.shapes)) p))
+    h ∙ ap₂ gathered_as (sym (no_contours b)) (sym (ap (λ (t : Bool). cond t ((e.points ∷ sound_contours g.loose) ∷ sound_shapes g.shapes) (sound_shapes g.shapes)) p))
 shape_step false false true e l g p q h =
-    h ∙ ap (λ (t : Bool). gathered_as (if_so t e.points (sound_contours g.loose)) (sound_shapes g.shapes)) (sym p)
+    h ∙ ap (λ (t : Bool). gathered_as (cond t (e.points ∷ sound_contours g.loose) (sound_contours g.loose)) (sound_shapes g.shapes)) (sym p)
 shape_step false false false e l g p q h = h
 
 kept_gathered : (b : Bool) (l : List Entry) → gathered (kept (fates b l) l) ≡ sound_of b (gathered l)

@@ -5,10 +5,9 @@ use mathlib.Core.List.{List, [], ◌∷◌, ◌++◌}
 use Prim.Native.Nat.{ℕ, zero, suc, ◌+◌, ◌*◌, ◌-◌, ◌≤◌, ◌<◌}
 use native.Mathlib.Omega.{arith}
 use native.Mathlib.Numerals.{add-one}
-use lib.Dec.{leb}
 use lib.ListN.{length, take, drop, set, length-append, length-drop, length-set}
 use lib.Seq.{drop-drop, length-take-le}
-use borrow.Author.Tests.{leb-true, le-leb, lt-leb}
+use borrow.Author.Tests.{leb-true, le-leb}
 use Rattle.grid.specs.Limits.{narrow, all_on_grid}
 use Rattle.replies.specs.Ladder.{first_of}
 use Rattle.rows.specs.Rows.{placed}
@@ -25,14 +24,6 @@ use Rattle.salvage.specs.Fates.{reason, open_behind, fates, keep, kept, note}
 use Rattle.salvage.specs.Fates as F
 use Rattle.salvage.specs.Outcome.{Outcome, leaving, salvaged}
 use Rattle.salvage.specs.inside.Sifting.{size, none_sifted, sifted, copied, noted, Ready, Sifts, Roomy, ended, ending}
-
--- whether the contour at a position is complete, as the code asks
-module _ (f : List ℕ) (at : ℕ) where
-  pub not_there : length f - at < 2 → false ≡ all_there (drop at f)
-  not_there h = sym (lt-leb (size (drop at f)) (length (drop at f)) (omega (arith, length-drop at f)))
-
-  pub there : (n : ℕ) → n ≡ held (drop at f) → leb (2 + 8 * n) (length f - at) ≡ all_there (drop at f)
-  there n e = ap₂ (λ (k m : ℕ). leb (2 + 8 * k) m) e (sym (length-drop at f))
 
 -- the reason, by what the code has found
 pub reason_is : (f : List ℕ) (at h : ℕ) (on b keeping : Bool) (w : ℕ) → h ≡ held (drop at f) → b ≡ starts (drop at f) → on ≡ all_on_grid narrow (decoded (2 * h) (drop (at + 2) f))
@@ -174,19 +165,6 @@ pub record Sifting (f : List ℕ) (n : ℕ) (out₀ : List ℕ) (list₀ : List 
   pub out_long : length out ≡ length out₀
   pub list_long : length list ≡ length list₀
   pub is : ending (n - i) i s f out list ≡ ending n 0 none_sifted f out₀ list₀
-
-pub sifting_none : (f : List ℕ) (n : ℕ) (out : List ℕ) (list : List (List ℕ)) → 2 ≤ length f → Sifting f n out list 0 none_sifted out list
-sifting_none f n out list h =
-    let e : n - 0 ≡ n = omega arith in
-    record {
-      high = omega arith;
-      within = h;
-      behind_it = omega arith;
-      few = omega arith;
-      out_long = refl;
-      list_long = refl;
-      is = ap (λ (k : ℕ). ending k 0 none_sifted f out list) e;
-    }
 
 module _ {f : List ℕ} {n : ℕ} {out₀ : List ℕ} {list₀ : List (List ℕ)} {i : ℕ} {s : Sifted} {out : List ℕ} {list : List (List ℕ)} (x : Sifting f n out₀ list₀ i s out list) where
   -- a contour is complete

@@ -1,11 +1,14 @@
 -- What salvaging a file answers, and what it leaves in the rows that are lent to it.
-use Rattle.std.specs.Prelude.{false, ◌&&◌, List, ◌++◌, ℕ, zero, suc, ◌/◌, leb, length}
+use Rattle.std.specs.Prelude.{Result, Ok, Err, false, ◌&&◌, List, ◌++◌, ℕ, zero, suc, ◌/◌, leb, length}
 use Rattle.replies.specs.Ladder.{Rung, first_of, room}
 use Rattle.rows.specs.Rows.{front}
 use Rattle.setfile.specs.Entries.{Entry}
 use Rattle.setfile.specs.Layouts.{promised}
 use Rattle.setfile.specs.Format.{file, bad_head, come}
 use Rattle.setfile.specs.Reading.{long}
+use Rattle.replies.specs.declared.refusal.Refusal.{Refusal}
+use Rattle.replies.specs.Refusals.{number}
+use Rattle.salvage.specs.declared.answer.Saved.{Saved}
 use Rattle.salvage.specs.declared.answer.Salvaged.{Salvaged}
 use Rattle.salvage.specs.Fates.{fates, kept, dropped}
 
@@ -40,6 +43,15 @@ leaving r bytes list = record { answer = r; bytes = bytes; list = list }
 
 abbrev pub salvaged : ℕ → ℕ → ℕ → ℕ → ℕ → Salvaged
 salvaged reply bytes dropped missing past = record { reply = reply; bytes = bytes; dropped = dropped; missing = missing; past = past }
+
+-- what was saved, as C has it
+abbrev pub saved_as : Saved → Salvaged
+saved_as s = salvaged 0 s.bytes s.dropped s.missing s.past
+
+-- what was saved or why nothing was, as C has it
+abbrev pub salvaged_as : Result Saved Refusal → Salvaged
+salvaged_as (Ok s) = saved_as s
+salvaged_as (Err r) = salvaged (number r) 0 0 0 0
 
 -- by the number of the first refusal: refused, and the rows as they were, or the mended file and the list in front of them
 abbrev pub answered : ℕ → List ℕ → List ℕ → List (List ℕ) → Outcome

@@ -1,5 +1,6 @@
 -- What the theorems speak of.
-use Rattle.std.specs.Prelude.{◌≡◌, Bool, true, false, List, [], ◌∷◌, ◌++◌, map, ℕ, suc, ◌+◌, ◌-◌, ◌*◌, leb, take, drop, ℤ}
+use Rattle.std.specs.Prelude.{◌≡◌, Bool, true, false, List, [], ◌∷◌, ◌++◌, map, ℕ, suc, ◌+◌, ◌-◌, ◌*◌, leb, take, drop, ℤ, if◌then◌else◌}
+use Rattle.std.specs.List.{filter}
 use Rattle.grid.specs.Limits.{narrow, all_on_grid}
 use Rattle.grid.specs.Domain.{count}
 use Rattle.buffer.specs.Sets.{joined}
@@ -33,21 +34,15 @@ pub record SameBytes (f : List ℕ) (o : Outcome) : Type 0 where
   pub before : drop 2 f ≡ joined (bytes_of f) ++ rest
   pub after : drop 2 (written_file o) ≡ joined (kept (fates_of f) (bytes_of f))
 
--- one in front of others, if this holds
-abbrev pub if_so : {A : Type 0} → Bool → A → List A → List A
-if_so true a l = a ∷ l
-if_so false a l = l
-
 -- the contours that are on the grid
 unfoldable pub sound_contours : List (List ℤ) → List (List ℤ)
-sound_contours [] = []
-sound_contours (c ∷ l) = if_so (all_on_grid narrow c) c (sound_contours l)
+sound_contours l = filter (all_on_grid narrow) l
 
 -- the shapes whose first contour is on the grid, each with its other contours that are
 unfoldable pub sound_shapes : List (List (List ℤ)) → List (List (List ℤ))
 sound_shapes [] = []
 sound_shapes ([] ∷ l) = sound_shapes l
-sound_shapes ((c ∷ holes) ∷ l) = if_so (all_on_grid narrow c) (c ∷ sound_contours holes) (sound_shapes l)
+sound_shapes ((c ∷ holes) ∷ l) = if all_on_grid narrow c then (c ∷ sound_contours holes) ∷ sound_shapes l else sound_shapes l
 
 -- how many bytes a contour has
 abbrev pub length_of : Entry → ℕ

@@ -16,7 +16,7 @@ use Rattle.buffer.proofs.RowLaws.{spans-length}
 use Rattle.buffer.proofs.SetLaws.{sizes_are}
 use Rattle.setfile.specs.Format.{file_length}
 use Rattle.setfile.specs.Reading.{most_bytes, long}
-use Rattle.setfile.specs.Writing.{most_points, some_over, leaving}
+use Rattle.setfile.specs.Writing.{most_points, some_over, written_as, leaving}
 use Rattle.setfile.specs.Writing2.{file_of, set_refusals, refusals}
 use Rattle.setfile.specs.Promises.{Each, Regular}
 use Rattle.setfile.specs.inside.Writing.{written_size}
@@ -26,7 +26,7 @@ use Rattle.setfile.proofs.Outcome2Laws.{both_sound, regular-set, set_free, set_l
 use Rattle.setfile.proofs.writing_2.write_2.Reads as write-2·contract
 
 -- any two outcomes that the contract of `write_2` allows are identical
-pub a_set_is_written_in_one_way : Determined write-2·contract.Learnt (λ κs r e. four e (λ points contours shapes bytes. leaving r.reply r.bytes bytes.now))
+pub a_set_is_written_in_one_way : Determined write-2·contract.Learnt (λ κs r e. four e (λ points contours shapes bytes. leaving (written_as r).reply (written_as r).bytes bytes.now))
 a_set_is_written_in_one_way = by_its_definition _ (λ κs a r e h. h)
 
 module _ (p : List ℤ) (cs ss : List (List ℕ)) where

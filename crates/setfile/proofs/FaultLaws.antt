@@ -1,6 +1,7 @@
 -- What is wrong with a file's head, with a contour, and behind the last one.
-use Rattle.std.proofs.Common.{◌≡◌, ℕ, ◌+◌, ◌/◌, ◌<◌, ◌≤◌, Bool, true, false, not, ◌&&◌, eqb, ltb, List, [], ◌∷◌, length, drop, sym, refl, ap, ◌∙◌, arith, pow_pos, ltb-false, le-ltb, lt-ltb, eq-eqb, ne_eqb, le-leb}
+use Rattle.std.proofs.Common.{◌≡◌, ℕ, ◌+◌, ◌<◌, ◌≤◌, Bool, true, false, not, ◌&&◌, eqb, ltb, List, [], ◌∷◌, ◌++◌, length, drop, sym, refl, ap, ◌∙◌, arith, pow_pos, ltb-false, le-ltb, lt-ltb, le-leb}
 use borrow.Author.Tests.{lt-leb}
+use mathlib.Core.Bool.{and-true}
 use Rattle.replies.specs.Ladder.{first_of}
 use Rattle.replies.proofs.LadderLaws.{clear, first_is, found}
 use Rattle.replies.proofs.LadderLaws.First.{here, past, foot}
@@ -12,9 +13,8 @@ use Rattle.setfile.specs.Layouts.{some_set, end_damage, edition_of}
 use Rattle.setfile.specs.Format.{begins, points_in}
 use Rattle.setfile.specs.Edition2.{width_in}
 use Rattle.setfile.specs.Editions.{layout, is_second}
-use Rattle.setfile.specs.inside.Bytes.{pair}
-use Rattle.setfile.specs.inside.Reading.{head_refusals, either_refusals, header_size}
-use Rattle.setfile.proofs.ByteLaws.{edition_by_pair}
+use Rattle.setfile.specs.Reading.{long}
+use Rattle.setfile.specs.inside.Reading.{refusals_where, head_refusals, either_refusals, header_size}
 
 -- a contour of either edition, rung by rung
 module _ (first : Bool) (n : ℕ) (l : List Bool) where
@@ -87,42 +87,30 @@ module _ (l : List Bool) where
     fill_unset z = first_is _ _ (past (lt-leb 8 (length l) h) (past (means_set l z) foot))
 
 -- what is refused of a file by its length and its head
-module _ (f : List ℕ) where
-  pub over_long : 65536 < length f → 2 ≡ first_of (head_refusals f)
+module _ (either : Bool) (f : List ℕ) where
+  pub over_long : 65536 < length f → 2 ≡ first_of (refusals_where either f)
   over_long h = first_is _ _ (here (lt-ltb _ _ h))
 
   module _ (few : length f ≤ 65536) where
-    pub head_short : length f < 2 → 10 ≡ first_of (head_refusals f)
+    pub head_short : length f < 2 → 10 ≡ first_of (refusals_where either f)
     head_short h = first_is _ _ (past (le-ltb _ _ few) (here (lt-ltb _ _ h)))
 
-    module _ (long : 2 ≤ length f) (h : ℕ) (e : h ≡ pair f) where
-      pub head_edition : (h / 4096 ≡ 1 → ⊥) → 9 ≡ first_of (head_refusals f)
-      head_edition z = first_is _ _ (past (le-ltb _ _ few) (past (le-ltb _ _ long) (here (ap not (ne_eqb (edition_of f) 1 (λ k. z (omega (arith, edition_by_pair f long))))))))
+    module _ (two : 2 ≤ length f) (v : ℕ) (e : v ≡ edition_of f) where
+      taken : (b : Bool) → (not (eqb v 1) && not (either && eqb v 2)) ≡ b → (not (eqb (edition_of f) 1) && not (either && is_second f)) ≡ b
+      taken b h = ap (λ (v : ℕ). not (eqb v 1) && not (either && eqb v 2)) (sym e) ∙ h
 
-      pub head_right : h / 4096 ≡ 1 → 0 ≡ first_of (head_refusals f)
-      head_right z = first_is _ _ (past (le-ltb _ _ few) (past (le-ltb _ _ long) (past (ap not (eq-eqb (edition_of f) 1 (omega (arith, edition_by_pair f long)))) foot)))
+      pub head_edition : (not (eqb v 1) && not (either && eqb v 2)) ≡ true → 9 ≡ first_of (refusals_where either f)
+      head_edition z = first_is _ _ (past (le-ltb _ _ few) (past (le-ltb _ _ two) (here (taken true z))))
+
+      pub head_right : (not (eqb v 1) && not (either && eqb v 2)) ≡ false → 0 ≡ first_of (refusals_where either f)
+      head_right z = first_is _ _ (past (le-ltb _ _ few) (past (le-ltb _ _ two) (past (taken false z) foot)))
+
+module _ (f : List ℕ) where
+  pub only_first : first_of (refusals_where false f) ≡ first_of (head_refusals f)
+  only_first = ap (λ (b : Bool). first_of (long (length f) ++ (ltb (length f) 2, 10) ∷ (b, 9) ∷ [])) (and-true (not (eqb (edition_of f) 1)))
 
   pub head_long : first_of (head_refusals f) ≡ 0 → 2 ≤ length f
   head_long e = ltb-false _ _ (clear (head_refusals f) tt e).1.0
-
--- the same, where either edition is taken
-module _ (f : List ℕ) where
-  pub over_long_either : 65536 < length f → 2 ≡ first_of (either_refusals f)
-  over_long_either h = first_is _ _ (here (lt-ltb _ _ h))
-
-  module _ (few : length f ≤ 65536) where
-    pub head_short_either : length f < 2 → 10 ≡ first_of (either_refusals f)
-    head_short_either h = first_is _ _ (past (le-ltb _ _ few) (here (lt-ltb _ _ h)))
-
-    module _ (long : 2 ≤ length f) (v : ℕ) (e : v ≡ edition_of f) where
-      neither : (b : Bool) → (not (eqb v 1) && not (eqb v 2)) ≡ b → (not (eqb (edition_of f) 1) && not (is_second f)) ≡ b
-      neither b h = ap (λ (v : ℕ). not (eqb v 1) && not (eqb v 2)) (sym e) ∙ h
-
-      pub head_neither : (not (eqb v 1) && not (eqb v 2)) ≡ true → 9 ≡ first_of (either_refusals f)
-      head_neither z = first_is _ _ (past (le-ltb _ _ few) (past (le-ltb _ _ long) (here (neither true z))))
-
-      pub head_either : (not (eqb v 1) && not (eqb v 2)) ≡ false → 0 ≡ first_of (either_refusals f)
-      head_either z = first_is _ _ (past (le-ltb _ _ few) (past (le-ltb _ _ long) (past (neither false z) foot)))
 
   pub either_long : first_of (either_refusals f) ≡ 0 → 2 ≤ length f
   either_long e = ltb-false _ _ (clear (either_refusals f) tt e).1.0

@@ -1,5 +1,5 @@
 -- A header, by the number that its fields are.
-use Rattle.std.proofs.Common.{◌≡◌, ℕ, zero, suc, ◌+◌, ◌-◌, ◌*◌, ◌/◌, ◌%◌, ◌<◌, ◌≤◌, Bool, true, false, eqb, leb, List, [], ◌∷◌, length, get_or, take, drop, sym, refl, ap, ◌∙◌, mul-le-mul, arith, length-drop, eq-eqb, ne_eqb, leb-false, leb-true}
+use Rattle.std.proofs.Common.{◌≡◌, ℕ, zero, suc, ◌+◌, ◌-◌, ◌*◌, ◌/◌, ◌%◌, ◌<◌, ◌≤◌, Bool, true, false, eqb, leb, List, [], ◌∷◌, length, get_or, take, drop, sym, refl, ap, ◌∙◌, arith, length-drop, eq-eqb, ne_eqb, leb-false, leb-true}
 use Rattle.bits.specs.Bits.{value, bits}
 use Rattle.bits.specs.inside.Words.{word}
 use Rattle.bits.proofs.BitLaws.{taken_below, high_bits, low_bits, bits-length}
@@ -49,12 +49,6 @@ module _ (l : List Bool) (h : 22 ≤ length l) (n : ℕ) (e : n ≡ value (take 
   second_header = same_header begins_is count_is width_is
 
 -- how many bits a contour of edition 2 has
-pub wide_steps : (k w : ℕ) → k ≤ 32767 → w ≤ 63 → w * (2 * (k - 1)) ≤ 4128642
-wide_steps k w h g = omega (arith, mul-le-mul g (few k h))
-  where
-    few : (k : ℕ) → k ≤ 32767 → 2 * (k - 1) ≤ 65534
-    few k h = omega arith
-
 pub size_none : (k w : ℕ) → k ≡ 0 → 22 ≡ 22 + body_size k w
 size_none k w e = rw e
 

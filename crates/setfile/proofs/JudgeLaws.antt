@@ -12,7 +12,6 @@ use Rattle.replies.proofs.LadderLaws.First.{here, past, foot}
 use Rattle.buffer.specs.Sets.{joined}
 use Rattle.setfile.specs.declared.inner.headers.Header.{Header}
 use Rattle.setfile.specs.declared.inner.judging.Met.{Met}
-use Rattle.setfile.specs.declared.inner.judging.Judged.{Judged}
 use Rattle.bits.specs.Bits.{digit, bits}
 use Rattle.bits.proofs.BitLaws.{byte_digit, digit_below}
 use Rattle.setfile.specs.Entries.{Entry, contours_of, shapes_of, Gathered, gather, gathered, Parsed, and_then, read_contours}
@@ -20,13 +19,13 @@ use Rattle.setfile.specs.Entries.Parsed.{carries, damaged}
 use Rattle.setfile.specs.Layouts.{end_damage, contours_in, promised}
 use Rattle.setfile.specs.Format.{begins, points_in}
 use Rattle.setfile.specs.Editions.{layout, bound, is_second, bad_head, head_damage, parsed}
-use Rattle.setfile.specs.inside.Reading.{contained, from_bit, At, header_in, size_of, front_points, Whole, none_met, met_more, Within, judged, on_or_refused, points_of, summed, either_refusals, refusals_of, Readable, Judgement}
+use Rattle.setfile.specs.inside.Reading.{Judged, contained, from_bit, At, header_in, size_of, front_points, Whole, none_met, met_more, Within, judged, counted_where, points_of, summed, either_refusals, refusals_of, Readable, Judgement}
 use Rattle.setfile.proofs.LayoutLaws.{contours_on, contours_stop, contours_end, contours_past, Numbered, contours_long}
 use Rattle.setfile.proofs.ContourLaws.{size_is, front_begins, front_length, front_count, behind}
 use Rattle.setfile.proofs.EitherLaws.{parsed_faulty, parsed_on, parsed_numbered, read_even}
 
-same_judged : {a b c d k l m n : ℕ} → a ≡ k → b ≡ l → c ≡ m → d ≡ n → judged a b c d ≡ judged k l m n
-same_judged e f g h = cc
+same_counted : {a k : Bool} {b c d l m n : ℕ} → a ≡ k → b ≡ l → c ≡ m → d ≡ n → counted_where a b c d ≡ counted_where k l m n
+same_counted e f g h = cc
 
 shapes_gathered : (b : Bool) (c : List ℤ) (g : Gathered) → length (gather b c g).shapes ≡ digit b + length g.shapes
 shapes_gathered true c g = omega arith
@@ -42,8 +41,8 @@ module _ (s : Bool) (m : Met) (n : ℕ) (l : List Bool) where
   summed_more (damaged r) = refl
   summed_more (carries rest) =
       let later : List ℤ = joined (contours_of rest) in
-      same_judged
-      (ap on_or_refused (ap (λ (t : Bool). m.on && t) (on_joined (bound s) points later) ∙ sym (and_assoc m.on (all_on_grid (bound s) points) (all_on_grid (bound s) later))))
+      same_counted
+      (ap (λ (t : Bool). m.on && t) (on_joined (bound s) points later) ∙ sym (and_assoc m.on (all_on_grid (bound s) points) (all_on_grid (bound s) later)))
       (omega (arith, length-append points later, front_length s l))
       (omega arith)
       (omega (arith, shapes_gathered ((layout s).read l).begins points (gathered rest), ap digit (front_begins s l)))
@@ -104,15 +103,10 @@ module _ (s : Bool) (m : Met) (n : ℕ) (l : List Bool) where
   left_over zero e z = absurd (z refl)
   left_over (suc r) e z = sym (ap (summed s m n) (contours_past (layout s) false m.points l r (sym e)))
 
-  pub all_met : 0 ≡ end_damage l → (r : ℕ) → r ≡ on_or_refused m.on → judged r m.points n m.shapes ≡ summed s m n (contours_in (layout s) 0 false m.points l)
+  pub all_met : 0 ≡ end_damage l → (b : Bool) → b ≡ m.on → counted_where b m.points n m.shapes ≡ summed s m n (contours_in (layout s) 0 false m.points l)
   unfolding joined all_on_grid gathered
-  all_met h r k =
-      rw (contours_end (layout s) false m.points l (sym h)) (same_judged (k ∙ ap on_or_refused (sym (and-true m.on))) (omega arith) (omega arith) (omega arith))
-
-on_told : (b : Bool) → on_or_refused b ≡ 0 → b ≡ true
-unfolding first_of
-on_told true e = refl
-on_told false e = absurd (omega arith)
+  all_met h b k =
+      rw (contours_end (layout s) false m.points l (sym h)) (same_counted (k ∙ sym (and-true m.on)) (omega arith) (omega arith) (omega arith))
 
 -- a file, by what is wrong with its head
 module _ (s : Bool) (f : List ℕ) (own : s ≡ is_second f) where
@@ -151,24 +145,34 @@ module _ (s : Bool) (f : List ℕ) (own : s ≡ is_second f) where
             reply = a ∙ first_is (refusals_of s (length f) (damaged (suc k))) (suc k) (past (le-ltb _ _ few) (here (ap not (eqb-suc-zero k)))) ∙ told _ h;
             counts = λ z. absurd (omega arith);
           }
-      go (carries l) h n =
-          let j : r ≡ summed s none_met 0 (carries l) = e ∙ ap (summed s none_met 0) h in
-          let c : l ≡ contained f = sym (ap read_contours h) in
-          let k : r.contours ≡ length l = ap (λ (j : Judged). j.contours) j ∙ omega arith in
-          let q : r.points ≡ points_of l = ap (λ (j : Judged). j.points) j ∙ omega arith in
-          let v : r.reply ≡ on_or_refused (all_on_grid (bound s) (joined (contours_of l))) = ap (λ (j : Judged). j.reply) j in
-          record {
-            reply =
-                v
-                ∙ first_is (refusals_of s (length f) (carries l)) _ (past (le-ltb _ _ few) (past refl (found (off (bound s) (joined (contours_of l))) _ refl)))
-                ∙ told _ h;
-            counts = λ z. record {
-              readable = subst (Readable s f) (sym k) (readable few l h (on_told _ (sym v ∙ z)));
-              points = omega (arith, read_even f l h) ∙ ap (λ (l : List Entry). length (joined (contours_of l))) c;
-              contours = k ∙ ap length c;
-              shapes = ap (λ (j : Judged). j.shapes) j ∙ omega arith ∙ ap (λ (l : List Entry). length (shapes_of l)) c;
-            };
-          }
+      go (carries l) h n = on_or_off (all_on_grid (bound s) (joined (contours_of l))) refl
+        where
+          on_or_off : (b : Bool) → all_on_grid (bound s) (joined (contours_of l)) ≡ b → Judgement s f r
+          on_or_off false g =
+              let j : r ≡ judged 3 0 0 0 = e ∙ ap (summed s none_met 0) h ∙ ap (λ (b : Bool). counted_where b (0 + points_of l) (0 + length l) (0 + length (shapes_of l))) g in
+              let a : r.reply ≡ 3 = ap (λ (j : Judged). j.reply) j in
+              record {
+                reply = a ∙ first_is (refusals_of s (length f) (carries l)) 3 (past (le-ltb _ _ few) (past refl (here (ap not g)))) ∙ told _ h;
+                counts = λ z. absurd (omega arith);
+              }
+          on_or_off true g =
+              let j : r ≡ judged 0 (0 + points_of l) (0 + length l) (0 + length (shapes_of l)) =
+              e ∙ ap (summed s none_met 0) h ∙ ap (λ (b : Bool). counted_where b (0 + points_of l) (0 + length l) (0 + length (shapes_of l))) g in
+              let c : l ≡ contained f = sym (ap read_contours h) in
+              let k : r.contours ≡ length l = ap (λ (j : Judged). j.contours) j ∙ omega arith in
+              let q : r.points ≡ points_of l = ap (λ (j : Judged). j.points) j ∙ omega arith in
+              record {
+                reply =
+                    ap (λ (j : Judged). j.reply) j
+                    ∙ first_is (refusals_of s (length f) (carries l)) 0 (past (le-ltb _ _ few) (past refl (past (ap not g) foot)))
+                    ∙ told _ h;
+                counts = λ z. record {
+                  readable = subst (Readable s f) (sym k) (readable few l h g);
+                  points = omega (arith, read_even f l h) ∙ ap (λ (l : List Entry). length (joined (contours_of l))) c;
+                  contours = k ∙ ap length c;
+                  shapes = ap (λ (j : Judged). j.shapes) j ∙ omega arith ∙ ap (λ (l : List Entry). length (shapes_of l)) c;
+                };
+              }
 
   -- a file over 65,536 bytes
   over : 65536 < length f → (r : Judged) → r ≡ judged 2 0 0 0 → Judgement s f r

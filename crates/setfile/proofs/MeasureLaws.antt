@@ -1,69 +1,31 @@
 -- How long ranges are, and how long files of edition 2.
-use Rattle.std.proofs.Common.{◌≡◌, ℕ, zero, suc, ◌+◌, ◌-◌, ◌*◌, ◌/◌, ◌<◌, ◌≤◌, Bool, true, false, ◌||◌, eqb, ltb, List, [], ◌∷◌, map, length, get_or, drop, set, ℤ, sym, refl, ap, ◌∙◌, ap₂, mul-le-mul_right, add-one, arith, length-append, drop_of_length-le, drop-cons, get_or-set_other, get_or-set_same, below_more, ltb-false, ltb-true, le-ltb, lt-ltb}
-use lib.Dec.{eqb-suc-zero}
+use Rattle.std.proofs.Common.{◌≡◌, ℕ, zero, suc, ◌+◌, ◌*◌, ◌/◌, ◌<◌, ◌≤◌, Bool, ◌||◌, eqb, ltb, List, [], ◌∷◌, map, length, get_or, drop, set, ℤ, refl, ap, ◌∙◌, ap₂, mul-le-mul_right, add-one, arith, length-append, drop_of_length-le, drop-cons, get_or-set_other, get_or-set_same, below_more}
+use Rattle.std.specs.List.{list_any}
 use Rattle.grid.specs.Domain.{count}
-use Rattle.bits.specs.Bits.{digit, field}
-use Rattle.bits.proofs.BitLaws.{digit_below, field-length, bytes-length}
+use Rattle.bits.specs.Bits.{field}
+use Rattle.bits.proofs.BitLaws.{field-length, bytes-length}
 use Rattle.steps.specs.Steps.{differences}
 use Rattle.steps.specs.Bodies.{contour_width, body_size}
 use Rattle.steps.proofs.BodyLaws.{width_within_32}
-use Rattle.buffer.specs.declared.ranges.Span.{Span}
 use Rattle.buffer.specs.Spans.{span, spans, size, total}
 use Rattle.buffer.specs.Sets.{joined, contour, Even}
-use Rattle.buffer.proofs.RowLaws.{spans-length}
 use Rattle.setfile.specs.Entries.{Entry, contours_of}
 use Rattle.setfile.specs.Layouts.{all_coded, file_bits, file_in}
 use Rattle.setfile.specs.Edition2.{edition_2}
 use Rattle.setfile.specs.Writing.{some_over, some_empty}
-use Rattle.setfile.specs.inside.Writing.{longer, written_size, all_size}
+use Rattle.setfile.specs.inside.Writing.{written_size, all_size}
 use Rattle.setfile.proofs.Edition2Laws.{contour_bits_length}
 
--- ranges that are longer than n: one of them is, and all are
-pub longer_few : (n : ℕ) (l : List Span) → longer n l ≤ length l
-unfolding longer
-longer_few n [] = omega arith
-longer_few n (s ∷ l) = omega (arith, digit_below (ltb n (size s)), longer_few n l)
+-- one of the ranges is longer than n, or empty, as the code asks each
+pub over_any : (n : ℕ) (rows : List (List ℕ)) → list_any (λ (r : List ℕ). ltb n (size (span r))) rows ≡ some_over n (spans rows)
+unfolding some_over
+over_any n [] = refl
+over_any n (r ∷ rows) = ap (λ (b : Bool). ltb n (size (span r)) || b) (over_any n rows)
 
-pub longer_some : (n : ℕ) (l : List Span) → ltb 0 (longer n l) ≡ some_over n l
-unfolding longer some_over
-longer_some n [] = refl
-longer_some n (s ∷ l) = go (ltb n (size s)) (longer_some n l)
-  where
-    go : (b : Bool) → ltb 0 (longer n l) ≡ some_over n l → ltb 0 (digit b + longer n l) ≡ (b || some_over n l)
-    go true e = lt-ltb 0 (1 + longer n l) (omega arith)
-    go false e = let z : 0 + longer n l ≡ longer n l = omega arith in ap (ltb 0) z ∙ e
-
-below_next : (m n : ℕ) → ltb (1 + m) (suc n) ≡ ltb m n
-below_next m n = go (ltb m n) refl
-  where
-    go : (b : Bool) → ltb m n ≡ b → ltb (1 + m) (suc n) ≡ b
-    go true e = lt-ltb (1 + m) (suc n) (omega (arith, ltb-true m n e))
-    go false e = le-ltb (1 + m) (suc n) (omega (arith, ltb-false m n e))
-
-pub longer_all : (l : List Span) → ltb (longer 0 l) (length l) ≡ some_empty l
-unfolding longer some_empty
-longer_all [] = refl
-longer_all (s ∷ l) = go (size s) (longer_all l)
-  where
-    go : (k : ℕ) → ltb (longer 0 l) (length l) ≡ some_empty l → ltb (digit (ltb 0 k) + longer 0 l) (suc (length l)) ≡ (eqb k 0 || some_empty l)
-    go zero e = lt-ltb (0 + longer 0 l) (suc (length l)) (omega (arith, longer_few 0 l))
-    go (suc k) e = rw (lt-ltb 0 (suc k) (omega arith), eqb-suc-zero k) (below_next (longer 0 l) (length l) ∙ e)
-
--- as the code counts them
-pub some_long : (rows : List (List ℕ)) (n m : ℕ) → m ≡ longer n (spans rows) → ltb 0 m ≡ some_over n (spans rows)
-some_long rows n m e = ap (ltb 0) e ∙ longer_some n (spans rows)
-
-pub some_unfilled : (rows : List (List ℕ)) (m : ℕ) → m ≡ longer 0 (spans rows) → ltb m (length rows) ≡ some_empty (spans rows)
-some_unfilled rows m e = ap₂ ltb e (sym (spans-length rows)) ∙ longer_all (spans rows)
-
-module _ (rows : List (List ℕ)) (n i : ℕ) where
-  pub longer_more : i < length rows → longer n (spans (drop i rows)) ≡ digit (ltb n (get_or (get_or rows i []) 1 0 - get_or (get_or rows i []) 0 0)) + longer n (spans (drop (i + 1) rows))
-  unfolding longer
-  longer_more h = rw (drop-cons rows i [] h, add-one i)
-
-  pub longer_done : length rows ≤ i → longer n (spans (drop i rows)) ≡ 0
-  unfolding longer
-  longer_done h = rw (drop_of_length-le rows {i = i} h)
+pub empty_any : (rows : List (List ℕ)) → list_any (λ (r : List ℕ). eqb (size (span r)) 0) rows ≡ some_empty (spans rows)
+unfolding some_empty
+empty_any [] = refl
+empty_any (r ∷ rows) = ap (λ (b : Bool). eqb (size (span r)) 0 || b) (empty_any rows)
 
 -- a contour's bits, by its points and its width
 pub body_within : (n w : ℕ) → w ≤ 32 → body_size n w ≤ 64 * n

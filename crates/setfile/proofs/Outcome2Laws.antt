@@ -1,51 +1,33 @@
 -- What is refused of a set that is to be written in edition 2, and what the writer leaves.
-use Rattle.std.proofs.Common.{◌≡◌, ℕ, ◌+◌, ◌/◌, ◌%◌, ◌<◌, ◌≤◌, Bool, true, false, not, ◌&&◌, ◌||◌, ltb, List, length, ℤ, sym, refl, ap, ◌∙◌, arith, ltb-false, le-ltb, lt-ltb, ne_eqb}
+use Rattle.std.proofs.Common.{◌≡◌, ℕ, ◌+◌, ◌/◌, ◌%◌, ◌<◌, ◌≤◌, Bool, true, false, not, ◌&&◌, ◌||◌, leb, ltb, List, length, ℤ, sym, refl, ap, ◌∙◌, arith, ltb-false, le-ltb, lt-ltb, ne_eqb}
 use borrow.Author.Tests.{eqb-false, not-false}
 use Rattle.integers.proofs.Logic.{and_left, and_right, or_left, or_right}
-use Rattle.replies.specs.Ladder.{first_of}
+use Rattle.replies.specs.Ladder.{first_of, room}
 use Rattle.replies.proofs.LadderLaws.{First, first_is, clear, stopped, onward}
 use Rattle.replies.proofs.LadderLaws.First.{here, past, foot}
 use Rattle.grid.specs.Limits.{limit, most, all_on_grid}
 use Rattle.grid.specs.Domain.{count}
-use Rattle.rows.specs.Rows.{front}
 use Rattle.buffer.specs.Spans.{spans, sound}
 use Rattle.buffer.specs.Sets.{shapes}
 use Rattle.buffer.specs.Refusals.{set}
 use Rattle.buffer.proofs.RowLaws.{spans-length}
 use Rattle.setfile.specs.Entries.{entries}
 use Rattle.setfile.specs.Reading.{most_bytes, long}
-use Rattle.setfile.specs.Writing.{most_contours, most_points, some_over, some_empty, uncarried, leaving}
+use Rattle.setfile.specs.Writing.{most_contours, most_points, some_over, some_empty, leaving, written}
 use Rattle.setfile.specs.Writing2.{file_of, set_refusals, refusals, outcome}
 use Rattle.setfile.specs.Promises.{Regular}
 use Rattle.setfile.specs.inside.Writing.{all_size, Ripe}
 use Rattle.setfile.proofs.CarryLaws.{none_over, over_none, none_empty, empty_none, regular_contours, regular_even, regular_count, all_named, all_grouped}
 use Rattle.setfile.proofs.MeasureLaws.{file_long}
-use Rattle.setfile.proofs.OutcomeLaws.{result_refused, result_full, result_done}
+use Rattle.setfile.proofs.RefusedLaws.{refused_carry}
+use Rattle.setfile.proofs.OutcomeLaws.{result_refused, result_free}
 
 module _ (p : List ℤ) (cs ss : List (List ℕ)) where
   abbrev pub both_sound : Bool
   both_sound = sound (spans cs) (count p) && sound (spans ss) (length cs)
 
-  -- what is asked of every set, and then 12
-  module _ (r : ℕ) (e : r ≡ first_of (set limit p both_sound)) where
-    pub refused_set : (r ≡ 0 → ⊥) → r ≡ first_of (set_refusals p cs ss)
-    refused_set z = first_is _ r (stopped (set limit p both_sound) (uncarried (spans cs) (spans ss)) r e z)
-
-    module _ (z : r ≡ 0) (over empty : Bool) (f : over ≡ some_over most_points (spans cs)) (g : empty ≡ some_empty (spans ss)) where
-      last : (k : ℕ) → First (uncarried (spans cs) (spans ss)) k → k ≡ first_of (set_refusals p cs ss)
-      last k h = first_is _ k (onward (set limit p both_sound) (uncarried (spans cs) (spans ss)) k tt (sym e ∙ z) h)
-
-      carry_is : (ltb most_contours (length (spans cs)) || some_over most_points (spans cs) || some_empty (spans ss)) ≡ (ltb most_contours (length cs) || over || empty)
-      carry_is = rw (← f, ← g, spans-length cs)
-
-      pub refused_carry : (ltb most_contours (length cs) || over || empty) ≡ true → 12 ≡ first_of (set_refusals p cs ss)
-      refused_carry h = last 12 (here (carry_is ∙ h))
-
-      pub refused_none : (ltb most_contours (length cs) || over || empty) ≡ false → 0 ≡ first_of (set_refusals p cs ss)
-      refused_none h = last 0 (past (carry_is ∙ h) foot)
-
   pub too_long_contour : first_of (set limit p both_sound) ≡ 0 → some_over most_points (spans cs) ≡ true → 12 ≡ first_of (set_refusals p cs ss)
-  too_long_contour e over = refused_carry 0 (sym e) refl true (some_empty (spans ss)) (sym over) refl (go (ltb most_contours (length cs)))
+  too_long_contour e over = refused_carry limit p cs ss 0 (sym e) refl true (some_empty (spans ss)) (sym over) refl (go (ltb most_contours (length cs)))
     where
       go : (b : Bool) → (b || true || some_empty (spans ss)) ≡ true
       go true = refl
@@ -111,9 +93,11 @@ module _ (p : List ℤ) (cs ss : List (List ℕ)) (row : List ℕ) where
       all_free : first_of (refusals p cs ss) ≡ 0
       all_free = sym (then_long 0 (past (le-ltb most_bytes (length (file_of p cs ss)) (omega (arith, is_long))) foot))
 
-      pub write_full : length row < m → leaving 5 0 row ≡ outcome p cs ss row
+      pub write_free : written (first_of (room (leb m (length row)))) (file_of p cs ss) row ≡ outcome p cs ss row
       unfolding outcome
-      write_full h = result_full (refusals p cs ss) (length (file_of p cs ss)) (file_of p cs ss) row tt all_free (omega (arith, is_long))
+      write_free =
+          ap (λ (k : ℕ). written (first_of (room (leb k (length row)))) (file_of p cs ss) row) is_long
+          ∙ result_free (refusals p cs ss) (length (file_of p cs ss)) (file_of p cs ss) row tt all_free
 
       module _ (fits : m ≤ length row) where
         pub ripe : Ripe true p cs ss row
@@ -127,7 +111,3 @@ module _ (p : List ℤ) (cs ss : List (List ℕ)) (row : List ℕ) where
               all = regular_count limit p cs ss r;
               room = omega (arith, is_long);
             }
-
-        pub write_done : (n : ℕ) (exit : List ℕ) → exit ≡ front (file_of p cs ss) row → n ≡ length (file_of p cs ss) → leaving 0 n exit ≡ outcome p cs ss row
-        unfolding outcome
-        write_done n exit g k = result_done (refusals p cs ss) (length (file_of p cs ss)) (file_of p cs ss) row tt all_free (omega (arith, is_long)) n exit k g

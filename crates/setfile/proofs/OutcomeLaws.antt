@@ -1,13 +1,12 @@
 -- What the writer leaves: nothing, or the file.
-use Rattle.std.proofs.Common.{◌≡◌, ℕ, zero, suc, ◌<◌, ◌≤◌, false, not, T, leb, List, ◌++◌, map, length, ℤ, refl, ap, ◌∙◌, ap₂, arith, le-leb}
+use Rattle.std.proofs.Common.{◌≡◌, ℕ, zero, suc, ◌<◌, ◌≤◌, false, T, leb, List, ◌++◌, map, length, ℤ, refl, ap, ◌∙◌, ap₂, arith, le-leb}
 use borrow.Author.Tests.{lt-leb}
 use Rattle.replies.specs.Ladder.{Rung, first_of, room}
 use Rattle.grid.specs.Limits.{narrow}
 use Rattle.grid.specs.Domain.{count}
 use Rattle.grid.proofs.LimitLaws.{narrow_within}
 use Rattle.rows.specs.Rows.{front}
-use Rattle.replies.proofs.LadderLaws.{First, first_is, numbered, stopped, onward}
-use Rattle.replies.proofs.LadderLaws.First.{here, past, foot}
+use Rattle.replies.proofs.LadderLaws.{First, first_is, found, numbered, stopped, onward}
 use Rattle.buffer.specs.Spans.{spans, total}
 use Rattle.buffer.specs.Sets.{shapes}
 use Rattle.setfile.specs.Entries.{Entry, entries}
@@ -30,14 +29,21 @@ module _ (l : List Rung) (n : ℕ) (f row : List ℕ) where
   result_refused zero e z = absurd (z refl)
   result_refused (suc r) e z = by_number (suc r) (stopped l (room (leb n (length row))) (suc r) e z)
 
-  module _ (told : T (numbered l)) (free : first_of l ≡ 0) where
-    pub result_full : length row < n → leaving 5 0 row ≡ result
-    result_full h = by_number 5 (onward l (room (leb n (length row))) 5 told free (here (ap not (lt-leb n (length row) h))))
+  -- where nothing is refused, the room decides
+  pub result_free : T (numbered l) → first_of l ≡ 0 → written (first_of (room (leb n (length row)))) f row ≡ result
+  result_free told free =
+      let r : List Rung = room (leb n (length row)) in
+      by_number (first_of r) (onward l r (first_of r) told free (found r (first_of r) refl))
 
-    pub result_done : n ≤ length row → (m : ℕ) (exit : List ℕ) → m ≡ length f → exit ≡ front f row → leaving 0 m exit ≡ result
-    result_done h m exit e g =
-        ap₂ (λ (k : ℕ) (r : List ℕ). leaving 0 k r) e g
-        ∙ by_number 0 (onward l (room (leb n (length row))) 0 told free (past (ap not (le-leb n (length row) h)) foot))
+-- no room for a file of n bytes, or the file in front of the row
+module _ (n : ℕ) (f row : List ℕ) where
+  pub no_room : length row < n → leaving 5 0 row ≡ written (first_of (room (leb n (length row)))) f row
+  unfolding first_of
+  no_room h = rw (lt-leb n (length row) h)
+
+  pub put_there : n ≤ length row → (m : ℕ) (exit : List ℕ) → m ≡ length f → exit ≡ front f row → leaving 0 m exit ≡ written (first_of (room (leb n (length row)))) f row
+  unfolding first_of
+  put_there h m exit e g = rw (le-leb n (length row) h) (ap₂ (λ (k : ℕ) (r : List ℕ). leaving 0 k r) e g)
 
 -- the file of a set in edition 1
 pub file_long : (bound : ℕ) (p : List ℤ) (cs ss : List (List ℕ)) → Regular bound p cs ss → length (file_of p cs ss) ≡ file_length (length cs) (count p)
@@ -55,9 +61,11 @@ module _ (p : List ℤ) (cs ss : List (List ℕ)) (row : List ℕ) where
 
   -- a set of which nothing is refused, and the m bytes of its file
   module _ (free : first_of (refusals p cs ss) ≡ 0) (m : ℕ) (long : m ≡ file_length (length cs) (count p)) where
-    pub write_full : length row < m → leaving 5 0 row ≡ outcome p cs ss row
-    unfolding outcome
-    write_full h = result_full (refusals p cs ss) (file_length (length cs) (count p)) (file_of p cs ss) row tt free (omega (arith, long))
+    pub write_free : written (first_of (room (leb m (length row)))) (file_with false p cs ss) row ≡ outcome p cs ss row
+    unfolding outcome file
+    write_free =
+        ap (λ (k : ℕ). written (first_of (room (leb k (length row)))) (file_with false p cs ss) row) long
+        ∙ result_free (refusals p cs ss) (file_length (length cs) (count p)) (file_of p cs ss) row tt free
 
     module _ (h : m ≤ length row) where
       fits : file_length (length cs) (count p) ≤ length row
@@ -75,7 +83,3 @@ module _ (p : List ℤ) (cs ss : List (List ℕ)) (row : List ℕ) where
             all = regular_count narrow p cs ss r;
             room = omega (arith, fits, file_long narrow p cs ss r);
           }
-
-      pub write_done : (n : ℕ) (exit : List ℕ) → exit ≡ front (file_with false p cs ss) row → n ≡ length (file_with false p cs ss) → leaving 0 n exit ≡ outcome p cs ss row
-      unfolding outcome file
-      write_done n exit g e = result_done (refusals p cs ss) (file_length (length cs) (count p)) (file_of p cs ss) row tt free fits n exit e g

@@ -1,6 +1,7 @@
 -- What the functions that put a contour or a file hand to each other.
-use Rattle.std.proofs.Common.{◌≡◌, ℕ, ◌+◌, ◌*◌, ◌/◌, ◌^◌, ◌<◌, ◌≤◌, Bool, true, false, List, ◌++◌, length, ℤ, sym, ap, ◌∙◌, subst, arith, length-append}
-use mir.Val.{bool_byte}
+use Rattle.std.proofs.Common.{◌≡◌, ℕ, ◌+◌, ◌*◌, ◌/◌, ◌^◌, ◌<◌, ◌≤◌, Bool, true, false, List, [], ◌++◌, length, slice_index, slice_index_or, Bor, ℤ, refl, sym, ap, ◌∙◌, subst, arith, length-append}
+use Rattle.std.specs.Prelude.{Option, Some, None, option_map, IfSome}
+use Rattle.std.specs.Option.{is_some}
 use Rattle.grid.specs.Domain.{count}
 use Rattle.rows.specs.Rows.{front}
 use Rattle.rows.proofs.PlacedLaws.{placed_long}
@@ -13,15 +14,15 @@ use Rattle.bits.proofs.WordLaws.{EachByte, spelled-length, padded_field}
 use Rattle.bits.proofs.PenLaws.{wrote_both}
 use Rattle.steps.specs.Bodies.{contour_width, body}
 use Rattle.steps.specs.inside.Asked.{Writable}
-use Rattle.buffer.specs.Spans.{spans}
-use Rattle.buffer.specs.Sets.{shapes}
+use Rattle.buffer.specs.Spans.{span, spans}
+use Rattle.buffer.specs.Sets.{contour, shapes}
 use Rattle.setfile.specs.Entries.{Entry, entries}
 use Rattle.setfile.specs.Layouts.{file_bits}
 use Rattle.setfile.specs.Format as C1
 use Rattle.setfile.specs.Edition2 as C2
 use Rattle.setfile.specs.inside.Bytes.{coded_contour}
 use Rattle.setfile.specs.Editions.{number, layout}
-use Rattle.setfile.specs.inside.Writing.{Put, Room, most_kept, Penned, Inked, Countable, shapes_bits, file_with, Ripe}
+use Rattle.setfile.specs.inside.Writing.{Put, Room, most_kept, Penned, Inked, Countable, Widths, shapes_bits, file_with, Ripe}
 use Rattle.setfile.proofs.WriteLaws.{whole_room, put_wrote, lifted_long, lifted_front}
 use Rattle.setfile.proofs.CodedLaws.{whole_bytes, header_2, header_small, contour_is, head_number, file_is}
 
@@ -66,11 +67,6 @@ module _ (e : Entry) (p : Pen) (row : List ℕ) (h : Penned false p (C1.contour_
 
   pub contour_inked : {b : ℕ} {exit : List ℕ} → Put p.at (coded_contour e) row b exit → Inked false p (C1.contour_bits e) row (pen b 0 0) exit
   contour_inked u = record { wrote = put_wrote p (C1.contour_bits e) _ row h.small h.few (whole_bytes e) h.room u; few = omega arith }
-
--- a file's head, as the code computes it
-pub head_is : (second : Bool) (n : ℕ) → bool_byte second * 4096 + 4096 + n ≡ head_number second n
-head_is true n = omega arith
-head_is false n = omega arith
 
 -- a file, its head and behind that its shapes
 module _ {second : Bool} {p : List ℤ} {cs ss : List (List ℕ)} {row : List ℕ} (h : Ripe second p cs ss row) where
@@ -134,3 +130,29 @@ module _ {second : Bool} {p : List ℤ} {cs ss : List (List ℕ)} {row : List �
 
         pub file_ends : k ≡ length (file_with second p cs ss)
         file_ends = lifted_long all_wrote d known
+
+-- where the widths of n contours are given, those of fewer are
+pub fewer : (o : Option (Bor (List ℕ))) (p : List ℤ) (cs : List (List ℕ)) {m n : ℕ} → IfSome o (λ b. Widths p cs n b.now) → m ≤ n → IfSome o (λ b. Widths p cs m b.now)
+fewer None p cs h l = tt
+fewer (Some b) p cs h l = record { all = omega (arith, h.all); is = λ k q. h.is k (omega arith) }
+
+-- and that of each stands in its place
+pub width_there : (o : Option (Bor (List ℕ))) (p : List ℤ) (cs : List (List ℕ)) {k n : ℕ} → IfSome o (λ b. Widths p cs n b.now) → k < n → IfSome o (λ b. k < length b.now)
+width_there None p cs h l = tt
+width_there (Some b) p cs h l = omega (arith, h.all)
+
+-- the width that the code takes from there
+module _ (o : Option (Bor (List ℕ))) (k : ℕ) {w : Option ℕ} (e : w ≡ option_map (λ (b : Bor (List ℕ)). slice_index b.now k) o) where
+  pub width_kept : is_some w ≡ is_some o
+  width_kept = ap is_some e ∙ go o
+    where
+      go : (o : Option (Bor (List ℕ))) → is_some (option_map (λ (b : Bor (List ℕ)). slice_index b.now k) o) ≡ is_some o
+      go None = refl
+      go (Some b) = refl
+
+  pub width_right : (p : List ℤ) (cs : List (List ℕ)) {n : ℕ} {c : List ℤ} → IfSome o (λ b. Widths p cs n b.now) → k < n → c ≡ contour p (span (slice_index_or cs k [])) → IfSome w (λ v. v ≡ contour_width c)
+  width_right p cs {n} {c} h l part = subst (λ (w : Option ℕ). IfSome w (λ v. v ≡ contour_width c)) (sym e) (go o h)
+    where
+      go : (o : Option (Bor (List ℕ))) → IfSome o (λ b. Widths p cs n b.now) → IfSome (option_map (λ (b : Bor (List ℕ)). slice_index b.now k) o) (λ v. v ≡ contour_width c)
+      go None h = tt
+      go (Some b) h = h.is k l ∙ ap contour_width (sym part)

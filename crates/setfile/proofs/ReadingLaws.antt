@@ -1,24 +1,26 @@
 -- What reading answers and leaves, once the file is judged.
-use Rattle.std.proofs.Common.{◌≡◌, ℕ, zero, suc, ◌*◌, ◌/◌, ◌≤◌, Bool, true, false, not, ◌&&◌, eqb, leb, List, [], ◌∷◌, ◌++◌, length, ℤ, sym, refl, ap, ◌∙◌, ap₂, arith, le-leb, leb-false, leb-true}
+use Rattle.std.proofs.Common.{◌≡◌, ℕ, zero, suc, ◌*◌, ◌/◌, ◌≤◌, Bool, true, false, not, ◌&&◌, eqb, leb, List, [], ◌∷◌, ◌++◌, length, ℤ, sym, refl, ap, ◌∙◌, ap₂, arith, le-leb, leb-false, leb-true, ne_eqb}
 use lib.Dec.{eqb-suc-zero}
 use borrow.Author.Tests.{lt-leb}
 use Rattle.integers.proofs.Logic.{and_left, and_right}
+use Rattle.replies.specs.declared.refusal.Refusal.{Refusal}
+use Rattle.replies.specs.Refusals.{number as refusal_number}
+use Rattle.replies.proofs.RefusalLaws.{refusals_have_numbers}
 use Rattle.replies.specs.Ladder.{first_of, so_far, room}
 use Rattle.rows.specs.Rows.{front}
 use Rattle.replies.proofs.LadderLaws.{first_is, clear_of}
-use Rattle.replies.proofs.LadderLaws.First.{here, past}
+use Rattle.replies.proofs.LadderLaws.First.{here, past, foot}
 use Rattle.buffer.specs.declared.ranges.Span.{Span}
 use Rattle.buffer.specs.Spans.{rows}
 use Rattle.buffer.specs.Sets.{joined, contour_spans, shape_spans}
 use Rattle.buffer.specs.Answers as A
 use Rattle.buffer.specs.Answers.{packed, enough}
 use Rattle.buffer.proofs.AnswerLaws.{stored_refused, stored_done}
-use Rattle.setfile.specs.declared.inner.judging.Judged.{Judged}
 use Rattle.setfile.specs.Entries.{contours_of, shapes_of, damage}
 use Rattle.setfile.specs.Editions.{number, is_second, parsed}
 use Rattle.setfile.specs.declared.answer.Read.{Read}
 use Rattle.setfile.specs.Reading.{refusals, put, leaving, edition_told, with_edition, outcome}
-use Rattle.setfile.specs.inside.Reading.{contained, Readable, Counts, Judgement}
+use Rattle.setfile.specs.inside.Reading.{Judged, contained, Readable, Counts, Judgement}
 use Rattle.setfile.proofs.FillLaws.{contours_laid}
 use Rattle.setfile.proofs.ShapeFillLaws.{shapes_laid}
 
@@ -52,6 +54,16 @@ by_points n k m e = go (leb k m) refl
     go true h = le-leb n (m / 2) (omega (arith, leb-true k m h))
     go false h = lt-leb n (m / 2) (omega (arith, leb-false k m h))
 
+-- a refusal comes first whatever room there is, and where there is none the room decides
+pub refused_first : (r : Refusal) (b : Bool) → refusal_number r ≡ first_of (so_far (refusal_number r) ++ room b)
+refused_first r b = first_is (so_far (refusal_number r) ++ room b) (refusal_number r) (here (ap not (ne_eqb (refusal_number r) 0 (refusals_have_numbers r))))
+
+pub cramped : (b : Bool) → b ≡ false → 5 ≡ first_of (so_far 0 ++ room b)
+cramped b e = first_is (so_far 0 ++ room b) 5 (past refl (here (ap not e)))
+
+pub spacious : (b : Bool) → b ≡ true → 0 ≡ first_of (so_far 0 ++ room b)
+spacious b e = first_is (so_far 0 ++ room b) 0 (past refl (past (ap not e) foot))
+
 -- a file that is not refused, and the room for its set
 pub record Accepted (s : Bool) (f : List ℕ) (out : List ℤ) (cs ss : List (List ℕ)) (j : Judged) : Type 0 where
   pub readable : Readable s f j.contours
@@ -65,6 +77,10 @@ pub record Reading (s : Bool) (f : List ℕ) (out : List ℤ) (cs ss : List (Lis
   pub judgement : Judgement s f j
   pub with_room :
       r ≡ first_of (so_far j.reply ++ room (leb j.points (length out / 2) && leb j.contours (length cs) && leb j.shapes (length ss)))
+
+pub judged : {s : Bool} {f : List ℕ} (out : List ℤ) (cs ss : List (List ℕ)) {j : Judged} {r : ℕ} → s ≡ is_second f → Judgement s f j
+    → r ≡ first_of (so_far j.reply ++ room (leb j.points (length out / 2) && leb j.contours (length cs) && leb j.shapes (length ss))) → Reading s f out cs ss j r
+judged out cs ss own judgement with_room = record { own = own; judgement = judgement; with_room = with_room }
 
 module _ {s : Bool} {f : List ℕ} {out : List ℤ} {cs ss : List (List ℕ)} {j : Judged} {r : ℕ} (file : Reading s f out cs ss j r) where
   points : List ℤ

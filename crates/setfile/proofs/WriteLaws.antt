@@ -1,14 +1,14 @@
 -- Bytes and bits that are written part by part, each behind the one before it.
-use Rattle.std.proofs.Common.{◌≡◌, ℕ, suc, ◌+◌, ◌-◌, ◌*◌, ◌/◌, ◌%◌, ◌^◌, ◌<◌, ◌≤◌, Bool, List, [], ◌∷◌, ◌++◌, length, take, drop, set, sym, refl, ap, ◌∙◌, subst, ap₂, append_assoc, append-nil, arith, length-append, take-append-drop, length-take, length-take-le, get_or-take, drop-drop, take_at, drop_at}
-use lib.Seq.{sets-eq}
+use Rattle.std.proofs.Common.{◌≡◌, ℕ, ◌+◌, ◌-◌, ◌*◌, ◌/◌, ◌%◌, ◌^◌, ◌<◌, ◌≤◌, Bool, List, [], ◌∷◌, ◌++◌, length, take, drop, sym, refl, ap, ◌∙◌, subst, ap₂, append_assoc, append-nil, arith, length-append, take-append-drop, length-take, length-take-le, get_or-take, drop-drop, take_at, drop_at}
+use Rattle.std.specs.Int.{w16, to_be_bytes}
 use Rattle.rows.specs.Rows.{front, placed}
 use Rattle.bits.specs.declared.inner.pens.Pen.{Pen}
 use Rattle.bits.specs.Bits.{field, Bytes, bits, fill, padded}
 use Rattle.bits.specs.inside.Words.{spelled}
 use Rattle.bits.specs.inside.Pens.{pen, inked, reached, Wrote, Lifted}
 use Rattle.bits.proofs.BitLaws.{bits-append, bits_padded, bytes-length, padded_filled, padded-length}
-use Rattle.bits.proofs.WordLaws.{EachByte, spelled-length}
-use Rattle.bits.proofs.PenLaws.{wrote_none, wrote_both, four_stored as stored}
+use Rattle.bits.proofs.WordLaws.{EachByte}
+use Rattle.bits.proofs.PenLaws.{wrote_none, wrote_both}
 use Rattle.rows.proofs.PlacedLaws.{placed_none, placed_long, placed_behind}
 use Rattle.setfile.specs.inside.Writing.{Put, Room}
 
@@ -62,22 +62,13 @@ both_put {at} {b} {c} {d} {e} {row} {mid} {exit} h p q = record {
   behind = omega (arith, p.behind, q.behind, length-append d e);
 }
 
--- a number that is stored byte by byte
-pub two_stored : (row : List ℕ) (at n : ℕ) → Room at (spelled 2 n) row → Put at (spelled 2 n) row (at + 2) (set (set row at (n / 256 % 256)) (at + 1) (n % 256))
+-- two bytes as std spells them
+pub spelled_two : (n : ℕ) → to_be_bytes w16 (n % 65536) ≡ spelled 2 n
 unfolding spelled
-two_stored row at n h =
-    let a : at + 1 ≡ suc at = omega arith in
-    let z : n ≡ n / 1 = omega arith in
-    record {
-      is = rw a (ap (λ (m : ℕ). set (set row at (n / 256 % 256)) (suc at) (m % 256)) z ∙ sets-eq (n / 256 % 256 ∷ n / 1 % 256 ∷ []) row at h);
-      behind = refl;
-    }
-
-pub four_stored : (row : List ℕ) (at n : ℕ) → Room at (spelled 4 n) row
-    → Put at (spelled 4 n) row (at + 4) (set (set (set (set row at (n / 16777216 % 256)) (at + 1) (n / 65536 % 256)) (at + 2) (n / 256 % 256)) (at + 3) (n % 256))
-four_stored row at n h =
-    let l : length (spelled 4 n) ≡ 4 = spelled-length 4 n in
-    record { is = stored row at n (omega arith); behind = omega arith }
+spelled_two n =
+    let high : n % 65536 / 256 % 256 ≡ n / 256 % 256 = omega arith in
+    let low : n % 65536 % 256 ≡ n / 1 % 256 = omega arith in
+    ap₂ (λ (h l : ℕ). h ∷ l ∷ []) high low
 
 -- bits that are left to write behind the pen
 pub record Inking (p : Pen) (all : List Bool) (row₀ : List ℕ) (q : Pen) (rest : List Bool) (row : List ℕ) : Type 0 where

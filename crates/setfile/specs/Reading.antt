@@ -1,9 +1,12 @@
 -- What reading a file of either edition answers, and what it leaves in the rows that are lent to it.
-use Rattle.std.specs.Prelude.{ℕ, zero, suc, Bool, List, [], ◌∷◌, ◌++◌, length, ℤ, nat_lt}
+use Rattle.std.specs.Prelude.{Result, Ok, Err, ℕ, zero, suc, Bool, List, [], ◌∷◌, ◌++◌, length, ℤ, nat_lt}
 use Rattle.replies.specs.Ladder.{Rung, so_far}
 use Rattle.grid.specs.Domain.{off}
 use Rattle.buffer.specs.Sets.{joined, contour_spans, shape_spans}
 use Rattle.buffer.specs.Answers as A
+use Rattle.replies.specs.declared.refusal.Refusal.{Refusal}
+use Rattle.replies.specs.Refusals.{number as number_of}
+use Rattle.setfile.specs.declared.answer.Carried.{Carried}
 use Rattle.setfile.specs.declared.answer.Read.{Read}
 use Rattle.setfile.specs.Entries.{Entry, contours_of, shapes_of, damage, read_contours}
 use Rattle.setfile.specs.Editions.{number, bound, is_second, parsed}
@@ -24,6 +27,11 @@ refusals f = long (length f) ++ so_far (damage (parsed f)) ++ off (bound (is_sec
 abbrev pub put : List Rung → List Entry → List ℤ → List (List ℕ) → List (List ℕ) → A.Outcome
 put refusals l out contours shapes =
     A.stored refusals (joined (contours_of l)) (contour_spans (contours_of l)) (shape_spans (shapes_of l)) out contours shapes
+
+-- what a file carries or its refusal, as C has it
+abbrev pub read_as : Result Carried Refusal → Read
+read_as (Ok c) = record { reply = 0; edition = c.edition; points = c.sizes.points; contours = c.sizes.contours; shapes = c.sizes.shapes }
+read_as (Err r) = record { reply = number_of r; edition = 0; points = 0; contours = 0; shapes = 0 }
 
 -- the answer, and the rows as they are left
 pub record Outcome : Type 0 where

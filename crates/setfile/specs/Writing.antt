@@ -1,5 +1,5 @@
 -- What writing a file answers, and what it leaves in the row of bytes.
-use Rattle.std.specs.Prelude.{ℕ, zero, suc, Bool, false, ◌&&◌, ◌||◌, List, [], ◌∷◌, ◌++◌, length, ℤ, ◌==◌, nat_le, nat_lt}
+use Rattle.std.specs.Prelude.{Result, Ok, Err, ℕ, zero, suc, Bool, false, ◌&&◌, ◌||◌, List, [], ◌∷◌, ◌++◌, length, ℤ, ◌==◌, nat_le, nat_lt}
 use Rattle.replies.specs.Ladder.{Rung, first_of, room}
 use Rattle.grid.specs.Limits.{narrow}
 use Rattle.grid.specs.Domain.{count, size, off}
@@ -8,6 +8,8 @@ use Rattle.buffer.specs.declared.ranges.Span.{Span}
 use Rattle.buffer.specs.Spans.{spans, sound, size as span_size}
 use Rattle.buffer.specs.Sets.{shapes}
 use Rattle.buffer.specs.Refusals.{unsound}
+use Rattle.replies.specs.declared.refusal.Refusal.{Refusal}
+use Rattle.replies.specs.Refusals.{number}
 use Rattle.setfile.specs.declared.answer.Written.{Written}
 use Rattle.setfile.specs.Entries.{entries}
 use Rattle.setfile.specs.Format.{file, file_length}
@@ -41,6 +43,11 @@ refusals p cs ss =
     size p ++ long (file_length (length cs) (count p))
     ++ unsound (sound (spans cs) (count p) && sound (spans ss) (length cs))
     ++ off narrow p ++ uncarried (spans cs) (spans ss)
+
+-- how many bytes were written or why none was, as C has it
+abbrev pub written_as : Result ℕ Refusal → Written
+written_as (Ok n) = record { reply = 0; bytes = n }
+written_as (Err r) = record { reply = number r; bytes = 0 }
 
 -- the answer, and the row of bytes as it is left
 pub record Outcome : Type 0 where

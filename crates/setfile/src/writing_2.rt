@@ -1,31 +1,12 @@
-// The writer of edition 2: a set's file, or the number of the set's first refusal.
+// The writer of edition 2: a set's file, or the set's first refusal.
 ghost use Rattle.std.specs.Prelude.{◌≡◌};
-ghost use Rattle.replies.specs.Ladder.{first_of};
-ghost use Rattle.setfile.specs.Writing.{leaving};
-ghost use Rattle.setfile.specs.Writing2.{set_refusals, outcome};
+ghost use Rattle.setfile.specs.Writing.{written_as, leaving};
+ghost use Rattle.setfile.specs.Writing2.{outcome};
 
-use crate::answer::Written;
-use crate::inner::{measuring, putting};
+use crate::inner::measuring;
+use crate::writing::{check_set, put_in_room};
 use crate::{MOST_BYTES, MOST_CONTOURS};
-
-// The most points of a contour in a file.
-const MOST_POINTS: usize = 32_767;
-
-// What is refused of a set before its file's length is known: 0, or the number of its first refusal.
-fn refused(points: &[i32], contours: &[[usize; 2]], shapes: &[[usize; 2]]) -> u32
-    ensures { result ≡ first_of (set_refusals points.now contours.now shapes.now) }
-{
-    let set = buffer::inner::refusing::shapes(grid::LIMIT, points, contours, shapes);
-    if set != 0 {
-        return set;
-    }
-    let long = measuring::longer(contours, MOST_POINTS);
-    let filled = measuring::longer(shapes, 0);
-    if (MOST_CONTOURS < contours.len()) | (0 < long) | (filled < shapes.len()) {
-        return replies::CANT_CARRY;
-    }
-    replies::DONE
-}
+use replies::Refusal;
 
 // Writes the file of a set to the front of the row, unless the set is refused.
 pub fn write_2(
@@ -33,35 +14,16 @@ pub fn write_2(
     contours: &[[usize; 2]],
     shapes: &[[usize; 2]],
     bytes: &mut [u8],
-) -> Written
-    ensures { leaving result.reply result.bytes bytes.new
+) -> Result<usize, Refusal>
+    ensures { leaving (written_as result).reply (written_as result).bytes bytes.new
         ≡ outcome points.now contours.now shapes.now
         bytes.old }
 {
-    let refusal = refused(points, contours, shapes);
-    if refusal != 0 {
-        return Written {
-            reply: refusal,
-            bytes: 0,
-        };
-    }
+    check_set(grid::LIMIT, points, contours, shapes)?;
     let mut widths = [0u8; MOST_CONTOURS];
     let length = measuring::file_length(points, contours, &mut widths);
     if MOST_BYTES < length {
-        return Written {
-            reply: replies::TOO_MANY,
-            bytes: 0,
-        };
+        return Err(Refusal::TooMany);
     }
-    if bytes.len() < length {
-        return Written {
-            reply: replies::ROOM,
-            bytes: 0,
-        };
-    }
-    let written = putting::put_file(true, points, contours, shapes, &widths, bytes);
-    Written {
-        reply: replies::DONE,
-        bytes: written,
-    }
+    put_in_room(points, contours, shapes, Some(&widths), length, bytes)
 }

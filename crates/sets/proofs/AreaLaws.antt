@@ -1,13 +1,16 @@
 -- The area of a set, contour by contour.
-use Rattle.std.proofs.Common.{◌≡◌, ℕ, ◌+◌, ◌%◌, ◌^◌, ◌<◌, ◌≤◌, true, false, not, T, List, [], length, get_or, drop, ℤ, pos, ◌+ℤ◌, sym, refl, ap, ◌∙◌, arith, w64, to_z, ne_eqb}
-use lib.IntN.{+ℤ_assoc, +ℤ_comm, +ℤ_idl, +ℤ_idr}
+use Rattle.std.proofs.Common.{Err, ◌≡◌, ℕ, ◌+◌, ◌<◌, ◌≤◌, true, false, T, List, [], length, get_or, drop, ℤ, pos, negsuc, ◌+ℤ◌, sym, refl, ap, ◌∙◌, arith, w64, to_z, SFits}
+use lib.IntN.{+ℤ_assoc, +ℤ_idr}
+use Rattle.std.specs.Int.{int_wrap}
+use Rattle.std.proofs.lemmas.Int.{int_wrap_fits, int_wrap-add_left}
 use Rattle.integers.specs.Modulo.{mod64}
-use Rattle.integers.proofs.Modulo.{mod64_add, wrap_add}
 use Rattle.grid.specs.Points.{points}
 use Rattle.grid.specs.Area.{wrapped, reported}
-use Rattle.replies.specs.Ladder.{Rung, first_of, so_far}
-use Rattle.replies.proofs.LadderLaws.{first_is, numbered, so_far_then}
-use Rattle.replies.proofs.LadderLaws.First.{here}
+use Rattle.replies.specs.declared.refusal.Refusal.{Refusal}
+use Rattle.replies.specs.Refusals.{number}
+use Rattle.replies.specs.Ladder.{Rung, first_of}
+use Rattle.replies.proofs.LadderLaws.{numbered}
+use Rattle.replies.proofs.RefusalLaws.{refusals_have_numbers, refused_so_far, asked_further}
 use Rattle.area.specs.Answers as A
 use Rattle.area.proofs.AnswerLaws.{answer_refused, answer_half}
 use Rattle.buffer.specs.Spans.{span, spans}
@@ -16,11 +19,11 @@ use Rattle.sets.specs.Verdicts.{every}
 use Rattle.sets.specs.Area.{filled, empty, sum, reported_sum, area_refusals, doubled_by, half_by, half_of}
 use Rattle.sets.proofs.PartLaws.{next_part, no_part, Rest, one_passes}
 
--- a number's residue goes onto a sum
-added : (s b r : ℕ) (v t : ℤ) → b ≡ mod64 v → r ≡ (s + b) % 2 ^ 64 → mod64 (pos s +ℤ (v +ℤ t)) ≡ mod64 (pos r +ℤ t)
-added s b r v t e f =
-    let g : r ≡ mod64 (pos s +ℤ v) = wrap_add s b r f ∙ ap mod64 (+ℤ_comm (pos s) (pos b)) ∙ ap (λ (n : ℕ). mod64 (pos n +ℤ pos s)) e ∙ mod64_add v (pos s) ∙ ap mod64 (+ℤ_comm v (pos s)) in
-    ap mod64 (sym (+ℤ_assoc (pos s) v t)) ∙ sym (mod64_add (pos s +ℤ v) t) ∙ ap (λ (n : ℕ). mod64 (pos n +ℤ t)) (sym g)
+-- the library's name for what is left of an integer in 64 bits
+pub wrap_is : (z : ℤ) → int_wrap w64 z ≡ wrapped z
+unfolding int_wrap wrapped mod64
+wrap_is (pos n) = refl
+wrap_is (negsuc n) = ap (to_z w64) (omega arith)
 
 -- the answers of a set with these contours
 module _ (set : List (List ℤ)) where
@@ -32,19 +35,15 @@ module _ (set : List (List ℤ)) where
   unfolding doubled_by first_of
   set_filled v e f = rw (f, e)
 
-  -- it was refused with the number k, or was not
-  module _ (k : ℕ) where
-    pub set_refused : (k ≡ 0 → ⊥) → record { reply = k; value = pos 0 } ≡ doubled_by (so_far k) set
+  -- a set that is refused, and one that is not
+  module _ (refusals : List Rung) where
+    pub set_refused : (r : Refusal) → number r ≡ first_of refusals → A.answered (Err r) ≡ doubled_by refusals set
     unfolding doubled_by
-    set_refused n = rw (← first_is (area_refusals (so_far k) set) k (here (ap not (ne_eqb k 0 n)))) (answer_refused k _ n)
+    set_refused r e = rw (← refused_so_far refusals (empty set) r e) (answer_refused (number r) _ (refusals_have_numbers r))
 
-    pub set_taken : k ≡ 0 → doubled_by [] set ≡ doubled_by (so_far k) set
-    unfolding doubled_by first_of
-    set_taken z = rw z
-
-    pub set_doubled : (refusals : List Rung) → T (numbered refusals) → k ≡ first_of refusals → doubled_by (so_far k) set ≡ doubled_by refusals set
+    pub set_taken : T (numbered refusals) → 0 ≡ first_of refusals → doubled_by [] set ≡ doubled_by refusals set
     unfolding doubled_by
-    set_doubled refusals t e = ap (λ (r : ℕ). A.answer r (reported_sum set)) (so_far_then refusals (empty set) t k _ e refl)
+    set_taken t e = ap (λ (k : ℕ). A.answer k (reported_sum set)) (asked_further refusals (empty set) t e refl)
 
   pub set_half : (refusals : List Rung) → half_of (doubled_by refusals set) ≡ half_by refusals set
   unfolding doubled_by half_by
@@ -55,27 +54,25 @@ module _ (p : List ℤ) (cs : List (List ℕ)) where
   abbrev set : List (List ℤ)
   set = contours p (spans cs)
 
-  pub record Gathered (s i : ℕ) : Type 0 where
-    pub within : i ≤ length cs
-    pub small : s < 2 ^ 64
+  -- a loop's sum of those before number i
+  pub record Gathered (s : ℤ) (i : ℕ) : Type 0 where
     pub rest : Rest filled p cs 0 i
-    pub is : mod64 (sum set) ≡ mod64 (pos s +ℤ sum (drop i set))
+    pub is : int_wrap w64 (sum set) ≡ int_wrap w64 (s +ℤ sum (drop i set))
 
-  pub gathered_none : Gathered 0 0
-  gathered_none = record { within = omega arith; small = omega arith; rest = refl; is = ap mod64 (sym (+ℤ_idl (sum set))) }
-
-  module _ {s i : ℕ} (g : Gathered s i) where
-    pub gathered_more : i < length cs → (b r : ℕ) → filled (contour p (span (get_or cs i []))) ≡ true → b ≡ mod64 (reported (points (contour p (span (get_or cs i []))))) → r ≡ (s + b) % 2 ^ 64 → Gathered r (i + 1)
+  module _ {s : ℤ} {i : ℕ} (g : Gathered s i) where
+    pub gathered_more : i < length cs → (r : ℤ) → filled (contour p (span (get_or cs i []))) ≡ true → r ≡ int_wrap w64 (s +ℤ reported (points (contour p (span (get_or cs i []))))) → Gathered r (i + 1)
     unfolding sum
-    gathered_more h b r n e f = record {
-      within = omega arith;
-      small = omega arith;
-      rest = one_passes filled p cs 0 i g.rest h n;
-      is = g.is ∙ ap (λ (l : List (List ℤ)). mod64 (pos s +ℤ sum l)) (next_part p cs i h) ∙ added s b r (reported (points (contour p (span (get_or cs i []))))) (sum (drop (i + 1) set)) e f;
-    }
+    gathered_more h r n e =
+        let v = reported (points (contour p (span (get_or cs i [])))) in
+        let t = sum (drop (i + 1) set) in
+        record {
+          rest = one_passes filled p cs 0 i g.rest h n;
+          is = g.is ∙ ap (λ (l : List (List ℤ)). int_wrap w64 (s +ℤ sum l)) (next_part p cs i h)
+              ∙ ap (int_wrap w64) (sym (+ℤ_assoc s v t)) ∙ sym (ap (λ (z : ℤ). int_wrap w64 (z +ℤ t)) e ∙ int_wrap-add_left w64 (s +ℤ v) t);
+        }
 
-    pub gathered_all : length cs ≤ i → to_z w64 s ≡ reported_sum set
-    unfolding sum wrapped mod64
-    gathered_all h =
-        let k : mod64 (sum set) ≡ s = g.is ∙ ap (λ (l : List (List ℤ)). mod64 (pos s +ℤ sum l)) (no_part p cs i h) ∙ ap mod64 (+ℤ_idr (pos s)) ∙ omega (arith, g.small) in
-        rw k
+    pub gathered_all : length cs ≤ i → SFits w64 s → s ≡ reported_sum set
+    unfolding sum
+    gathered_all h f =
+        sym (int_wrap_fits w64 s f) ∙ ap (int_wrap w64) (sym (+ℤ_idr s)) ∙ ap (λ (l : List (List ℤ)). int_wrap w64 (s +ℤ sum l)) (sym (no_part p cs i h))
+        ∙ sym g.is ∙ wrap_is (sum set)

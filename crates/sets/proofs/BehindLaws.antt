@@ -1,5 +1,5 @@
 -- A contour that is cleaned behind what is output-of.
-use Rattle.std.proofs.Common.{◌≡◌, ℕ, zero, suc, ◌+◌, ◌-◌, ◌*◌, ◌^◌, ◌<◌, ◌≤◌, Bool, true, false, List, [], ◌∷◌, ◌++◌, map, length, get_or, take, drop, set, ℤ, sym, refl, ap, ◌∙◌, append_assoc, append-nil, arith, length-append, length-drop, take-append-drop, drop_of_length-le, length-take-le, take_all, drop-drop}
+use Rattle.std.proofs.Common.{◌≡◌, ℕ, zero, suc, ◌+◌, ◌-◌, ◌*◌, ◌^◌, ◌<◌, ◌≤◌, Bool, true, List, [], ◌∷◌, ◌++◌, map, length, get_or, take, drop, ℤ, sym, refl, ap, ◌∙◌, append_assoc, append-nil, arith, length-append, length-drop, drop_of_length-le, length-take-le, take_all, drop-drop}
 use borrow.Rule.Slice.PartMut.{mid_of, put_mid, put_same}
 use Rattle.grid.specs.Limits.{limit}
 use Rattle.grid.specs.Domain.{count, Contour}
@@ -21,11 +21,6 @@ use Rattle.sets.specs.inside.Contour.{Scratch, Cleanable, answer_of, output_of, 
 use Rattle.sets.specs.inside.Shape.{Room, Named}
 use Rattle.sets.specs.Promises.{Contours, AllContours}
 use Rattle.sets.proofs.FateLaws.{Smaller, fate_smaller}
-
--- a part in front of a row, put back as long as it was
-pub back_long : {A : Type 0} (n : ℕ) (row row' : List A) → length row' ≡ length (take n row) → length (row' ++ drop n row) ≡ length row
-back_long n row row' e =
-    length-append row' (drop n row) ∙ ap (λ (k : ℕ). k + length (drop n row)) e ∙ sym (length-append (take n row) (drop n row)) ∙ ap length (take-append-drop n row)
 
 -- the part behind what is output-of, lent and put back
 module _ {A : Type 0} (a : ℕ) (xs : List A) where
@@ -54,20 +49,6 @@ ready c next prev mark out x =
       prev_long = length-take-le (count c) prev x.scratch.in_prev ∙ sym m;
       room = x.room;
     }
-
--- how far the cleaning has come with a contour, by its reply
-module _ (r : Cleaned) (at : Progress) (ranges : List (List ℕ)) where
-  pub noting_gone : (k : ℕ) → (k ≡ 0 → ⊥)
-      → noted (record { stays = false; progress = record { points = at.points; contours = at.contours; decisions = at.decisions + r.decisions; turns = at.turns + r.turns } }) ranges ≡ noting k r at ranges
-  noting_gone zero n = absurd (n refl)
-  noting_gone (suc k) n = refl
-
-  pub noting_stays : (k : ℕ) → k ≡ 0
-      → noted (record { stays = true; progress = record { points = at.points + r.points; contours = at.contours + 1; decisions = at.decisions + r.decisions; turns = at.turns + r.turns } })
-      (set ranges at.contours (at.points ∷ (at.points + r.points) ∷ []))
-      ≡ noting k r at ranges
-  noting_stays zero e = refl
-  noting_stays (suc k) e = absurd (omega arith)
 
 -- the output that it is lent
 pub cleanable_behind : (c : List ℤ) (at : Progress) (next prev mark : List ℕ) (out : List ℤ) (records : List (List ℕ)) → Placeable c at next prev mark out records

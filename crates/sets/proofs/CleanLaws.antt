@@ -1,13 +1,16 @@
 -- What cleaning a shape, and cleaning shapes, comes to.
-use Rattle.std.proofs.Common.{◌≡◌, ℕ, zero, suc, ◌*◌, ◌^◌, ◌<◌, ◌≤◌, Bool, true, false, not, ◌&&◌, leb, List, [], ◌++◌, map, length, take, drop, replicate, ℤ, sym, refl, ap, ◌∙◌, ap₂, arith, length-take-le, ltb-false, le-leb, leb-true}
+use Rattle.std.proofs.Common.{Err, ◌≡◌, ℕ, zero, suc, ◌*◌, ◌^◌, ◌<◌, ◌≤◌, Bool, true, ◌&&◌, leb, List, [], ◌++◌, map, length, take, drop, replicate, ℤ, sym, refl, ap, ◌∙◌, ap₂, arith, length-take-le, ltb-false, le-leb, leb-true}
 use mathlib.Core.Bool.{and-true}
 use lib.ListN.{length-replicate, length-map}
-use borrow.Author.Tests.{not-true, not-false}
+use borrow.Author.Tests.{not-false}
 use Rattle.integers.proofs.Logic.{and_left, and_right}
-use Rattle.replies.specs.Ladder.{Rung, first_of, room, so_far}
+use Rattle.replies.specs.declared.refusal.Refusal.{Refusal}
+use Rattle.replies.specs.Refusals.{number}
+use Rattle.replies.specs.Ladder.{Rung, first_of, room}
 use Rattle.grid.specs.Limits.{limit, narrow}
 use Rattle.grid.specs.Domain.{count}
-use Rattle.replies.proofs.LadderLaws.{clear, cleared, so_far_then}
+use Rattle.replies.proofs.LadderLaws.{clear, cleared}
+use Rattle.replies.proofs.RefusalLaws.{refusals_have_numbers, asked_further}
 use Rattle.ring.specs.declared.Rule.{Rule}
 use Rattle.clean.specs.Outcome.{scratch}
 use Rattle.rows.specs.Rows.{zeroed}
@@ -19,12 +22,11 @@ use Rattle.buffer.proofs.RefusalLaws.{Accepted, accepted}
 use Rattle.rows.proofs.RowLaws.{placed_front}
 use Rattle.buffer.proofs.Theorems.{a_sound_set's_contours_laid_end_to_end_are_its_points, a_sound_set's_shapes_laid_end_to_end_are_its_contours}
 use Rattle.sets.specs.declared.cleaning.CleanedSet.{CleanedSet}
-use Rattle.sets.specs.declared.inner.contour.Progress.{Progress}
 use Rattle.sets.specs.declared.inner.contour.Tried.{Tried}
 use Rattle.sets.specs.declared.inner.shapes.Total.{Total}
 use Rattle.sets.specs.Fates.{ShapeFate, shape_fate, shapes_fate}
 use Rattle.sets.specs.Fates.ShapeFate.{stands, fallen}
-use Rattle.sets.specs.Outcome.{answer, Lent, Outcome, lent, leaving, enough, lacking, outcome, cleaned_shape, shape_outcome, shapes_outcome}
+use Rattle.sets.specs.Outcome.{answer, cleaned_as, Lent, Outcome, lent, leaving, lacking, outcome, cleaned_shape, shape_outcome, shapes_outcome}
 use Rattle.sets.specs.inside.Contour.{reached, none_yet, Scratch}
 use Rattle.sets.specs.inside.Shape.{Tested, tested, run_shape, Zeroed, Room, Named, Going, shape_answer}
 use Rattle.sets.specs.inside.Shapes.{Grouped, grouped, run_shapes, Each}
@@ -52,27 +54,17 @@ zeroed_whole z e f g = record {
   mark-zero = z.mark-zero ∙ ap (λ (n : ℕ). replicate n 0) g;
 }
 
--- the answer of a shape, by whether it stands
-pub answered_fallen : (b : Bool) (at : Progress) (a : CleanedSet) → a ≡ answer 7 0 0 0 at.decisions at.turns → not b ≡ true → a ≡ shape_answer b at
-answered_fallen b at a e n = e ∙ ap (λ (t : Bool). shape_answer t at) (sym (not-true b n))
-
-pub answered_kept : (b : Bool) (at : Progress) → not b ≡ false → answer 0 at.points at.contours 1 at.decisions at.turns ≡ shape_answer b at
-answered_kept b at n = ap (λ (t : Bool). shape_answer t at) (sym (not-false b n))
-
 -- a set and the rows that are lent; its ranges are sound, or not
 module _ (p : List ℤ) (cs ss : List (List ℕ)) (ok : Bool) (l : Lent) where
   abbrev pub rungs : List Rung
   rungs = set limit p ok ++ lacking p cs ss l
 
-  pub first_refusal : (asked : ℕ) (roomy : Bool) (r : ℕ) → asked ≡ first_of (set limit p ok) → roomy ≡ enough p cs ss l
-      → r ≡ first_of (so_far asked ++ (scratch (count p) (length l.next) (length l.prev) (length l.mark) ++ room roomy)) → r ≡ first_of rungs
-  first_refusal asked roomy r e f g =
-      so_far_then (set limit p ok) _ tt asked r e
-      (g ∙ ap (λ (b : Bool). first_of (so_far asked ++ (scratch (count p) (length l.next) (length l.prev) (length l.mark) ++ room b))) f)
+  refused_by : (done : Outcome) (k : ℕ) → k ≡ first_of rungs → (k ≡ 0 → ⊥) → leaving (answer k 0 0 0 0 0) l ≡ outcome (first_of rungs) l done
+  refused_by done zero e n = absurd (n refl)
+  refused_by done (suc k) e n = ap (λ (r : ℕ). outcome r l done) e
 
-  pub refused : (done : Outcome) (r : ℕ) → r ≡ first_of rungs → (r ≡ 0 → ⊥) → (a : CleanedSet) → a ≡ answer r 0 0 0 0 0 → leaving a l ≡ outcome (first_of rungs) l done
-  refused done zero e n a f = absurd (n refl)
-  refused done (suc k) e n a f = ap (λ (b : CleanedSet). leaving b l) f ∙ ap (λ (r : ℕ). outcome r l done) e
+  pub refused : (done : Outcome) (r : Refusal) → number r ≡ first_of rungs → leaving (cleaned_as (Err r)) l ≡ outcome (first_of rungs) l done
+  refused done r e = refused_by done (number r) e (refusals_have_numbers r)
 
   module _ (z : first_of rungs ≡ 0) where
     parts : (first_of (set limit p ok) ≡ 0) × (first_of (lacking p cs ss l) ≡ 0)
@@ -143,15 +135,17 @@ module _ (p : List ℤ) (cs : List (List ℕ)) (l : Lent) where
   abbrev pub shape_rungs : List Rung
   shape_rungs = rungs p cs [] contours_sound l
 
-  pub shape_first : (asked : ℕ) (roomy : Bool) (r : ℕ) → asked ≡ first_of (set limit p contours_sound) → roomy ≡ (leb (length p) (length l.points) && leb (length cs) (length l.contours))
-      → r ≡ first_of (so_far asked ++ (scratch (count p) (length l.next) (length l.prev) (length l.mark) ++ room roomy)) → r ≡ first_of shape_rungs
-  shape_first asked roomy r e f g =
+  pub shape_first : {k : ℕ} → 0 ≡ first_of (set limit p contours_sound)
+      → k ≡ first_of (scratch (count p) (length l.next) (length l.prev) (length l.mark) ++ room (leb (length p) (length l.points) && leb (length cs) (length l.contours)))
+      → k ≡ first_of shape_rungs
+  shape_first e f =
       let n : leb 0 (length l.shapes) ≡ true = le-leb 0 (length l.shapes) (omega arith) in
-      first_refusal p cs [] contours_sound l asked roomy r e (f ∙ rw n (sym (and-true _))) g
+      asked_further (set limit p contours_sound) _ tt e
+      (f ∙ ap (λ (b : Bool). first_of (scratch (count p) (length l.next) (length l.prev) (length l.mark) ++ room b)) (rw n (sym (and-true _))))
 
-  pub shape_refused : (rule : Rule) (r : ℕ) → r ≡ first_of shape_rungs → (r ≡ 0 → ⊥) → (a : CleanedSet) → a ≡ answer r 0 0 0 0 0 → leaving a l ≡ shape_outcome rule p cs l
+  pub shape_refused : (rule : Rule) (r : Refusal) → number r ≡ first_of shape_rungs → leaving (cleaned_as (Err r)) l ≡ shape_outcome rule p cs l
   unfolding shape_outcome
-  shape_refused rule r e n a f = refused p cs [] contours_sound l _ r e n a f
+  shape_refused rule r e = refused p cs [] contours_sound l _ r e
 
   module _ (z : first_of shape_rungs ≡ 0) (few : length cs * 16 < 2 ^ 64) where
     named : Named p cs
@@ -206,13 +200,12 @@ module _ (p : List ℤ) (cs ss : List (List ℕ)) (l : Lent) where
   abbrev pub shapes_rungs : List Rung
   shapes_rungs = rungs p cs ss both_sound l
 
-  pub shapes_first : (asked : ℕ) (roomy : Bool) (r : ℕ) → asked ≡ first_of (set limit p both_sound) → roomy ≡ enough p cs ss l
-      → r ≡ first_of (so_far asked ++ (scratch (count p) (length l.next) (length l.prev) (length l.mark) ++ room roomy)) → r ≡ first_of shapes_rungs
-  shapes_first = first_refusal p cs ss both_sound l
+  pub shapes_first : {k : ℕ} → 0 ≡ first_of (set limit p both_sound) → k ≡ first_of (lacking p cs ss l) → k ≡ first_of shapes_rungs
+  shapes_first e f = asked_further (set limit p both_sound) (lacking p cs ss l) tt e f
 
-  pub shapes_refused : (rule : Rule) (r : ℕ) → r ≡ first_of shapes_rungs → (r ≡ 0 → ⊥) → (a : CleanedSet) → a ≡ answer r 0 0 0 0 0 → leaving a l ≡ shapes_outcome rule p cs ss l
+  pub shapes_refused : (rule : Rule) (r : Refusal) → number r ≡ first_of shapes_rungs → leaving (cleaned_as (Err r)) l ≡ shapes_outcome rule p cs ss l
   unfolding shapes_outcome
-  shapes_refused rule r e n a f = refused p cs ss both_sound l _ r e n a f
+  shapes_refused rule r e = refused p cs ss both_sound l _ r e
 
   module _ (z : first_of shapes_rungs ≡ 0) (few : length cs * 16 < 2 ^ 64) (less : length ss * 16 < 2 ^ 64) where
     ranges_sound : (sound (spans cs) (count p) ≡ true) × (sound (spans ss) (length cs) ≡ true)

@@ -1,7 +1,6 @@
 -- Shapes that are cleaned one after the other.
-use Rattle.std.proofs.Common.{◌≡◌, ℕ, zero, suc, ◌+◌, ◌-◌, ◌<◌, ◌≤◌, Bool, true, false, eqb, List, [], ◌∷◌, ◌++◌, map, length, get_or, take, drop, ℤ, sym, refl, ap, ◌∙◌, subst, ap₂, append-nil, add-one, arith, length-append, length-drop, length-set, length-take-le, get_or-drop, drop-cons, get_or-take, eq-eqb, ne_eqb}
+use Rattle.std.proofs.Common.{◌≡◌, ℕ, zero, suc, ◌+◌, ◌-◌, ◌<◌, ◌≤◌, Bool, true, false, eqb, List, [], ◌∷◌, ◌++◌, map, length, get_or, take, drop, ℤ, sym, refl, ap, ◌∙◌, subst, ap₂, append-nil, add-one, arith, length-append, length-drop, length-set, length-take-le, drop_of_length-le, get_or-drop, drop-cons, get_or-take, eq-eqb, ne_eqb}
 use lib.ListN.{length-map}
-use lib.Seq.{drop-length}
 use borrow.Rule.Slice.PartMut.{mid_of}
 use Rattle.ring.specs.declared.Rule.{Rule}
 use Rattle.buffer.specs.Spans.{span, spans, row}
@@ -84,12 +83,18 @@ shape_part p cs a k =
     ap (contours p) (map-take span k (drop a cs) ∙ ap (take k) (map-drop span a cs))
     ∙ map-take (contour p) k (drop a (spans cs)) ∙ ap (take k) (map-drop (contour p) a (spans cs))
 
+-- and they name what the ranges of the whole row named
+pub named_part : (p : List ℤ) (cs : List (List ℕ)) → Named p cs → (a k : ℕ) → a + k ≤ length cs → Named p (mid_of a k cs)
+named_part p cs n a k h = record {
+  domain = n.domain;
+  names = λ j l.
+      let long = length-take-le k (drop a cs) (omega (arith, length-drop a cs)) in
+      names_moved p cs (mid_of a k cs) (a + j) j (get_or-take k (drop a cs) j [] (omega arith) ∙ get_or-drop a cs j []) l (n.names (a + j) (omega arith));
+}
+
 -- the shapes of the ranges from i on are left
 pub record Grouping (rule : Rule) (p : List ℤ) (cs ss : List (List ℕ)) (out₀ : List ℤ) (records₀ groups₀ : List (List ℕ)) (at : Total) (out : List ℤ) (records groups : List (List ℕ)) (i : ℕ) : Type 0 where
-  pub high : i ≤ length ss
   pub low : at.shapes ≤ i
-  pub out_long : length out ≡ length out₀
-  pub records_long : length records ≡ length records₀
   pub groups_long : length groups ≡ length groups₀
   pub room : Room (joined (shapes p (spans cs) (spans (drop i ss)))) at.progress out records
   pub is : run_shapes rule (shapes p (spans cs) (spans (drop i ss))) (grouped at.shapes (reached at.progress out records) groups)
@@ -109,7 +114,7 @@ adding_long false r s = refl
 
 pub grouping_none : (rule : Rule) (p : List ℤ) (cs ss : List (List ℕ)) (next prev mark : List ℕ) (out : List ℤ) (records groups : List (List ℕ)) → Each p cs ss next prev mark out records groups
     → Grouping rule p cs ss out records groups (record { shapes = 0; progress = none_yet }) out records groups 0
-grouping_none rule p cs ss next prev mark out records groups e = record { high = omega arith; low = omega arith; out_long = refl; records_long = refl; groups_long = refl; room = e.room; is = refl }
+grouping_none rule p cs ss next prev mark out records groups e = record { low = omega arith; groups_long = refl; room = e.room; is = refl }
 
 module _ {rule : Rule} {p : List ℤ} {cs ss : List (List ℕ)} {out₀ : List ℤ} {records₀ groups₀ : List (List ℕ)} {at : Total} {out : List ℤ} {records groups : List (List ℕ)} {i : ℕ}
     (x : Grouping rule p cs ss out₀ records₀ groups₀ at out records groups i) where
@@ -122,12 +127,7 @@ module _ {rule : Rule} {p : List ℤ} {cs ss : List (List ℕ)} {out₀ : List �
 
     part_named : Named p (mid_of a k cs)
     unfolding a k
-    part_named = record {
-      domain = g.named.domain;
-      names = λ j l.
-          let n = length-take-le k (drop a cs) (omega (arith, (g.within i h).forward, (g.within i h).ends, length-drop a cs)) in
-          names_moved p cs (mid_of a k cs) (a + j) j (get_or-take k (drop a cs) j [] (omega arith) ∙ get_or-drop a cs j []) l (g.named.names (a + j) (omega (arith, (g.within i h).forward, (g.within i h).ends)));
-    }
+    part_named = named_part p cs g.named a k (omega (arith, (g.within i h).forward, (g.within i h).ends))
 
     next_is : shapes p (spans cs) (spans (drop i ss)) ≡ contours p (spans (mid_of a k cs)) ∷ shapes p (spans cs) (spans (drop (suc i) ss))
     unfolding a k
@@ -162,10 +162,7 @@ module _ {rule : Rule} {p : List ℤ} {cs ss : List (List ℕ)} {out₀ : List �
         let y = shape_leaves rule (joined (shapes p (spans cs) (spans (drop (suc i) ss)))) l s (all_named p (mid_of a k cs) part_named) next_room in
         let q : reached t.progress out' records' ≡ u.reached = ap (λ (w : Grouped). w.reached) e ∙ adding_reached u.stands u.reached _ in
         record {
-          high = omega arith;
           low = omega (arith, x.low, ap (λ (w : Grouped). w.written) e, adding_few u.stands u.reached (grouped at.shapes s groups));
-          out_long = ap (λ (w : Reached). length w.points) q ∙ y.points_long ∙ x.out_long;
-          records_long = ap (λ (w : Reached). length w.contours) q ∙ y.contours_long ∙ x.records_long;
           groups_long = ap (λ (w : Grouped). length w.shapes) e ∙ adding_long u.stands u.reached (grouped at.shapes s groups) ∙ x.groups_long;
           room = rw (add-one i) (rw (sym q) at (leaves_room y));
           is = rw (add-one i) (ap (run_shapes rule (shapes p (spans cs) (spans (drop (suc i) ss)))) e ∙ ap (λ (l : List (List (List ℤ))). run_shapes rule l (grouped at.shapes s groups)) (sym next_is) ∙ x.is);
@@ -177,8 +174,7 @@ module _ {rule : Rule} {p : List ℤ} {cs ss : List (List ℕ)} {out₀ : List �
   pub grouping_all : length ss ≤ i → grouped at.shapes (reached at.progress out records) groups ≡ run_shapes rule (shapes p (spans cs) (spans ss)) (grouped 0 (reached none_yet out₀ records₀) groups₀)
   unfolding run_shapes
   grouping_all h =
-      let e : i ≡ length ss = omega (arith, x.high) in
-      ap (λ (l : List (List ℕ)). run_shapes rule (shapes p (spans cs) (spans l)) (grouped at.shapes (reached at.progress out records) groups)) (sym (ap (λ (k : ℕ). drop k ss) e ∙ drop-length ss)) ∙ x.is
+      ap (λ (l : List (List ℕ)). run_shapes rule (shapes p (spans cs) (spans l)) (grouped at.shapes (reached at.progress out records) groups)) (sym (drop_of_length-le ss {i = i} h)) ∙ x.is
 
 -- one shape, as the only one of a set
 module _ (p : List ℤ) (cs : List (List ℕ)) where

@@ -1,6 +1,7 @@
 -- The contours of a set that no call refuses: each is itself in the domain, and a loop meets them one by one.
-use Rattle.std.proofs.Common.{◌≡◌, ℕ, ◌+◌, ◌<◌, ◌≤◌, Bool, true, false, List, [], ◌∷◌, length, get_or, drop, ℤ, sym, refl, ap, ◌∙◌, add-one, arith, drop_of_length-le, drop-cons}
+use Rattle.std.proofs.Common.{◌≡◌, ℕ, zero, suc, ◌+◌, ◌-◌, ◌<◌, ◌≤◌, Bool, true, false, List, [], ◌∷◌, length, get_or, drop, ℤ, sym, refl, ap, ◌∙◌, add-one, arith, drop_of_length-le, drop-cons}
 use lib.ListN.{length-map}
+use Rattle.std.specs.List.{list_all, range_with_len}
 use Rattle.replies.specs.Ladder.{first_of}
 use Rattle.grid.specs.Limits.{limit}
 use Rattle.grid.specs.Domain.{count, domain}
@@ -51,3 +52,10 @@ module _ (test : List ℤ → Bool) (p : List ℤ) (cs : List (List ℕ)) (n i :
     pub all_pass : length cs ≤ i → every test (drop n (contours p (spans cs))) ≡ true
     unfolding every
     all_pass h = l ∙ ap (every test) (no_part p cs i h)
+
+-- every contour from number n on passes a test, asked number by number
+module _ (test : List ℤ → Bool) (p : List ℤ) (cs : List (List ℕ)) where
+  pub every_named : (m n : ℕ) → length cs - n ≡ m → list_all (λ (k : ℕ). test (contour p (span (get_or cs k [])))) (range_with_len n m) ≡ every test (drop n (contours p (spans cs)))
+  unfolding every
+  every_named zero n e = rw (no_part p cs n (omega arith)) refl
+  every_named (suc m) n e = rw (next_part p cs n (omega arith), every_named m (n + 1) (omega arith)) refl

@@ -1,5 +1,5 @@
 -- What the cleaning of a shape or of shapes answers, and what it leaves in the rows that are lent to it.
-use Rattle.std.specs.Prelude.{ℕ, zero, suc, Bool, ◌&&◌, List, [], ◌++◌, length, ℤ, nat_le}
+use Rattle.std.specs.Prelude.{Result, Ok, Err, Option, Some, None, ℕ, zero, suc, Bool, ◌&&◌, List, [], ◌++◌, length, ℤ, nat_le}
 use Rattle.replies.specs.Ladder.{Rung, first_of, room}
 use Rattle.grid.specs.Domain.{count}
 use Rattle.rows.specs.Rows.{front, zeroed}
@@ -9,12 +9,30 @@ use Rattle.buffer.specs.Spans.{spans, rows}
 use Rattle.buffer.specs.Sets.{joined, contours, shapes, contour_spans, shape_spans}
 use Rattle.buffer.specs.Contours.{refusals as contour_refusals}
 use Rattle.buffer.specs.Shapes.{refusals as shape_refusals}
+use Rattle.replies.specs.declared.refusal.Refusal.{Refusal}
+use Rattle.replies.specs.Refusals.{number}
+use Rattle.buffer.specs.declared.answer.Sizes.{Sizes}
+use Rattle.sets.specs.declared.cleaning.SetCleaning.{SetCleaning}
 use Rattle.sets.specs.declared.cleaning.CleanedSet.{CleanedSet}
 use Rattle.sets.specs.Fates.{ShapeFate, Shapes, shape_fate, shapes_fate}
 use Rattle.sets.specs.Fates.ShapeFate.{stands, fallen}
 
 abbrev pub answer : ℕ → ℕ → ℕ → ℕ → ℕ → ℕ → CleanedSet
 answer reply points contours shapes decisions turns = record { reply = reply; points = points; contours = contours; shapes = shapes; decisions = decisions; turns = turns }
+
+-- a cleaning that ended, as C has it: 0 where something is kept, 7 where nothing is
+abbrev pub ended_with : Option Sizes → ℕ → ℕ → CleanedSet
+ended_with (Some s) decisions turns = answer 0 s.points s.contours s.shapes decisions turns
+ended_with None decisions turns = answer 7 0 0 0 decisions turns
+
+-- the same of a set's cleaning
+abbrev pub as_cleaned : SetCleaning → CleanedSet
+as_cleaned c = ended_with c.kept c.decisions c.turns
+
+-- a set's cleaning or its refusal, as C has it
+abbrev pub cleaned_as : Result SetCleaning Refusal → CleanedSet
+cleaned_as (Ok c) = as_cleaned c
+cleaned_as (Err r) = answer (number r) 0 0 0 0 0
 
 -- the lent rows: the scratch, and the rows for points, contour ranges and shape ranges
 pub record Lent : Type 0 where

@@ -1,14 +1,24 @@
 // The cleaning of a shape and of shapes: what it refuses, and what it answers.
 ghost use Rattle.std.specs.Prelude.{◌≡◌, []};
-ghost use Rattle.sets.specs.Outcome.{answer, lent, leaving, shape_outcome, shapes_outcome};
+ghost use Rattle.sets.specs.Outcome.{answer, as_cleaned, cleaned_as, lent, leaving, shape_outcome, shapes_outcome};
 ghost use Rattle.sets.specs.inside.Shape.{shape_answer};
 
-use crate::inner::contour::Tried;
-use crate::inner::shapes::Total;
+use crate::inner::contour::{Progress, Tried};
 use crate::inner::{lacking, shapes};
+use buffer::Sizes;
+use replies::Refusal;
 use ring::Rule;
 
-// The answer of cleaning a set: its reply number, how many of each are kept, after how many decisions, and in how many turns.
+// How the cleaning of a set ended: how many of each are kept, and nothing of a shape that collapsed with its first contour;
+// after how many decisions, and in how many turns.
+#[derive(Clone, Copy, Debug, PartialEq, Eq)]
+pub struct SetCleaning {
+    pub kept: Option<Sizes>,
+    pub decisions: usize,
+    pub turns: usize,
+}
+
+// The same for C: its reply number, and 0 of each where it is refused or collapsed.
 #[repr(C)]
 #[derive(Clone, Copy)]
 pub struct CleanedSet {
@@ -20,49 +30,75 @@ pub struct CleanedSet {
     pub turns: usize,
 }
 
-// An answer with nothing kept.
-fn nothing(reply: u32, decisions: usize, turns: usize) -> CleanedSet
-    ensures { result ≡ answer reply 0 0 0 decisions turns }
-{
-    CleanedSet {
-        reply,
-        points: 0,
-        contours: 0,
-        shapes: 0,
-        decisions,
-        turns,
+impl From<Result<SetCleaning, Refusal>> for CleanedSet {
+    ghost use Rattle.sets.specs.Outcome.{cleaned_as};
+
+    ghost from_gives = { λ answer told. told ≡ cleaned_as answer };
+
+    fn from(answer: Result<SetCleaning, Refusal>) -> CleanedSet {
+        let nothing = CleanedSet {
+            reply: 0,
+            points: 0,
+            contours: 0,
+            shapes: 0,
+            decisions: 0,
+            turns: 0,
+        };
+        let cleaning = match answer {
+            Ok(cleaning) => cleaning,
+            Err(refusal) => {
+                return CleanedSet {
+                    reply: refusal.number(),
+                    ..nothing
+                };
+            }
+        };
+        let walked = CleanedSet {
+            decisions: cleaning.decisions,
+            turns: cleaning.turns,
+            ..nothing
+        };
+        match cleaning.kept {
+            Some(sizes) => CleanedSet {
+                points: sizes.points,
+                contours: sizes.contours,
+                shapes: sizes.shapes,
+                ..walked
+            },
+            None => CleanedSet {
+                reply: replies::COLLAPSED,
+                ..walked
+            },
+        }
     }
 }
 
-// The answer of a shape: it is kept, or collapsed with its first contour.
-fn shape_answer(tried: Tried) -> CleanedSet
-    ensures { result ≡ shape_answer tried.stays tried.progress }
+// What is kept of a set, of so many shapes.
+fn kept(progress: Progress, shapes: usize) -> SetCleaning
+    ensures { as_cleaned result
+        ≡ answer 0 progress.points progress.contours shapes progress.decisions progress.turns }
 {
-    let progress = tried.progress;
-    if !tried.stays {
-        return nothing(replies::COLLAPSED, progress.decisions, progress.turns);
-    }
-    CleanedSet {
-        reply: replies::DONE,
-        points: progress.points,
-        contours: progress.contours,
-        shapes: 1,
+    SetCleaning {
+        kept: Some(Sizes {
+            points: progress.points,
+            contours: progress.contours,
+            shapes,
+        }),
         decisions: progress.decisions,
         turns: progress.turns,
     }
 }
 
-// The answer of shapes: those that stand are kept.
-fn shapes_answer(at: Total) -> CleanedSet
-    ensures { result ≡ answer 0 at.progress.points at.progress.contours at.shapes
-        at.progress.decisions at.progress.turns }
+// The answer of a shape: it is kept, or collapsed with its first contour.
+fn shape_answer(tried: Tried) -> SetCleaning
+    ensures { as_cleaned result ≡ shape_answer tried.stays tried.progress }
 {
-    let progress = at.progress;
-    CleanedSet {
-        reply: replies::DONE,
-        points: progress.points,
-        contours: progress.contours,
-        shapes: at.shapes,
+    let progress = tried.progress;
+    if tried.stays {
+        return kept(progress, 1);
+    }
+    SetCleaning {
+        kept: None,
         decisions: progress.decisions,
         turns: progress.turns,
     }
@@ -78,8 +114,8 @@ pub fn clean_shape(
     mark: &mut [u8],
     out: &mut [i32],
     records: &mut [[usize; 2]],
-) -> CleanedSet
-    ensures { leaving result
+) -> Result<SetCleaning, Refusal>
+    ensures { leaving (cleaned_as result)
         (lent next.new prev.new mark.new
         out.new records.new [])
         ≡ shape_outcome rule points.now ranges.now
@@ -88,11 +124,8 @@ pub fn clean_shape(
 {
     let n = points.len() / 2;
     let room = (points.len() <= out.len()) & (ranges.len() <= records.len());
-    let asked = buffer::contours::refused(points, ranges);
-    let refused = lacking::or_lacking(asked, n, next.len(), prev.len(), mark.len(), room);
-    if refused != 0 {
-        return nothing(refused, 0, 0);
-    }
+    buffer::contours::check(points, ranges)?;
+    lacking::rows(n, next.len(), prev.len(), mark.len(), room)?;
     let tried = shapes::sweep_shape(
         rule,
         points,
@@ -103,7 +136,7 @@ pub fn clean_shape(
         out,
         records,
     );
-    shape_answer(tried)
+    Ok(shape_answer(tried))
 }
 
 // Shapes cleaned by a rule: refused, or those that stand kept in front of the rows.
@@ -118,8 +151,8 @@ pub fn clean_shapes(
     out: &mut [i32],
     records: &mut [[usize; 2]],
     groups: &mut [[usize; 2]],
-) -> CleanedSet
-    ensures { leaving result
+) -> Result<SetCleaning, Refusal>
+    ensures { leaving (cleaned_as result)
         (lent next.new prev.new mark.new
         out.new records.new groups.new)
         ≡ shapes_outcome rule points.now contours.now shapes.now
@@ -130,11 +163,8 @@ pub fn clean_shapes(
     let room = (points.len() <= out.len())
         & (contours.len() <= records.len())
         & (shapes.len() <= groups.len());
-    let asked = buffer::shapes::refused(points, contours, shapes);
-    let refused = lacking::or_lacking(asked, n, next.len(), prev.len(), mark.len(), room);
-    if refused != 0 {
-        return nothing(refused, 0, 0);
-    }
+    buffer::shapes::check(points, contours, shapes)?;
+    lacking::rows(n, next.len(), prev.len(), mark.len(), room)?;
     let at = shapes::sweep_shapes(
         rule,
         points,
@@ -147,5 +177,5 @@ pub fn clean_shapes(
         records,
         groups,
     );
-    shapes_answer(at)
+    Ok(kept(at.progress, at.shapes))
 }

@@ -1,18 +1,19 @@
 // Sets of contours without spikes, and shapes without their spikes.
 ghost use Rattle.std.specs.Prelude.{◌≡◌, []};
+ghost use Rattle.replies.specs.Verdicts.{answered};
 ghost use Rattle.sets.specs.Verdicts.{spike_free};
 ghost use Rattle.ring.specs.declared.Rule as R;
-ghost use Rattle.sets.specs.Outcome.{lent, leaving, shape_outcome, shapes_outcome};
+ghost use Rattle.sets.specs.Outcome.{cleaned_as, lent, leaving, shape_outcome, shapes_outcome};
 
 use crate::cleaning;
-use crate::cleaning::CleanedSet;
+use crate::cleaning::SetCleaning;
 use crate::inner::passing;
-use replies::Verdict;
+use replies::Refusal;
 use ring::Rule;
 
 // Whether no contour of the set has spikes.
-pub fn has_no_spikes(points: &[i32], ranges: &[[usize; 2]]) -> Verdict
-    ensures { result ≡ spike_free points.now ranges.now }
+pub fn has_no_spikes(points: &[i32], ranges: &[[usize; 2]]) -> Result<bool, Refusal>
+    ensures { answered result ≡ spike_free points.now ranges.now }
 {
     passing::verdict(Rule::Spike, points, ranges)
 }
@@ -26,8 +27,8 @@ pub fn despiked_shape(
     mark: &mut [u8],
     out: &mut [i32],
     records: &mut [[usize; 2]],
-) -> CleanedSet
-    ensures { leaving result
+) -> Result<SetCleaning, Refusal>
+    ensures { leaving (cleaned_as result)
         (lent next.new prev.new mark.new
         out.new records.new [])
         ≡ shape_outcome R.Rule.Spike points.now ranges.now
@@ -48,8 +49,8 @@ pub fn despiked_shapes(
     out: &mut [i32],
     records: &mut [[usize; 2]],
     groups: &mut [[usize; 2]],
-) -> CleanedSet
-    ensures { leaving result
+) -> Result<SetCleaning, Refusal>
+    ensures { leaving (cleaned_as result)
         (lent next.new prev.new mark.new
         out.new records.new groups.new)
         ≡ shapes_outcome R.Rule.Spike points.now contours.now shapes.now

@@ -9,5 +9,5 @@ pub mod inner;
 pub mod shapes;
 pub mod simple;
 
-pub use cleaning::CleanedSet;
+pub use cleaning::{CleanedSet, SetCleaning};
 pub use containing::in_shape;

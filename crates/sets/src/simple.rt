@@ -1,18 +1,19 @@
 // Sets of simple contours, and shapes without their collinear points.
 ghost use Rattle.std.specs.Prelude.{◌≡◌, []};
+ghost use Rattle.replies.specs.Verdicts.{answered};
 ghost use Rattle.sets.specs.Verdicts.{simple as simple_verdict};
 ghost use Rattle.ring.specs.declared.Rule as R;
-ghost use Rattle.sets.specs.Outcome.{lent, leaving, shape_outcome, shapes_outcome};
+ghost use Rattle.sets.specs.Outcome.{cleaned_as, lent, leaving, shape_outcome, shapes_outcome};
 
 use crate::cleaning;
-use crate::cleaning::CleanedSet;
+use crate::cleaning::SetCleaning;
 use crate::inner::passing;
-use replies::Verdict;
+use replies::Refusal;
 use ring::Rule;
 
 // Whether every contour of the set is simple.
-pub fn is_simple(points: &[i32], ranges: &[[usize; 2]]) -> Verdict
-    ensures { result ≡ simple_verdict points.now ranges.now }
+pub fn is_simple(points: &[i32], ranges: &[[usize; 2]]) -> Result<bool, Refusal>
+    ensures { answered result ≡ simple_verdict points.now ranges.now }
 {
     passing::verdict(Rule::Collinear, points, ranges)
 }
@@ -26,8 +27,8 @@ pub fn simplified_shape(
     mark: &mut [u8],
     out: &mut [i32],
     records: &mut [[usize; 2]],
-) -> CleanedSet
-    ensures { leaving result
+) -> Result<SetCleaning, Refusal>
+    ensures { leaving (cleaned_as result)
         (lent next.new prev.new mark.new
         out.new records.new [])
         ≡ shape_outcome R.Rule.Collinear points.now ranges.now
@@ -57,8 +58,8 @@ pub fn simplified_shapes(
     out: &mut [i32],
     records: &mut [[usize; 2]],
     groups: &mut [[usize; 2]],
-) -> CleanedSet
-    ensures { leaving result
+) -> Result<SetCleaning, Refusal>
+    ensures { leaving (cleaned_as result)
         (lent next.new prev.new mark.new
         out.new records.new groups.new)
         ≡ shapes_outcome R.Rule.Collinear points.now contours.now shapes.now

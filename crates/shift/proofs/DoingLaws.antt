@@ -10,7 +10,10 @@ use lib.Seq.{split_at, get_or-drop}
 use lib.IntN.{ℤ}
 use borrow.Author.Tests.{leb-true, eq-eqb, ne_eqb}
 use Rattle.integers.proofs.Logic.{and_left, and_right}
+use Rattle.replies.specs.declared.refusal.Refusal.{Refusal}
 use Rattle.replies.specs.Ladder.{Rung, first_of}
+use Rattle.replies.specs.Refusals.{number as refusal}
+use Rattle.replies.proofs.RefusalLaws.{refusals_have_numbers}
 use Rattle.rows.specs.Rows.{front}
 use Rattle.rows.proofs.RowLaws.{front_length}
 use Rattle.grid.specs.Limits.{limit}
@@ -31,21 +34,20 @@ use Rattle.pool.specs.Promises.{Fit}
 use Rattle.pool.specs.Rows.{Slot, slot, span_of, Lent, lent, used, named, numbers, slots_from, slot_at, contents, laid_out, sound}
 use Rattle.pool.specs.Outcome.{Outcome, outcome, leaving, number, enough, refused, called, own_slots}
 use Rattle.pool.specs.inside.Records.{total, Lies, Newest}
-use Rattle.pool.specs.inside.Surveys.{Surveyed, share_of, with_more}
+use Rattle.pool.specs.inside.Surveys.{Surveyed, share_of, with_more, grown}
 use Rattle.pool.specs.declared.inner.survey.Survey.{Survey}
 use Rattle.pool.proofs.ListLaws.{every_removed, own-append, held-append, total-append, total_held, length_held, held_both, removed_is}
 use Rattle.pool.proofs.FairLaws.{held_all}
 use Rattle.pool.proofs.LayoutLaws.{slots_length, numbers-length, contours_are, slot_is, slot_at_is, press_is}
 use Rattle.pool.proofs.SoundLaws.{sound_lies, sound_fair, sound_tooled, read_own}
-use Rattle.pool.proofs.CallLaws.{all_held, shares_small, records_there, remove_none}
+use Rattle.pool.proofs.CallLaws.{grown_not, all_held, shares_small, records_there, remove_none}
 use Rattle.pool.proofs.RowTheorems.{read_laid, sound_laid, called_told, called_list, called_sound, called_enough, surveyed_more}
 use Rattle.shift.specs.Steps.{Request}
 use Rattle.shift.specs.Steps.Request.{adds, removes, cleans, asks}
 use Rattle.shift.specs.States.{telling, shape, yes_or_no, asked, told, after}
 use Rattle.sifting.specs.Cleaned.{cleaned}
 use Rattle.sifting.specs.inside.Cleaning.{field, InDomain}
-use Rattle.shift.specs.inside.Doing.{Held, Did, with_less}
-use Rattle.shift.specs.declared.inner.doing.Done.{Done}
+use Rattle.shift.specs.inside.Doing.{Held, Ended, Did, with_less}
 use Rattle.shift.proofs.Theorems.{the_pool_stays_in_the_domain}
 use Rattle.sifting.proofs.GoingLaws.{own_held, all_long, domain_parts, total_parts, this_is, slot_there}
 use Rattle.sifting.proofs.CleanedLaws.{cleaned_in_domain, cleaned_tools, cleaned_fair, domain_even}
@@ -97,7 +99,7 @@ module _ (s : Lent) (f : Survey) (h : Held s f) where
   fair = sound_fair s is_sound
 
   -- a request that leaves the rows as they are
-  pub did_nothing : (request : Request) → after request pool ≡ pool → (r : Done) → telling r.reply r.result ≡ told request pool → r.found ≡ f → r.reply ≤ 255 → r.result ≤ 4 * capacity
+  pub did_nothing : (request : Request) → after request pool ≡ pool → (r : Ended) → telling r.reply r.result ≡ told request pool → r.found ≡ f → r.reply ≤ 255 → r.result ≤ 4 * capacity
       → Did request s r s
   did_nothing request a r t g m k = record {
     told_is = t;
@@ -143,7 +145,7 @@ module _ (s : Lent) (f : Survey) (h : Held s f) where
         go (suc r) n = refl
 
     module _ (request : Request) (told-as : telling (Calls.told true p pool c) 0 ≡ told request pool) (after-as : Calls.after true p c pool ≡ after request pool)
-        (t : Lent) (r : Done) (g : ◌≡◌ {A = Outcome} (record { reply = r.reply; pool = t }) (called p c s)) (z : r.result ≡ 0) where
+        (t : Lent) (r : Ended) (g : ◌≡◌ {A = Outcome} (record { reply = r.reply; pool = t }) (called p c s)) (z : r.result ≡ 0) where
       reply_is : r.reply ≡ (called p c s).reply
       reply_is = ap (λ (o : Outcome). o.reply) g
 
@@ -239,6 +241,15 @@ found_small s f h b = (
   omega (arith, h.surveyed.points_are h.sound, total_held (contents s), all_held s f h.surveyed h.sound),
   (shares_small s f h.surveyed b h.sound).0,
 )
+
+-- a contour was refused, and the count is as it was
+pub did_not_add : (s : Lent) (f : Survey) → Held s f → (b : Bool) (contour points : List ℤ) (records : List (List ℕ)) (n : ℕ) (r : Refusal)
+    → leaving (refusal r) points records (grown (refusal r) n) ≡ called (number b) (add 0 contour) s
+    → Did (adds b contour) s (record { reply = refusal r; result = 0; contours = n; found = f }) (lent points records n)
+did_not_add s f h b contour points records n r g =
+    did_refused s f h b (add 0 contour) (omega arith) (adds b contour) refl refl _ _
+    (ap (leaving (refusal r) points records) (sym (grown_not (refusal r) n (refusals_have_numbers r))) ∙ g) refl (refusals_have_numbers r) refl
+    (the_pool_stays_in_the_domain (adds b contour) (contents s) h.in_domain)
 
 -- a contour was added
 pub did_add : (s : Lent) (f : Survey) → Held s f → (b : Bool) (contour : List ℤ) (t : Lent) (reply contours : ℕ) (m : Survey)

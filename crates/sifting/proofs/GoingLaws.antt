@@ -6,7 +6,7 @@ use Prim.Native.Nat.{ℕ, zero, suc, ◌+◌, ◌-◌, ◌*◌, ◌≤◌, ◌<�
 use native.Mathlib.Omega.{arith}
 use native.Mathlib.Numerals.{add-one}
 use lib.Dec.{eqb}
-use lib.ListN.{length, get_or, set, take, drop, length-append, length-map, length-set}
+use lib.ListN.{length, get_or, take, drop, length-append, length-map, length-set}
 use lib.Seq.{take-suc, take_all, split_at, drop-append-add, drop-drop, get_or-append-add, get_or-drop, get_or-take, length-take-le}
 use lib.IntN.{ℤ}
 use Rattle.rows.specs.Rows.{front}
@@ -28,8 +28,8 @@ use Rattle.sifting.specs.Cleaned.{Cleaned, cleaned}
 use Rattle.clean.proofs.OutcomeLaws.{contour_count}
 use Rattle.sifting.specs.declared.inner.sifting.Kept.{Kept}
 use Rattle.sifting.specs.declared.inner.cleaning.Progress.{Progress}
-use Rattle.sifting.specs.inside.Sifting.{lying, kept_of, row_of}
-use Rattle.sifting.specs.inside.Cleaning.{Noted, noted, with_one, with_none, record_behind, noting, Notable, Going, going, field, contour_at, placing, Next, InDomain, Run}
+use Rattle.sifting.specs.inside.Sifting.{lying, kept_of}
+use Rattle.sifting.specs.inside.Cleaning.{Notable, Going, going, field, contour_at, placing, Next, InDomain, Run}
 use Rattle.sifting.proofs.CleanedLaws.{both, cleaned-append, cleaned_one, cleaned_only, Lessened, lessened, cleaned_in_domain, domain_even}
 
 -- what stands behind the front of a row
@@ -297,30 +297,6 @@ pub times_few : (p x : ℕ) → p ≤ 1 → p * x ≤ x
 times_few zero x h = omega arith
 times_few (suc zero) x h = omega arith
 times_few (suc (suc p)) x h = absurd (omega arith)
-
--- a contour is noted
-module _ (k : Kept) (at : Progress) (tool press : ℕ) (records : List (List ℕ)) where
-  pub noting_none : k.stays ≡ false → noted (with_none k.decisions at) records ≡ noting k.stays k at tool press records
-  noting_none e = ap (λ (b : Bool). noting b k at tool press records) (sym e)
-
-  pub noting_one : k.stays ≡ true → (size : ℕ) → size ≡ holding k.points
-      → noted (record { contours = at.contours + 1; points = at.points + k.points; held = at.held + size; second = at.second + press * size; decisions = at.decisions + k.decisions })
-      (set records at.contours (record_behind k.points tool press at))
-      ≡ noting k.stays k at tool press records
-  noting_one e size h =
-      ap (λ (n : ℕ). noted (record { contours = at.contours + 1; points = at.points + k.points; held = at.held + n; second = at.second + press * n; decisions = at.decisions + k.decisions })
-      (set records at.contours (record_behind k.points tool press at))) h
-      ∙ ap (λ (b : Bool). noting b k at tool press records) (sym e)
-
-  -- and stands behind what is kept
-  pub next_placed : (points : List ℤ) (f : Fate) → k ≡ kept_of f → (r : Progress) (p : List ℤ) (q : List (List ℕ)) → p ≡ row_of f at.points points
-      → noted r q ≡ noting k.stays k at tool press records → going r p q ≡ placing f tool press (going at points records)
-  next_placed points f e r p q g h = go f g (h ∙ ap (λ (x : Kept). noting x.stays x at tool press records) e)
-    where
-      go : (w : Fate) → p ≡ row_of w at.points points → noted r q ≡ noting (kept_of w).stays (kept_of w) at tool press records
-          → going r p q ≡ placing w tool press (going at points records)
-      go (stays d t) a b = ap (λ (x : Noted). going x.progress p x.records) b ∙ ap (λ (x : List ℤ). going (with_one (count d) press t.decisions at) x (set records at.contours (record_behind (count d) tool press at))) a
-      go (gone t) a b = ap (λ (x : Noted). going x.progress p x.records) b ∙ ap (λ (x : List ℤ). going (with_none t.decisions at) x records) a
 
 -- what noting asks of a contour that was cleaned
 pub notable : (rule : Rule) (points : List ℤ) (records : List (List ℕ)) (i : ℕ) (at : Progress) (next prev mark : List ℕ) → Next points records i at next prev mark

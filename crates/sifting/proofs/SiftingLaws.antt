@@ -7,6 +7,7 @@ use native.Mathlib.Omega.{arith}
 use lib.ListN.{length, get_or, set, take, drop, length-append, length-drop, take-append-drop}
 use lib.Seq.{length-take-le, get_or-drop, get_or-take, drop-drop, get_or-append-add}
 use lib.IntN.{ℤ, pos}
+use Rattle.std.specs.Prelude.{Some, None}
 use Rattle.rows.specs.Rows.{placed}
 use Rattle.grid.specs.Points.{points}
 use Rattle.grid.specs.Domain.{count}
@@ -140,7 +141,7 @@ module _ (rule : Rule) (row : List ℤ) (start end to : ℕ) (p : InPlace row st
   sifted_as : (f : Fate) → fate rule own ≡ f → (r : Kept) (exit : List ℤ) → r ≡ kept_of f → exit ≡ row_of f to row → Sifted rule row start end to r exit
   sifted_as f e r exit g h = record { is = g ∙ ap kept_of (sym e); row_is = h ∙ ap (λ (x : Fate). row_of x to row) (sym e) }
 
-  pub sifted_few : end - start < 3 → (r : Kept) → r ≡ record { stays = false; points = 0; decisions = 0 } → Sifted rule row start end to r row
+  pub sifted_few : end - start < 3 → (r : Kept) → r ≡ record { points = None; decisions = 0 } → Sifted rule row start end to r row
   sifted_few h r e =
       let few : count own < 3 = omega (arith, counted) in
       let w : walked rule own ≡ ending collapsed (tally 0 0) = walk_few (goes rule own) (count own) few in
@@ -148,12 +149,12 @@ module _ (rule : Rule) (row : List ℤ) (start end to : ℕ) (p : InPlace row st
 
   pub sifted_left : passes rule (points own) ≡ true → (exit : List ℤ)
       → exit ≡ placed (2 * to) (take (2 * (end - start)) (drop (2 * to + (2 * start - 2 * to)) row)) row → to ≤ start
-      → Sifted rule row start end to (record { stays = true; points = end - start; decisions = 0 }) exit
+      → Sifted rule row start end to (record { points = Some (end - start); decisions = 0 }) exit
   sifted_left t exit e down =
       let a : 2 * (end - start) ≡ 2 * end - 2 * start = omega (arith, p.forward) in
       let b : 2 * to + (2 * start - 2 * to) ≡ 2 * start = omega arith in
       sifted_as (stays own none_counted) (passing_stays rule own t) _ exit
-      (ap (λ (n : ℕ). record { stays = true; points = n; decisions = 0 }) (sym counted))
+      (ap (λ (n : ℕ). record { points = Some n; decisions = 0 }) (sym counted))
       (e ∙ ap₂ (λ (m n : ℕ). placed (2 * to) (take m (drop n row)) row) a b)
 
   module _ (t : passes rule (points own) ≡ false) (w : Ending) (mark prev : List ℕ) (n : ℕ) (all : n ≡ end - start) (e : Ended (goes rule own) n mark prev w) where
@@ -166,15 +167,15 @@ module _ (rule : Rule) (row : List ℤ) (start end to : ℕ) (p : InPlace row st
     stood : w.kept ≡ true → walked rule own ≡ ending (kept (survivors mark)) (tally w.decisions (turns_of w mark))
     stood f = rw (ended_is, f)
 
-    pub sifted_fallen : w.kept ≡ false → (r : Kept) → r ≡ record { stays = false; points = 0; decisions = w.decisions } → Sifted rule row start end to r row
+    pub sifted_fallen : w.kept ≡ false → (r : Kept) → r ≡ record { points = None; decisions = w.decisions } → Sifted rule row start end to r row
     sifted_fallen f r g = sifted_as (gone (tally w.decisions w.decisions)) (failing_walks rule own t ∙ rw (fallen f)) r row g refl
 
     pub sifted_kept : w.kept ≡ true → length mark ≡ n → (k : ℕ) (exit : List ℤ) → Lowered row start to mark k exit
-        → Sifted rule row start end to (record { stays = true; points = k; decisions = w.decisions }) exit
+        → Sifted rule row start end to (record { points = Some k; decisions = w.decisions }) exit
     sifted_kept f long k exit l =
         let s = survivors mark in
         let q : start + length mark ≡ end = omega (arith, p.forward) in
         let m : k ≡ count (chosen own s) = omega (arith, l.count_is, length_chosen own s) in
         sifted_as (stays (chosen own s) (tally w.decisions (turns_of w mark))) (failing_walks rule own t ∙ rw (stood f)) _ exit
-        (ap (λ (i : ℕ). record { stays = true; points = i; decisions = w.decisions }) m)
+        (ap (λ (i : ℕ). record { points = Some i; decisions = w.decisions }) m)
         (l.is ∙ ap (λ (m : ℕ). placed (2 * to) (chosen (lying row start m) s) row) q)

@@ -1,6 +1,6 @@
 -- The differences of a point, raised and turned, have the bits that they are written in.
 use mathlib.Core.Path.{◌≡◌, refl, sym, ◌∙◌, ap, ap₂}
-use mathlib.Core.Bool.{true, false}
+use mathlib.Core.Bool.{true}
 use mathlib.Core.List.{List, [], ◌∷◌}
 use Prim.Native.Nat.{ℕ, suc, ◌+◌, ◌-◌, ◌*◌, ◌%◌, ◌^◌, ◌<◌}
 use native.Mathlib.Nat.{lt_of_lt_of_le}
@@ -9,20 +9,16 @@ use lib.Bits.{bit_xor, xor_block, xor_self, xor_zero_l, xor_zero_r}
 use lib.ListN.{get_or}
 use lib.Pow.{pow_pos, pow_mono, shl_exact}
 use lib.IntN.{ℤ, pos, negsuc, nat_abs, ◌+ℤ◌, ◌-ℤ◌, ◌*ℤ◌}
-use lib.Signed.{lt_z, non_neg}
-use lib.Dec.{T}
 use mir.Syntax.{w64}
-use mir.Val.{Fits, SFits, to_z, of_z}
-use mir.Facts.{to_z_pos}
+use mir.Val.{SFits, to_z, of_z}
 use borrow.Author.Tests.{ltb-true, le-ltb}
 use Rattle.integers.specs.Bound.{In}
 use Rattle.integers.specs.Polynomial.{#, ◌:+◌, ◌:-◌, ◌:*◌}
-use Rattle.integers.proofs.Bound.{in_add, in_sub, in_mul, in_pos, in_more, in_eq, in_fits, back, back_in, cast_u64, cast_u64_is}
+use Rattle.integers.proofs.Bound.{in_add, in_mul, in_pos, in_more, in_eq, in_fits, back, back_in}
 use Rattle.integers.proofs.Polynomial.{ring}
 use Rattle.integers.proofs.Ring.{⊖-add, ⊖-pos, ⊖-negsuc, ⊖-eq}
 use Rattle.bits.specs.Signs.{unsigned, fits}
 use Rattle.bits.proofs.SignLaws.{halves}
-use Rattle.bits.proofs.CodeLaws.{one_shifted}
 use Rattle.grid.specs.Limits.{limit, all_on_grid}
 use Rattle.grid.proofs.LimitLaws.{on_grid_in, all_on_grid_at}
 use Rattle.steps.specs.inside.Asked.{step, Narrow, Rising, joined, point_bits}
@@ -75,12 +71,6 @@ middle_below w some =
 
 pub middle_few : (w : ℕ) → Narrow w → middle w < 2 ^ 31
 middle_few w n = omega (arith, middle_below w n.some, pow_mono {i = 2 * w} {j = 30} (omega (arith, n.few)))
-
--- as the code computes it
-pub halves_are : (w : ℕ) → Narrow w → 1 * 2 ^ (w - 1) % 2 ^ 64 * 2 ^ w % 2 ^ 64 + 1 * 2 ^ (w - 1) % 2 ^ 64 ≡ middle w
-halves_are w n =
-    ap (λ (h : ℕ). h * 2 ^ w % 2 ^ 64 + h) (one_shifted (w - 1) (omega (arith, n.few)))
-    ∙ ap (λ (m : ℕ). m + 2 ^ (w - 1)) (shl_exact w w 64 (half_below w n.some) (omega (arith, n.few)))
 
 -- points as numbers
 module _ (c : List ℤ) (on : all_on_grid limit c ≡ true) where
@@ -150,38 +140,6 @@ module _ (w : ℕ) (n : Narrow w) (a b : ℕ) (first : a < 2 ^ (2 * w)) (second 
       let m : middle w < 2 ^ (2 * w) = middle_below w n.some in
       ap₂ (λ (x y : ℕ). bit_xor (x + b) (y + middle w)) word_is (shl_exact (2 * w) (2 * w) 64 m (omega (arith, n.few)))
       ∙ xor_block (2 * w) a (middle w) b (middle w) second m
-
--- the code's sums of signed numbers
-module _ (from to : ℤ) (h : ℕ) (r : Rising from to h) where
-  half_is : to_z w64 h ≡ pos h
-  half_is = to_z_pos w64 (omega (arith, r.few))
-
-  apart_in : In (2 ^ 47 + 2 ^ 47) (to_z w64 (of_z w64 to) -ℤ to_z w64 (of_z w64 from))
-  apart_in = in_sub (back_in w64 r.near_too tt) (back_in w64 r.near tt)
-
-  sum_in : In (2 ^ 47 + 2 ^ 47 + 2 ^ 31) (to_z w64 (of_z w64 (to_z w64 (of_z w64 to) -ℤ to_z w64 (of_z w64 from))) +ℤ to_z w64 h)
-  sum_in = in_add {B = 2 ^ 31} (back_in w64 apart_in tt) (in_eq half_is (in_pos (omega (arith, r.few))))
-
-  pub apart_fits : SFits w64 (to_z w64 (of_z w64 to) -ℤ to_z w64 (of_z w64 from))
-  apart_fits = in_fits apart_in tt
-
-  pub sum_fits : SFits w64 (to_z w64 (of_z w64 (to_z w64 (of_z w64 to) -ℤ to_z w64 (of_z w64 from))) +ℤ to_z w64 h)
-  sum_fits = in_fits sum_in tt
-
-  abbrev sum : ℤ
-  sum = to_z w64 (of_z w64 (to_z w64 (of_z w64 (to_z w64 (of_z w64 to) -ℤ to_z w64 (of_z w64 from))) +ℤ to_z w64 h))
-
-  sum_is : sum ≡ (to -ℤ from) +ℤ pos h
-  sum_is = back w64 sum_in tt ∙ ap₂ ◌+ℤ◌ (back w64 apart_in tt ∙ ap₂ ◌-ℤ◌ (back w64 r.near_too tt) (back w64 r.near tt)) half_is
-
-  not_below : lt_z sum (pos 0) ≡ false
-  not_below = ap (λ (z : ℤ). lt_z z (pos 0)) sum_is ∙ r.up
-
-  pub sum_cast : T (non_neg sum) × Fits w64 (nat_abs sum)
-  sum_cast = cast_u64 (back_in w64 sum_in tt) tt not_below
-
-  pub sum_cast_is : pos (nat_abs sum) ≡ (to -ℤ from) +ℤ pos h
-  sum_cast_is = cast_u64_is sum not_below ∙ sum_is
 
 module _ (x y s a b : ℤ) (x_in : In limit x) (y-in : In limit y) (s-in : In 32768 s) (e : a ≡ x) (f : b ≡ y) where
   product_in : In (limit * 32768) (to_z w64 (of_z w64 a) *ℤ to_z w64 (of_z w64 s))

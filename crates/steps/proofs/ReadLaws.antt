@@ -1,6 +1,6 @@
 -- Differences that are read one behind the other, by the rest of them.
-use mathlib.Core.Path.{◌≡◌, refl, sym, ◌∙◌, ap}
-use mathlib.Core.Bool.{true, false, ◌&&◌}
+use mathlib.Core.Path.{◌≡◌, refl, sym, ◌∙◌, ap, ap₂}
+use mathlib.Core.Bool.{Bool, true, false, not, ◌&&◌, and-false}
 use mathlib.Core.List.{List, [], ◌∷◌}
 use Prim.Native.Nat.{ℕ, zero, suc, ◌+◌, ◌-◌, ◌*◌, ◌%◌, ◌^◌, ◌<◌, ◌≤◌}
 use native.Mathlib.Nat.{mul-le-mul_left, lt_of_lt_of_le, le_refl}
@@ -11,7 +11,13 @@ use lib.Seq.{drop-drop, get_or-drop}
 use lib.Pow.{pow_mono}
 use lib.IntN.{ℤ, pos, nat_abs, ◌+ℤ◌}
 use lib.Signed.{mag, nat_abs-le}
-use borrow.Author.Tests.{ltb-true, leb-true, lt-ltb, le-ltb, le-leb, lt-leb}
+use mir.Syntax.{w32}
+use mir.Val.{SFits, to_z, of_z}
+use mir.Facts.{to_z-of_z}
+use borrow.Author.Tests.{not-true, not-false, ltb-false, ltb-true, leb-true, lt-ltb, le-ltb, le-leb, lt-leb}
+use Rattle.std.specs.Bool.{MatchBool}
+use Rattle.std.specs.List.{range_with_len, HoldsAt, AllWithin}
+use Rattle.std.proofs.lemmas.List.FromFn.{length-range_with_len, get_or-range_with_len}
 use Rattle.integers.specs.Bound.{In}
 use Rattle.integers.proofs.Bound.{in_add}
 use Rattle.integers.proofs.Logic.{and_left, and_right, and_both}
@@ -20,8 +26,9 @@ use Rattle.bits.specs.Signs.{signed, fits, all_fit, numbers}
 use Rattle.bits.specs.inside.Words.{Within, leading, Ahead}
 use Rattle.bits.proofs.BitLaws.{bits-length, taken_below}
 use Rattle.bits.proofs.SignLaws.{signed_fits, numbers_fit, numbers-length}
-use Rattle.grid.specs.Limits.{on_grid, all_on_grid}
-use Rattle.grid.proofs.LimitLaws.{on_grid_size}
+use Rattle.grid.specs.Limits.{limit, on_grid, all_on_grid}
+use Rattle.grid.proofs.LimitLaws.{on_grid_size, all_on_grid_at}
+use Rattle.steps.proofs.StepLaws.{sums-length}
 use Rattle.steps.specs.Steps.{sums}
 use Rattle.steps.specs.inside.Asked.{Width, There}
 
@@ -40,9 +47,6 @@ in_32 z h = record { abs = nat_abs-le z h }
 pub signed_small : {w : ℕ} (n : ℕ) → Width w → n < 2 ^ w → mag (signed w n) < 2 ^ 31
 signed_small {w} n s h = lt_of_lt_of_le (ltb-true (mag (signed w n)) (2 ^ (w - 1)) (signed_fits w s.some n h)) (pow_mono {i = w - 1} {j = 31} (omega (arith, s.few)))
 
-pub step_small : {f : List ℕ} {at w : ℕ} → Within f at w → Width w → mag (difference f at w) < 2 ^ 31
-step_small {f} {at} {w} h s = signed_small (value (take w (drop at (bits f)))) s (number_below h)
-
 room_for_one : (w i k : ℕ) → i < k → w * i + w ≤ w * k
 room_for_one w i k h =
     let e : w * (i + 1) ≤ w * k = mul-le-mul_left w (omega arith) in
@@ -53,13 +57,7 @@ pub step_there : {f : List ℕ} {at w k i : ℕ} → There f at w k → i < k �
 step_there {f} {at} {w} {k} {i} t h =
     record { some = t.width.some; few = omega (arith, t.width.few); room = omega (arith, room_for_one w i k h, t.room) }
 
--- so are both of a point
-pub both_there : {f : List ℕ} {at w : ℕ} (n i : ℕ) → There f at w (2 * n) → i < n → w ≤ 28 → Within f (at + w * (2 * i)) (2 * w)
-both_there {f} {at} {w} n i t h few =
-    let e : w * (2 * i + 2) ≤ w * (2 * n) = mul-le-mul_left w (omega arith) in
-    record { some = omega (arith, t.width.some); few = omega arith; room = omega (arith, e, t.room) }
-
--- in a word that begins with them
+-- both differences of a point, in a word that begins with them
 pub first_leading : {f : List ℕ} {at r : ℕ} (w : ℕ) → Ahead f at (2 * w) r → signed w (leading r w) ≡ difference f at w
 first_leading {f} {at} {r} w a =
     let n : r * 2 ^ 0 % 2 ^ 64 ≡ r = omega (arith, a.below) in
@@ -116,6 +114,39 @@ module _ (f : List ℕ) (at w k : ℕ) where
   unfolding all_fit
   none_unfit v i h = ap (all_fit v) (rest_none i h)
 
+  -- one of them that does not fit, and none
+  module _ (v : ℕ) where
+    one_unfit : (m i n : ℕ) → i + m ≡ n → n < k → not (fits v (difference f (at + w * n) w)) ≡ true → all_fit v (rest f at w k i) ≡ false
+    unfolding all_fit
+    one_unfit zero i n e h u =
+        let s : i ≡ n = omega arith in
+        rw s (next_unfit v n h (ltb-false _ _ (not-true _ u)))
+    one_unfit (suc m) i n e h u =
+        let d : ℤ = difference f (at + w * i) w in
+        ap (all_fit v) (rest_more i (omega arith)) ∙ ap (λ (b : Bool). fits v d && b) (one_unfit m (i + 1) n (omega arith) h u) ∙ and-false (fits v d)
+
+    all_fitting : (m i : ℕ) → i + m ≡ k → ((n : ℕ) → n < k → not (fits v (difference f (at + w * n) w)) ≡ false) → all_fit v (rest f at w k i) ≡ true
+    all_fitting zero i e h = none_unfit v i (omega arith)
+    all_fitting (suc m) i e h = next_fits v i (omega arith) (ltb-true _ _ (not-false _ (h i (omega arith)))) ∙ all_fitting m (i + 1) (omega arith) h
+
+    -- as `any` tells it
+    pub unfit_told : (r : Bool) → MatchBool r
+        ((n : ℕ) × (n < length (range_with_len 0 k)) × HoldsAt (λ i. not (fits v (difference f (at + w * i) w)) ≡ true) (range_with_len 0 k) n)
+        (AllWithin (λ i. not (fits v (difference f (at + w * i) w)) ≡ false) (range_with_len 0 k) 0 (length (range_with_len 0 k)))
+        → r ≡ not (all_fit v (numbers w k (drop at (bits f))))
+    unfit_told true h =
+        let n : ℕ = h.0 in
+        let l : n < k = omega (arith, h.1, length-range_with_len 0 k) in
+        let z : 0 + n ≡ n = omega arith in
+        let u = rw (get_or-range_with_len 0 k n 0 l, z) at (h.2 0) in
+        sym (ap not (ap (all_fit v) (sym rest_all) ∙ one_unfit n 0 n z l u))
+    unfit_told false h = sym (ap not (ap (all_fit v) (sym rest_all) ∙ all_fitting k 0 (omega arith) each))
+      where
+        each : (n : ℕ) → n < k → not (fits v (difference f (at + w * n) w)) ≡ false
+        each n l =
+            let z : 0 + n ≡ n = omega arith in
+            rw (get_or-range_with_len 0 k n 0 l, z) at (h n 0 (omega arith) (omega (arith, l, length-range_with_len 0 k)))
+
   -- the numbers that they make: the next, of x, and those behind it
   module _ (x y : ℤ) (i : ℕ) (h : i < k) where
     abbrev u : ℤ
@@ -150,6 +181,21 @@ module _ (f : List ℕ) (at w k : ℕ) where
   pub none_off : (x y : ℤ) (i bound : ℕ) → k ≤ i → all_on_grid bound (sums x y (rest f at w k i)) ≡ true
   unfolding all_on_grid
   none_off x y i bound h = ap (all_on_grid bound) (no_sums x y i h)
+
+-- the numbers that follow x and y, by the bits of both
+abbrev pub asked : List ℕ → ℕ → ℕ → ℕ → ℕ → ℕ → List ℤ
+asked f at w k x y = sums (to_z w32 x) (to_z w32 y) (numbers w k (drop at (bits f)))
+
+module _ (f : List ℕ) (at w k : ℕ) where
+  pub asked_long : (x y : ℕ) → length (asked f at w k x y) ≡ k
+  asked_long x y = sums-length _ _ (numbers w k (drop at (bits f))) ∙ numbers-length w k (drop at (bits f))
+
+  pub asked_are : {x y : ℤ} → SFits w32 x → SFits w32 y → asked f at w k (of_z w32 x) (of_z w32 y) ≡ sums x y (numbers w k (drop at (bits f)))
+  asked_are p q = ap₂ (λ (x y : ℤ). sums x y (numbers w k (drop at (bits f)))) (to_z-of_z p) (to_z-of_z q)
+
+  pub asked_on : {x y : ℤ} → SFits w32 x → SFits w32 y → all_on_grid limit (sums x y (numbers w k (drop at (bits f)))) ≡ true → (i : ℕ)
+      → on_grid limit (get_or (asked f at w k (of_z w32 x) (of_z w32 y)) i (pos 0)) ≡ true
+  asked_on p q on i = all_on_grid_at limit (asked f at w k _ _) i (ap (all_on_grid limit) (asked_are p q) ∙ on)
 
 -- so far within the bound that no a and b differences of a width pass it: the numbers that follow are within it
 pub sums_near : (bound w a b : ℕ) (x y : ℤ) (l : List ℤ) → all_fit w l ≡ true → length l ≤ a + b → b ≤ a → a ≤ b + 1 → nat_abs x + a * 2 ^ (w - 1) ≤ bound → nat_abs y + b * 2 ^ (w - 1) ≤ bound

@@ -1,17 +1,24 @@
 -- Points that stand in a file: the first, and the differences behind it.
 use mathlib.Core.Path.{◌≡◌, refl, sym, ◌∙◌, ap, ap₂}
-use mathlib.Core.Bool.{Bool, ◌&&◌, and_assoc}
+use mathlib.Core.Bool.{Bool, false, ◌&&◌, ◌||◌, and_assoc}
 use mathlib.Core.List.{List, [], ◌∷◌}
 use Prim.Native.Nat.{ℕ, zero, suc, ◌+◌, ◌-◌, ◌*◌, ◌<◌, ◌≤◌}
 use native.Mathlib.Omega.{arith}
 use lib.ListN.{length, take, drop, set, length-set}
 use lib.Seq.{drop-drop}
 use lib.IntN.{ℤ}
+use lib.Signed.{mag}
+use mir.Syntax.{w32}
+use mir.Val.{to_z, of_z}
+use mir.Facts.{to_z-of_z}
+use borrow.Author.Rules.{sfits_of}
+use borrow.Author.Tests.{eqb-false, ltb-false}
+use lib.Dec.{eqb, ltb}
+use Rattle.integers.proofs.Logic.{or_left, or_right}
 use Rattle.rows.specs.Rows.{placed}
 use Rattle.rows.proofs.PlacedLaws.{placed_behind, set_placed}
-use Rattle.bits.specs.Bits.{value}
+use Rattle.bits.specs.Bits.{value, bits}
 use Rattle.bits.specs.Signs.{signed, numbers}
-use Rattle.bits.specs.inside.Words.{Within}
 use Rattle.grid.specs.Limits.{on_grid, all_on_grid}
 use Rattle.steps.specs.Steps.{sums}
 use Rattle.steps.specs.Bodies.{body_size, steps_in, points_of_width}
@@ -72,14 +79,26 @@ module _ {f : List ℕ} {at w n : ℕ} (s : Stands f at w n) (h : 0 < n) where
       by zero h = absurd (omega arith)
       by (suc k) h = let e : k ≡ suc k - 1 = omega arith in ap (λ (m : ℕ). 64 + w * (2 * m)) e
 
-  pub x_there : Within f at 32
-  x_there = record { some = omega arith; few = omega arith; room = omega (arith, s.room, size_is) }
-
-  pub y_there : Within f (at + 32) 32
-  y_there = record { some = omega arith; few = omega arith; room = omega (arith, s.room, size_is) }
-
   pub long_enough : 8 ≤ length f
   long_enough = omega (arith, s.room, size_is)
 
   pub steps_there : Width w → There f (at + 64) w (2 * (n - 1))
   steps_there v = record { width = v; long = long_enough; short = s.short; room = omega (arith, s.room, size_is) }
+
+-- some points, by the first as it was read
+pub points_read : (f : List ℕ) (at w n : ℕ) → 0 < n → {x y : ℤ} → mag x < 2147483648 → mag y < 2147483648
+    → x ≡ signed 32 (value (take 32 (drop at (bits f)))) → y ≡ signed 32 (value (take 32 (drop (at + 32) (bits f))))
+    → points_of_width n w (drop at (bits f))
+    ≡ to_z w32 (of_z w32 x) ∷ to_z w32 (of_z w32 y) ∷ sums (to_z w32 (of_z w32 x)) (to_z w32 (of_z w32 y)) (numbers w (2 * (n - 1)) (drop (at + 64) (bits f)))
+points_read f at w n h p q e g =
+    some_points (bits f) at w n h _ _ (to_z-of_z {w = w32} (sfits_of p) ∙ e) (to_z-of_z {w = w32} (sfits_of q) ∙ g)
+
+-- whether it is on the grid, as it was tested
+pub two_told : (bound : ℕ) (x y : ℤ) (l : List ℤ) {p q t : Bool} → p ≡ on_grid bound x → q ≡ on_grid bound y → (p && q) ≡ t
+    → all_on_grid bound (x ∷ y ∷ l) ≡ (t && all_on_grid bound l)
+two_told bound x y l e f g = two_on bound x y l ∙ ap (λ (b : Bool). b && all_on_grid bound l) (sym (ap₂ ◌&&◌ e f) ∙ g)
+
+-- the differences, in a width that was tested
+pub tested_there : {f : List ℕ} {at w n : ℕ} → Stands f at w n → 0 < n → (eqb w 0 || ltb 32 w) ≡ false → There f (at + 64) w (2 * (n - 1))
+tested_there {f} {at} {w} {n} s some e =
+    steps_there s some (record { some = omega (arith, eqb-false w 0 (or_left (eqb w 0) (ltb 32 w) e)); few = ltb-false 32 w (or_right (eqb w 0) (ltb 32 w) e) })

@@ -1,12 +1,12 @@
 -- How far a contour's differences are measured, and written.
 use mathlib.Core.Path.{◌≡◌, refl, sym, ◌∙◌, ap, ap₂, subst}
-use mathlib.Core.Bool.{Bool, true, ◌&&◌, and_assoc, and-true}
+use mathlib.Core.Bool.{Bool, true, false, ◌&&◌, and_assoc, and-true}
 use mathlib.Core.List.{List, [], ◌∷◌, ◌++◌, append_assoc, append-nil}
 use Prim.Native.Nat.{ℕ, suc, ◌+◌, ◌-◌, ◌*◌, ◌%◌, ◌^◌, ◌≤◌, ◌<◌}
 use native.Mathlib.Decide.{dec_le}
 use native.Mathlib.Nat.{mod-eq_of_lt, mul-le-mul_right}
 use native.Mathlib.Omega.{arith}
-use lib.Dec.{ltb}
+use lib.Dec.{ltb, eqb}
 use lib.Bits.{bit_or, or_lt, or_add_and, and_le_l, and_le_r}
 use lib.Pow.{pow-add, pow_pos, low}
 use lib.ListN.{length, get_or, take, drop, length-append, length-drop}
@@ -15,7 +15,7 @@ use lib.IntN.{ℤ, pos, negsuc}
 use lib.Signed.{mag}
 use mir.Syntax.{w32}
 use mir.Val.{of_z}
-use borrow.Author.Tests.{ltb-true, lt-ltb, le-ltb}
+use borrow.Author.Tests.{ltb-true, lt-ltb, le-ltb, eqb-false}
 use Rattle.integers.proofs.Logic.{and_left, and_right}
 use Rattle.bits.specs.declared.inner.pens.Pen.{Pen}
 use Rattle.bits.specs.Bits.{field}
@@ -49,9 +49,6 @@ or_below k a b = go (dec_le (suc a) q) (dec_le (suc b) q)
 -- the widths that all differences fit, by what those before position k reach, or-ed, and by those that are left
 abbrev pub Reached : List ℤ → ℕ → ℕ → Type 0
 Reached c all k = (w : ℕ) → all_fit w (differences c) ≡ (ltb all (2 ^ (w - 1)) && all_fit w (differences (drop k c)))
-
-pub reached_none : (c : List ℤ) → Reached c 0 0
-reached_none c w = sym (ap (λ (b : Bool). b && all_fit w (differences c)) (lt-ltb 0 (2 ^ (w - 1)) (pow_pos (w - 1))))
 
 module _ (c : List ℤ) (all k : ℕ) (so : Reached c all k) where
   pub reached_more : k + 2 < length c → Reached c (bit_or all (mag (step c k))) (k + 1)
@@ -259,6 +256,10 @@ pub body_none : (c : List ℤ) → length c ≡ 0 → body c ≡ []
 unfolding fields
 body_none [] e = refl
 body_none (x ∷ c) e = absurd (omega arith)
+
+-- a contour that has points has two coordinates
+pub writable_some : {row : List ℕ} {p : Pen} {c : List ℤ} {w : ℕ} → Writable row p c w → eqb (length c) 0 ≡ false → 2 ≤ length c
+writable_some {row} {p} {c} s e = omega (arith, s.even, eqb-false (length c) 0 e)
 
 -- the first point, and the differences behind it
 module _ {row : List ℕ} {p : Pen} {c : List ℤ} {w : ℕ} (s : Writable row p c w) (some : 2 ≤ length c) where

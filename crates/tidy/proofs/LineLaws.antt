@@ -1,5 +1,5 @@
 -- The lines of the contours that went: their words, how long they are, and how they are put one behind the other.
-use mathlib.Core.Path.{◌≡◌, sym}
+use mathlib.Core.Path.{◌≡◌, sym, ◌∙◌, ap}
 use mathlib.Core.Bool.{Bool, true, false}
 use mathlib.Core.List.{List, [], ◌∷◌, ◌++◌, append_assoc, append-nil}
 use Prim.Native.Nat.{ℕ, suc, ◌+◌, ◌*◌, ◌^◌, ◌≤◌, ◌<◌}
@@ -9,9 +9,9 @@ use lib.Dec.{eqb}
 use lib.ListN.{length, get_or, drop, length-append, drop_of_length-le}
 use lib.Seq.{drop-cons}
 use lib.IntN.{ℤ}
-use mir.Facts.{sfits_to_z}
+use mir.Facts.{sfits_to_z, to_z-of_z}
 use mir.Syntax.{w64}
-use mir.Val.{SFits}
+use mir.Val.{SFits, to_z, of_z}
 use borrow.Author.Tests.{eq-eqb, ne_eqb}
 use Rattle.integers.proofs.Modulo.{mod64_lt}
 use Rattle.grid.specs.Points.{points}
@@ -23,7 +23,7 @@ use Rattle.buffer.specs.Sets.{joined, contour as contour_at, contours}
 use Rattle.sets.proofs.PartLaws.{next_part}
 use Rattle.report.specs.Text.{decimal, signed, line_end}
 use Rattle.report.specs.inside.Lines.{Put}
-use Rattle.report.proofs.PutLaws.{Going, going_none, going_room, going_more, going_all, going_same}
+use Rattle.report.proofs.PutLaws.{Going, going_none, going_room, going_more, going_all, going_same, two_words}
 use Rattle.report.proofs.TextLaws.{decimal-length, signed-length}
 use Rattle.tidy.specs.Words.{contour, dropped_as, has_collapsed, stands_behind, no_area, doubled_area, why, area, line, lines}
 
@@ -51,9 +51,16 @@ module _ (c : List ℤ) where
   unfolding area
   area_none e = rw (eq-eqb (count c) 0 e, area)
 
-  pub area_told : (count c ≡ 0 → ⊥) → area c ≡ doubled_area ++ signed (reported (points c))
+  area_told : (count c ≡ 0 → ⊥) → area c ≡ doubled_area ++ signed (reported (points c))
   unfolding area
   area_told n = rw (ne_eqb (count c) 0 n, area)
+
+  -- the words that are put, where the area was told
+  pub area_begun : (count c ≡ 0 → ⊥) → (r : ℤ) → SFits w64 r → r ≡ reported (points c) → (at : ℕ) (text : List ℕ) → at + length (area c) ≤ length text
+      → Going at (area c) text at text (doubled_area ∷ signed (to_z w64 (of_z w64 r)) ∷ [])
+  area_begun n r f e at text h =
+      going_none at text (doubled_area ∷ signed (to_z w64 (of_z w64 r)) ∷ [])
+      (area_told n ∙ ap (λ (z : ℤ). doubled_area ++ signed z) (sym (to_z-of_z f ∙ e)) ∙ two_words doubled_area (signed (to_z w64 (of_z w64 r)))) h
 
   reported_fits : SFits w64 (reported (points c))
   unfolding wrapped
@@ -84,6 +91,10 @@ module _ (k fate : ℕ) (c : List ℤ) where
   pub line_words : (fate ≡ 0 → ⊥) → line k fate c ≡ joined (words k fate c)
   unfolding line
   line_words n = rw (ne_eqb fate 0 n, line) (four_words (contour ++ decimal k ++ dropped_as) (why fate) (area c) line_end)
+
+  -- all are to be put
+  pub line_begun : (fate ≡ 0 → ⊥) → (at : ℕ) (text : List ℕ) → at + length (line k fate c) ≤ length text → Going at (line k fate c) text at text (words k fate c)
+  line_begun n at text h = going_none at text (words k fate c) (line_words n) h
 
   -- nothing is put where it is
   pub none_put : fate ≡ 0 → (at : ℕ) (text : List ℕ) → Put at (line k fate c) text at text

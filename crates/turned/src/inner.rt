@@ -1,5 +1,5 @@
 // The least rotation of a contour, by a race of two starts; and by those of two contours the smallest start from which one is the other.
-ghost use Rattle.std.specs.Prelude.{◌≡◌, ◌+◌, ◌*◌, ◌%◌, ◌<◌, ◌≤◌, max, length};
+ghost use Rattle.std.specs.Prelude.{◌≡◌, ◌+◌, ◌*◌, ◌%◌, ◌<◌, ◌≤◌, length};
 ghost use Rattle.grid.specs.Domain.{Contour};
 ghost use Rattle.turned.specs.Starts.{smallest_start};
 ghost use Rattle.turned.specs.inside.Words.{key as key_of, keys, word, from, Least, Apart};
@@ -11,7 +11,7 @@ use grid::Point;
 pub fn key(p: Point) -> u64
     ensures { result ≡ key_of p }
 {
-    integers::bits_32(p.y) as u64 * 4_294_967_296 + integers::bits_32(p.x) as u64
+    u64::from(p.y.cast_unsigned()) * 4_294_967_296 + u64::from(p.x.cast_unsigned())
 }
 
 // The position x of n, counted on past the end.
@@ -30,26 +30,17 @@ fn key_at(row: &[i32], n: usize, x: usize) -> u64
     key(grid::inner::point_at(row, round(x, n)))
 }
 
-// The larger of two numbers.
-pub fn larger(a: usize, b: usize) -> usize
-    ensures { result ≡ max a b }
-{
-    if a < b { b } else { a }
-}
-
 // How far two rows agree, the first from position a on and the second from b on, of n points that both have there.
 pub fn level(first: &[i32], a: usize, second: &[i32], b: usize, n: usize) -> usize
     requires { (2 * (a + n) ≤ length first.now) × (2 * (b + n) ≤ length second.now) }
     ensures { Apart (keys first.now a) (keys second.now b) n result }
 {
-    let mut k: usize = 0;
-    while k < n {
+    for k in 0..n {
         let one = key(grid::inner::point_at(first, a + k));
         let other = key(grid::inner::point_at(second, b + k));
         if one != other {
             return k;
         }
-        k += 1;
     }
     n
 }
@@ -64,7 +55,7 @@ fn agree(first: &[i32], second: &[i32], n: usize, i: usize, j: usize) -> usize
     while k < n {
         let x = round(i + k, n);
         let y = round(j + k, n);
-        let run = n - larger(larger(x, y), k);
+        let run = n - x.max(y).max(k);
         let r = level(first, x, second, y, run);
         if r < run {
             return k + r;
@@ -119,7 +110,7 @@ fn onward(row: &[i32], n: usize, race: Race, k: usize) -> Race
             j: race.j + k + 1,
         };
     }
-    let i = larger(race.j, race.i + k + 1);
+    let i = race.j.max(race.i + k + 1);
     Race { i, j: i + 1 }
 }
 
@@ -141,7 +132,7 @@ fn least(row: &[i32], n: usize) -> Turned
             };
         }
         race = onward(row, n, race, k);
-        steps = steps + k + 1;
+        steps += k + 1;
     }
     Turned {
         start: race.i,

@@ -16,5 +16,5 @@ pub fn ukm_compare_sets(
         ≡ outcome points.now ranges.now others.now other_ranges.now
         listing.old }
 {
-    difference::compare(points, ranges, others, other_ranges, listing)
+    Compared::from(difference::compare(points, ranges, others, other_ranges, listing))
 }

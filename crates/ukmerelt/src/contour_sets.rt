@@ -20,33 +20,33 @@ pub fn ukm_ranges_sound(ranges: &[Span], count: usize) -> bool
 pub fn ukm_set_is_simple(points: &[i32], ranges: &[[usize; 2]]) -> Verdict
     ensures { result ≡ simple points.now ranges.now }
 {
-    sets::simple::is_simple(points, ranges)
+    Verdict::from(sets::simple::is_simple(points, ranges))
 }
 
 // Whether no contour of the set has spikes.
 pub fn ukm_set_has_no_spikes(points: &[i32], ranges: &[[usize; 2]]) -> Verdict
     ensures { result ≡ spike_free points.now ranges.now }
 {
-    sets::despike::has_no_spikes(points, ranges)
+    Verdict::from(sets::despike::has_no_spikes(points, ranges))
 }
 
 // The doubled area: the sum of the contours' own.
 pub fn ukm_set_area_two(points: &[i32], ranges: &[[usize; 2]]) -> Area
     ensures { result ≡ doubled points.now ranges.now }
 {
-    sets::areas::area_two(points, ranges)
+    Area::from(sets::areas::area_two(points, ranges))
 }
 
 // The area, cut toward zero.
 pub fn ukm_set_area(points: &[i32], ranges: &[[usize; 2]]) -> Area
     ensures { result ≡ half points.now ranges.now }
 {
-    sets::areas::area(points, ranges)
+    Area::from(sets::areas::area(points, ranges))
 }
 
 // Whether the shape has the point x, y: inside its first contour or on it, and inside no later one.
 pub fn ukm_in_shape(points: &[i32], ranges: &[[usize; 2]], x: i32, y: i32) -> Verdict
     ensures { result ≡ in_shape points.now ranges.now x y }
 {
-    sets::in_shape(points, ranges, x, y)
+    Verdict::from(sets::in_shape(points, ranges, x, y))
 }

@@ -18,56 +18,56 @@ use replies::Verdict;
 pub fn ukm_area_two(points: &[i32]) -> Area
     ensures { result ≡ doubled points.now }
 {
-    area::area_two(points)
+    Area::from(area::area_two(points))
 }
 
 // The area, cut toward zero.
 pub fn ukm_area(points: &[i32]) -> Area
     ensures { result ≡ half points.now }
 {
-    area::area(points)
+    Area::from(area::area(points))
 }
 
 // Whether all turns have one sign and no edge reverses, equal neighbours skipped.
 pub fn ukm_is_convex(points: &[i32]) -> Verdict
     ensures { result ≡ convex points.now }
 {
-    path::is_convex(points)
+    Verdict::from(path::is_convex(points))
 }
 
 // Whether the reported doubled area is at or below zero.
 pub fn ukm_is_clockwise(points: &[i32]) -> Verdict
     ensures { result ≡ clockwise points.now }
 {
-    path::is_clockwise_ordered(points)
+    Verdict::from(path::is_clockwise_ordered(points))
 }
 
 // Whether the contour contains the point x, y.
 pub fn ukm_contains(points: &[i32], x: i32, y: i32) -> Verdict
     ensures { result ≡ contains points.now x y }
 {
-    path::contains_point(points, x, y)
+    Verdict::from(path::contains_point(points, x, y))
 }
 
 // Where the point x, y lies: outside the contour, on its boundary or inside.
 pub fn ukm_locate(points: &[i32], x: i32, y: i32) -> Located
     ensures { result ≡ located points.now x y }
 {
-    path::locate(points, x, y)
+    Located::from(path::locate(points, x, y))
 }
 
 // Whether the contour has three or more points, and no vertex whose two edges have cross 0.
 pub fn ukm_is_simple(points: &[i32]) -> Verdict
     ensures { result ≡ simple points.now }
 {
-    clean::simple::is_simple(points)
+    Verdict::from(clean::simple::is_simple(points))
 }
 
 // Whether the contour has no spikes, equal neighbours aside.
 pub fn ukm_has_no_spikes(points: &[i32]) -> Verdict
     ensures { result ≡ spike_free points.now }
 {
-    clean::despike::has_no_spikes(points)
+    Verdict::from(clean::despike::has_no_spikes(points))
 }
 
 // The contour without its collinear points.
@@ -82,7 +82,7 @@ pub fn ukm_simplified(
         ≡ outcome R.Rule.Collinear points.now
         (lent next.old prev.old mark.old out.old) }
 {
-    clean::simple::simplified(points, next, prev, mark, out)
+    Cleaned::from(clean::simple::simplified(points, next, prev, mark, out))
 }
 
 // The contour without its spikes and its equal neighbours.
@@ -97,5 +97,5 @@ pub fn ukm_despiked(
         ≡ outcome R.Rule.Spike points.now
         (lent next.old prev.old mark.old out.old) }
 {
-    clean::despike::despiked(points, next, prev, mark, out)
+    Cleaned::from(clean::despike::despiked(points, next, prev, mark, out))
 }

@@ -17,7 +17,7 @@ pub fn ukm_import_mm(
     ensures { leaving result out.new records.new []
         ≡ import_outcome kinds.now floats.now out.old records.old }
 {
-    drawing::import(kinds, floats, out, records)
+    Packed::from(drawing::import(kinds, floats, out, records))
 }
 
 // Writes the commands of a contour set to the front of the rows.
@@ -30,5 +30,5 @@ pub fn ukm_export_mm(
     ensures { export_leaving result kinds.new floats.new
         ≡ export_outcome points.now ranges.now kinds.old floats.old }
 {
-    drawing::export(points, ranges, kinds, floats)
+    Drawn::from(drawing::export(points, ranges, kinds, floats))
 }

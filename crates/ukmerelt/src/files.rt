@@ -18,7 +18,7 @@ pub fn ukm_read_set(
     ensures { leaving result out.new records.new groups.new
         ≡ read_outcome bytes.now out.old records.old groups.old }
 {
-    setfile::read(bytes, out, records, groups)
+    Read::from(setfile::read(bytes, out, records, groups))
 }
 
 // Writes a shape set's file of edition 1 into the front of the row of bytes.
@@ -31,7 +31,7 @@ pub fn ukm_write_set(
     ensures { write_leaving result.reply result.bytes bytes.new
         ≡ write_outcome points.now contours.now shapes.now bytes.old }
 {
-    setfile::write(points, contours, shapes, bytes)
+    Written::from(setfile::write(points, contours, shapes, bytes))
 }
 
 // Writes a shape set's file of edition 2 into the front of the row of bytes.
@@ -44,7 +44,7 @@ pub fn ukm_write_set_2(
     ensures { write_leaving result.reply result.bytes bytes.new
         ≡ write_2_outcome points.now contours.now shapes.now bytes.old }
 {
-    setfile::write_2(points, contours, shapes, bytes)
+    Written::from(setfile::write_2(points, contours, shapes, bytes))
 }
 
 // Writes what is sound of a damaged file into the front of the row of bytes, and lists the contours that were dropped.
@@ -52,5 +52,5 @@ pub fn ukm_salvage(bytes: &[u8], out: &mut [u8], dropped: &mut [[usize; 2]]) -> 
     ensures { salvage_leaving result out.new dropped.new
         ≡ salvage_outcome bytes.now out.old dropped.old }
 {
-    salvage::mend(bytes, out, dropped)
+    Salvaged::from(salvage::mend(bytes, out, dropped))
 }

@@ -16,7 +16,7 @@ pub fn ukm_pack_contour(
     ensures { leaving result out.new records.new groups.new
         ≡ with_contour contour.now out.old records.old groups.old }
 {
-    buffer::shapes::set_with_contour(contour, out, records, groups)
+    Packed::from(buffer::shapes::set_with_contour(contour, out, records, groups))
 }
 
 // Packs one shape.
@@ -31,7 +31,7 @@ pub fn ukm_pack_shape(
         ≡ with_shape points.now ranges.now out.old
         records.old groups.old }
 {
-    buffer::shapes::set_with_shape(points, ranges, out, records, groups)
+    Packed::from(buffer::shapes::set_with_shape(points, ranges, out, records, groups))
 }
 
 // Packs shapes.
@@ -47,7 +47,7 @@ pub fn ukm_pack_shapes(
         ≡ with_shapes points.now contours.now shapes.now
         out.old records.old groups.old }
 {
-    buffer::shapes::set_with_shapes(points, contours, shapes, out, records, groups)
+    Packed::from(buffer::shapes::set_with_shapes(points, contours, shapes, out, records, groups))
 }
 
 // Writes a contour set and one contour more.
@@ -62,7 +62,7 @@ pub fn ukm_add_contour(
         ≡ with_one_contour_more points.now ranges.now contour.now
         out.old records.old }
 {
-    buffer::contours::add_contour(points, ranges, contour, out, records)
+    Packed::from(buffer::contours::add_contour(points, ranges, contour, out, records))
 }
 
 // Writes a shape set and one shape more.
@@ -81,5 +81,7 @@ pub fn ukm_add_shape(
         more.now ranges.now
         out.old records.old groups.old }
 {
-    buffer::shapes::add_shape(points, contours, shapes, more, ranges, out, records, groups)
+    Packed::from(buffer::shapes::add_shape(
+        points, contours, shapes, more, ranges, out, records, groups,
+    ))
 }

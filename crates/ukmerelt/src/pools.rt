@@ -18,7 +18,7 @@ pub fn ukm_pool_add(
         ≡ called (number second) (add 0 contour.now)
         (lent points.old records.old contours.old) }
 {
-    pool::add(points, records, contours, second, contour)
+    replies::told(pool::add(points, records, contours, second, contour))
 }
 
 // A press removes its newest contour.
@@ -32,7 +32,7 @@ pub fn ukm_pool_remove(
         ≡ called (number second) remove
         (lent points.old records.old contours.old) }
 {
-    pool::remove(points, records, contours, second)
+    replies::told(pool::remove(points, records, contours, second))
 }
 
 // How many contours a press has.
@@ -44,7 +44,7 @@ pub fn ukm_pool_contours(
 ) -> Counted
     ensures { result ≡ contours_count (number second) (lent points.now records.now contours) }
 {
-    pool::contours_count(points, records, contours, second)
+    Counted::from(pool::contours_count(points, records, contours, second))
 }
 
 // How many points a press holds.
@@ -56,12 +56,12 @@ pub fn ukm_pool_held(
 ) -> Counted
     ensures { result ≡ held_count (number second) (lent points.now records.now contours) }
 {
-    pool::held(points, records, contours, second)
+    Counted::from(pool::held(points, records, contours, second))
 }
 
 // The free count.
 pub fn ukm_pool_free(points: &[i32], records: &[[usize; 4]], contours: usize) -> Counted
     ensures { result ≡ free_count (lent points.now records.now contours) }
 {
-    pool::free(points, records, contours)
+    Counted::from(pool::free(points, records, contours))
 }

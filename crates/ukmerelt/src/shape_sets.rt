@@ -14,7 +14,7 @@ pub fn ukm_shapes_is_simple(
 ) -> Verdict
     ensures { result ≡ shapes_simple points.now contours.now shapes.now }
 {
-    sets::shapes::is_simple(points, contours, shapes)
+    Verdict::from(sets::shapes::is_simple(points, contours, shapes))
 }
 
 // Whether no contour of the set has spikes.
@@ -25,19 +25,19 @@ pub fn ukm_shapes_has_no_spikes(
 ) -> Verdict
     ensures { result ≡ shapes_spike_free points.now contours.now shapes.now }
 {
-    sets::shapes::has_no_spikes(points, contours, shapes)
+    Verdict::from(sets::shapes::has_no_spikes(points, contours, shapes))
 }
 
 // The doubled area: the sum of the contours' own.
 pub fn ukm_shapes_area_two(points: &[i32], contours: &[[usize; 2]], shapes: &[[usize; 2]]) -> Area
     ensures { result ≡ shapes_doubled points.now contours.now shapes.now }
 {
-    sets::shapes::area_two(points, contours, shapes)
+    Area::from(sets::shapes::area_two(points, contours, shapes))
 }
 
 // The area, cut toward zero.
 pub fn ukm_shapes_area(points: &[i32], contours: &[[usize; 2]], shapes: &[[usize; 2]]) -> Area
     ensures { result ≡ shapes_half points.now contours.now shapes.now }
 {
-    sets::shapes::area(points, contours, shapes)
+    Area::from(sets::shapes::area(points, contours, shapes))
 }

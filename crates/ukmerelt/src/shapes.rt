@@ -22,7 +22,7 @@ pub fn ukm_simplified_shape(
         (lent next.old prev.old mark.old
         out.old records.old []) }
 {
-    sets::simple::simplified_shape(points, ranges, next, prev, mark, out, records)
+    CleanedSet::from(sets::simple::simplified_shape(points, ranges, next, prev, mark, out, records))
 }
 
 // The shape without its spikes.
@@ -42,7 +42,7 @@ pub fn ukm_despiked_shape(
         (lent next.old prev.old mark.old
         out.old records.old []) }
 {
-    sets::despike::despiked_shape(points, ranges, next, prev, mark, out, records)
+    CleanedSet::from(sets::despike::despiked_shape(points, ranges, next, prev, mark, out, records))
 }
 
 // The shapes without their collinear points.
@@ -64,9 +64,9 @@ pub fn ukm_simplified_shapes(
         (lent next.old prev.old mark.old
         out.old records.old groups.old) }
 {
-    sets::simple::simplified_shapes(
+    CleanedSet::from(sets::simple::simplified_shapes(
         points, contours, shapes, next, prev, mark, out, records, groups,
-    )
+    ))
 }
 
 // The shapes without their spikes.
@@ -88,7 +88,7 @@ pub fn ukm_despiked_shapes(
         (lent next.old prev.old mark.old
         out.old records.old groups.old) }
 {
-    sets::despike::despiked_shapes(
+    CleanedSet::from(sets::despike::despiked_shapes(
         points, contours, shapes, next, prev, mark, out, records, groups,
-    )
+    ))
 }

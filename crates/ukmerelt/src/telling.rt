@@ -19,7 +19,7 @@ pub fn ukm_simplified_fates(
         ≡ fates_outcome R.Rule.Collinear points.now contours.now shapes.now
         (lent next.old prev.old mark.old told.old) }
 {
-    fates::simplified(points, contours, shapes, next, prev, mark, told)
+    Counted::from(fates::simplified(points, contours, shapes, next, prev, mark, told))
 }
 
 // The fates of the contours where their shapes lose their spikes.
@@ -36,5 +36,5 @@ pub fn ukm_despiked_fates(
         ≡ fates_outcome R.Rule.Spike points.now contours.now shapes.now
         (lent next.old prev.old mark.old told.old) }
 {
-    fates::despiked(points, contours, shapes, next, prev, mark, told)
+    Counted::from(fates::despiked(points, contours, shapes, next, prev, mark, told))
 }

@@ -1,6 +1,6 @@
 -- The dots of vertices, by the marks of their points.
 use mathlib.Core.Path.{◌≡◌, refl, sym, ◌∙◌, ap, ap₂}
-use mathlib.Core.Bool.{Bool, true, false}
+use mathlib.Core.Bool.{Bool, false}
 use mathlib.Core.List.{List, [], ◌∷◌, append_assoc, append-nil}
 use Prim.Native.Nat.{ℕ, zero, suc, ◌*◌, ◌<◌}
 use native.Mathlib.Omega.{arith}
@@ -15,7 +15,7 @@ use Rattle.buffer.specs.Sets.{joined}
 use Rattle.ring.specs.Walk.{removed}
 use Rattle.report.specs.Text.{signed, space}
 use Rattle.report.specs.inside.Lines.{Put}
-use Rattle.vertices.specs.Vertices.{Vertex, vertices, dot, dot_if}
+use Rattle.vertices.specs.Vertices.{Vertex, vertices, dot}
 use Rattle.vertices.specs.inside.Marks.{survive}
 
 abbrev pub vertex : Point → Bool → Vertex
@@ -51,20 +51,6 @@ module _ (row : List ℤ) (mark : List ℕ) (h : length row ≡ 2 * length mark)
   marked_at i d l =
       vertices_at (survive mark) (points row) i d (omega (arith, length-map mark (λ (x : ℕ). ltb x removed))) as_many
       ∙ ap₂ vertex (points_at row i (omega arith)) (survive_at mark i l)
-
--- whether a vertex is one of those asked for
-module _ (b k : Bool) (p : Point) where
-  pub kept_shown : b ≡ true → k ≡ true → dot_if b (vertex p k) ≡ dot p
-  kept_shown e g = ap₂ (λ (b k : Bool). dot_if b (vertex p k)) e g
-
-  pub removed_hidden : b ≡ true → k ≡ false → dot_if b (vertex p k) ≡ []
-  removed_hidden e g = ap₂ (λ (b k : Bool). dot_if b (vertex p k)) e g
-
-  pub kept_hidden : b ≡ false → k ≡ true → dot_if b (vertex p k) ≡ []
-  kept_hidden e g = ap₂ (λ (b k : Bool). dot_if b (vertex p k)) e g
-
-  pub removed_shown : b ≡ false → k ≡ false → dot_if b (vertex p k) ≡ dot p
-  removed_shown e g = ap₂ (λ (b k : Bool). dot_if b (vertex p k)) e g
 
 -- nothing is put
 pub nothing_put : (at : ℕ) (text : List ℕ) → Put at [] text at text

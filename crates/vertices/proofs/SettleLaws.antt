@@ -5,10 +5,9 @@ use mathlib.Core.List.{List, [], ◌++◌, append_assoc, append-nil, map-append}
 use Prim.Native.Nat.{ℕ, ◌+◌, ◌*◌, ◌≤◌, ◌<◌}
 use native.Mathlib.Omega.{arith}
 use lib.Dec.{ltb}
-use lib.ListN.{length, take, drop, set, replicate, length-set, length-drop}
-use lib.Seq.{drop-length, take_all}
+use lib.ListN.{length, take, length-drop}
+use lib.Seq.{take_all}
 use lib.IntN.{ℤ}
-use borrow.Author.Fill.{fill_none, fill_more}
 use Rattle.grid.specs.Domain.{count, Contour}
 use Rattle.ring.specs.Walk.{removed}
 use Rattle.buffer.specs.Sets.{joined}
@@ -18,32 +17,14 @@ use Rattle.setfile.specs.inside.Reading.{from_bit, header_in, size_of}
 use Rattle.report.specs.Listing.{rule_of, job}
 use Rattle.report.specs.inside.Lines.{Contours, Listable}
 use Rattle.vertices.specs.Vertices.{kept_of, all_kept}
-use Rattle.vertices.specs.inside.Marks.{survive}
-use Rattle.vertices.proofs.AlongLaws.{Along, along_none, along_all, coming, here, along_met, along_long, along_more}
+use Rattle.vertices.specs.inside.Marks.{survive, Marked}
+use Rattle.vertices.proofs.AlongLaws.{Along, along_none, along_all, coming, here, along_met, along_long, along_ends, along_more}
 
--- the marks before position i are those of removed points
-pub record Removing (row₀ row : List ℕ) (i : ℕ) : Type 0 where
-  pub is : row ≡ replicate i removed ++ drop i row₀
-  pub long : length row ≡ length row₀
-  pub high : i ≤ length row₀
-
-pub removing_none : (row : List ℕ) → Removing row row 0
-removing_none row = record { is = fill_none row removed; long = refl; high = omega arith }
-
-module _ {row₀ row : List ℕ} {i : ℕ} (x : Removing row₀ row i) where
-  pub removing_more : i < length row → Removing row₀ (set row i removed) (i + 1)
-  removing_more h =
-      let below : i < length row₀ = omega (arith, x.long) in
-      record {
-        is = ap (λ (l : List ℕ). set l i removed) x.is ∙ fill_more i removed row₀ below;
-        long = length-set row i removed ∙ x.long;
-        high = omega arith;
-      }
-
-  pub removing_all : length row ≤ i → row ≡ replicate (length row₀) removed
-  removing_all h =
-      let e : i ≡ length row₀ = omega (arith, x.long, x.high) in
-      x.is ∙ rw (e, drop-length row₀) (append-nil (replicate (length row₀) removed))
+-- k points from number start on are in the row, and each point has a mark
+pub record Roomy (points : List ℤ) (mark : List ℕ) (start k : ℕ) : Type 0 where
+  pub within : 2 * start + 2 * k ≤ length points
+  pub each : length points ≡ 2 * length mark
+  pub few : length points ≤ 16384
 
 -- behind i of a file's n contours the marks before position start are those of their points
 pub record Settling (s : Bool) (f : List ℕ) (n : ℕ) (points : List ℤ) (mark₀ mark : List ℕ) (i at start : ℕ) : Type 0 where
@@ -83,6 +64,15 @@ module _ {s : Bool} {f : List ℕ} {n : ℕ} {points : List ℤ} {mark₀ mark :
                 ∙ append_assoc before (survive part) behind ∙ ap (λ (m : List Bool). before ++ (m ++ behind)) k
                 ∙ sym (ap (λ (m : List Entry). before ++ all_kept (rule_of s) (contours_of m)) (along_met x.along l)) ∙ x.kept;
           }
+
+  -- the points of the contour that is met are in the row, and have marks
+  module _ (listable : Listable s f n) (is : points ≡ joined (job f)) {next prev : List ℕ} (marked : Marked points next prev mark₀) (l : i < n) (h : Header) (e : h ≡ header_in s (from_bit f at)) where
+    pub settling_room : Roomy points mark start h.count
+    settling_room = record {
+      within = along_ends x.along l h e;
+      each = omega (arith, marked.each, x.long);
+      few = omega (arith, ap length is, listable.few);
+    }
 
   pub settling_all : n ≤ i → length points ≡ 2 * length mark → survive mark ≡ all_kept (rule_of s) (job f)
   unfolding joined

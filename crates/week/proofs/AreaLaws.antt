@@ -77,8 +77,8 @@ module _ (l : ℕ) (small : l < 2 ^ 32) where
 pub none_lacking : (h l : ℕ) → l ≡ 0 → h * 2 ^ 32 + 0 ≡ h * 2 ^ 32 - l
 none_lacking h l e = omega arith
 
-pub some_lacking : (h l : ℕ) → 0 < h → (l ≡ 0 → ⊥) → l < 2 ^ 32 → (h - 1) * 2 ^ 32 + (4294967295 - l + 1) ≡ h * 2 ^ 32 - l
-some_lacking h l p n s = omega arith
+pub some_lacking : (h l r : ℕ) → 0 < h → (l ≡ 0 → ⊥) → l < 2 ^ 32 → r < 2 ^ 32 → (r + l) % 2 ^ 32 ≡ 0 → (h - 1) * 2 ^ 32 + r ≡ h * 2 ^ 32 - l
+some_lacking h l r p n s t e = omega arith
 
 pub below_some : (z : ℤ) → lt_z z (pos 0) ≡ true → 0 < nat_abs z
 below_some (pos h) t = let g : h < 0 = ltb-true h 0 t in absurd (omega arith)

@@ -1,5 +1,5 @@
 -- Where the first of the files in a row ends.
-use mathlib.Core.Path.{◌≡◌, refl, ◌∙◌, ap}
+use mathlib.Core.Path.{◌≡◌, refl, sym, ◌∙◌, ap}
 use mathlib.Core.Bool.{Bool, true, false, ◌&&◌}
 use mathlib.Core.List.{List}
 use Prim.Native.Nat.{ℕ, zero, suc, ◌+◌, ◌-◌, ◌*◌, ◌/◌, ◌<◌, ◌≤◌}
@@ -11,9 +11,38 @@ use borrow.Author.Tests.{le-leb, lt-leb, leb-true}
 use Rattle.bits.specs.Bits.{bits}
 use Rattle.replies.specs.Ladder.{first_of}
 use Rattle.setfile.specs.Editions.{layout}
-use Rattle.setfile.specs.inside.Reading.{from_bit, At, header_size}
+use Rattle.setfile.specs.declared.inner.headers.Header.{Header}
+use Rattle.setfile.specs.inside.Reading.{from_bit, At, header_size, size_of}
 use Rattle.setfile.proofs.ContourLaws.{from-length}
-use Rattle.week.specs.Files.{is_there, or_none, bits_of_next, unless_none, bit_behind, bytes_by, head_refusals, own_length}
+use Rattle.std.specs.Int.{div_ceil}
+use Rattle.std.specs.Prelude.{Some, None}
+use Rattle.std.proofs.lemmas.Option.{none-some, same_Some}
+use Rattle.week.specs.Files.{if_any, is_there, or_none, bits_of_next, unless_none, bit_behind, bytes_by, whole_bytes, head_refusals, own_length}
+
+-- none, or some number, where 0 stands for none
+pub none_is : (n : ℕ) → 0 ≡ n → None ≡ if_any n
+none_is n e = ap if_any e
+
+pub some_is : (r n : ℕ) → r ≡ n → (r ≡ 0 → ⊥) → Some r ≡ if_any n
+some_is zero n e z = absurd (z refl)
+some_is (suc k) n e z = ap if_any e
+
+pub none_back : (n : ℕ) → None ≡ if_any n → n ≡ 0
+none_back zero e = refl
+none_back (suc k) e = absurd (none-some (suc k) e)
+
+pub some_back : (r n : ℕ) → Some r ≡ if_any n → (r ≡ n) × (r ≡ 0 → ⊥)
+some_back r zero e = absurd (none-some r (sym e))
+some_back r (suc k) e = let f = same_Some r (suc k) e in (f, λ z. omega arith)
+
+-- no contour is of no bits
+pub some_bits : (s : Bool) (h : Header) → size_of s h ≡ 0 → ⊥
+some_bits true h e = omega arith
+some_bits false h e = omega arith
+
+-- the bytes that so many bits fill
+pub filled_bytes : (n : ℕ) → div_ceil n 8 ≡ whole_bytes n
+filled_bytes n = omega arith
 
 -- the contour in front
 module _ (s : Bool) (l : List Bool) where

@@ -111,21 +111,6 @@ module _ (files : ℕ) (untold : Bool) (f : Figures) where
   by_files zero e = refl
   by_files (suc k) e = absurd (true≢false e)
 
-  by_none : (r : ℕ) → r ≡ 0 → counted_by 0 files untold f ≡ counted_by r files untold f
-  by_none r e = ap (λ (k : ℕ). counted_by k files untold f) (sym e)
-
-  by_some : (r : ℕ) → (r ≡ 0 → ⊥) → counted_by 1 files untold f ≡ counted_by r files untold f
-  by_some zero n = absurd (n refl)
-  by_some (suc k) n = refl
-
--- by what adding the file answers
-module _ (w : Week) (untold : Bool) (a came : Added) (is : a ≡ came) where
-  pub file_counted : a.reply ≡ 0 → counted_by 0 w.files untold a.figures ≡ with_file w untold came
-  file_counted e = by_none w.files untold a.figures a.reply e ∙ ap (with_file w untold) is
-
-  pub file_too_many : (a.reply ≡ 0 → ⊥) → counted_by 1 w.files untold a.figures ≡ with_file w untold came
-  file_too_many n = by_some w.files untold a.figures a.reply n ∙ ap (with_file w untold) is
-
 module _ (w : Week) (untold : Bool) (file : List ℕ) (next : Week) (is : next ≡ with_file w untold (with_found w.figures (found_file file))) where
   abbrev came_to : Added
   came_to = with_found w.figures (found_file file)

@@ -4,12 +4,18 @@ use mathlib.Core.List.{List, ◌++◌}
 use Prim.Native.Nat.{ℕ, zero, suc, ◌+◌, ◌/◌}
 use lib.Dec.{leb}
 use lib.ListN.{length, drop}
+use Rattle.std.specs.Prelude.{Option, Some, None}
 use Rattle.bits.specs.Bits.{bits}
 use Rattle.replies.specs.Ladder.{Rung, first_of}
 use Rattle.setfile.specs.Layouts.{promised}
 use Rattle.setfile.specs.Editions.{layout, is_second, bad_head}
 use Rattle.setfile.specs.Reading.{long}
 use Rattle.setfile.specs.inside.Reading.{header_size}
+
+-- a number, where 0 stands for none
+abbrev pub if_any : ℕ → Option ℕ
+if_any zero = None
+if_any (suc k) = Some (suc k)
 
 -- the contour in front is all there: its header, and as many bits as that says
 abbrev pub is_there : Bool → List Bool → Bool

@@ -24,7 +24,7 @@ fn move_down(window: &mut [u8], k: usize, n: usize) -> usize
 {
     let mut rest = [0u8; WINDOW];
     let m = n - k;
-    rows::inner::copy_bytes(&window[k..n], &mut rest, 0);
+    rows::inner::copy(&window[k..n], &mut rest, 0);
     text::put(window, 0, &rest[..m])
 }
 
@@ -54,10 +54,9 @@ fn count_all<R: Read>(stream: &mut R, window: &mut [u8]) -> io::Result<Week>
         if week.files == FILES {
             return Ok(week);
         }
-        let k = ending::first_length(&window[..n]);
-        if k == 0 {
+        let Some(k) = ending::first_length(&window[..n]) else {
             return Ok(counting::count(week, &window[..n], true));
-        }
+        };
         week = counting::count(week, &window[..k], false);
         if week.full {
             return Ok(week);

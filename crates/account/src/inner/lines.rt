@@ -4,14 +4,15 @@ ghost use Rattle.report.specs.inside.Lines.{Put};
 ghost use Rattle.account.specs.Words.{why, line as line_of, lines as lines_of, counts as counts_of};
 ghost use Rattle.account.specs.inside.Lines.{Numbers};
 
+use replies::Refusal;
 use report::inner::text;
 
-// Puts why a contour is dropped.
+// Puts why a contour is dropped, by the number that the list of the salvage has.
 fn put_reason(text: &mut [u8], at: usize, reason: usize) -> usize
     requires { at + length (why reason) ≤ length text.old }
     ensures { Put at (why reason) text.old result text.new }
 {
-    if reason == 3 {
+    if reason == Refusal::OffGrid as usize {
         return text::put(text, at, b"off the grid");
     }
     text::put(text, at, b"no shape")
@@ -36,12 +37,8 @@ pub fn put(list: &[[usize; 2]], text: &mut [u8]) -> usize
     ensures { Put 0 (lines_of list.now) text.old result text.new }
 {
     let mut behind: usize = 0;
-    let mut i: usize = 0;
-    while i < list.len() {
-        let number = list[i][0];
-        let reason = list[i][1];
+    for &[number, reason] in list {
         behind = put_line(text, behind, number + 1, reason);
-        i += 1;
     }
     behind
 }

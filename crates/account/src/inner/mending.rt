@@ -16,19 +16,18 @@ pub fn mend(bytes: &[u8], out: &mut [u8], text: &mut [u8]) -> Lengths
         ≡ outcome bytes.now out.old text.old }
 {
     let mut list = [[0usize; 2]; CONTOURS];
-    let salvaged = salvage::mend(bytes, out, &mut list);
-    if salvaged.reply != 0 {
-        let refused = text::put_line(text, 0, b"refused ", salvaged.reply as u64);
-        return Lengths {
+    match salvage::mend(bytes, out, &mut list) {
+        Ok(saved) => {
+            let n = saved.dropped;
+            let dropped = lines::put(&list[..n], text);
+            Lengths {
+                bytes: saved.bytes,
+                text: lines::put_counts(text, dropped, saved.missing, saved.past),
+            }
+        }
+        Err(refusal) => Lengths {
             bytes: 0,
-            text: refused,
-        };
-    }
-    let n = salvaged.dropped;
-    let dropped = lines::put(&list[..n], text);
-    let counted = lines::put_counts(text, dropped, salvaged.missing, salvaged.past);
-    Lengths {
-        bytes: salvaged.bytes,
-        text: counted,
+            text: text::put_line(text, 0, b"refused ", u64::from(refusal.number())),
+        },
     }
 }

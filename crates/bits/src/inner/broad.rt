@@ -43,8 +43,7 @@ pub fn sweep(bytes: &mut [u8], broad: Broad, width: usize, n: u64) -> Broad
     }
     let rest = all - 64;
     let full = broad.kept + (n >> rest);
-    pens::spell(bytes, at, full >> 32);
-    pens::spell(bytes, at + 4, full);
+    bytes[at..at + 8].copy_from_slice(&full.to_be_bytes());
     Broad {
         at: at + 8,
         kept: n << (64 - rest),
@@ -63,7 +62,7 @@ pub fn narrow(bytes: &mut [u8], broad: Broad) -> Pen
     let mut width = broad.width;
     while 32 <= width {
         pens::spell(bytes, at, kept >> 32);
-        kept = kept << 32;
+        kept <<= 32;
         at += 4;
         width -= 32;
     }

@@ -1,61 +1,14 @@
 // The number in the bits of a field: whole bytes are gathered, and shifted twice.
-ghost use Rattle.std.specs.Prelude.{◌≡◌, ◌+◌, ◌*◌, ◌^◌, ◌<◌, ◌≤◌, min, length, get_or, drop, take};
+ghost use Rattle.std.specs.Prelude.{◌≡◌, ◌+◌, ◌*◌, ◌^◌, ◌<◌, ◌≤◌, length, drop, take};
 ghost use Rattle.bits.specs.Bits.{value, bits};
 ghost use Rattle.bits.specs.inside.Words.{word as word_of, Within, Ahead};
 
-// One byte more, behind those of n.
-fn more(n: u64, b: u64) -> u64
-    requires { (n < 2 ^ 56) × (b < 256) }
-    ensures { result ≡ n * 256 + b }
-{
-    (n << 8) | b
-}
-
-// The number in the eight bytes from `at` on. LLVM makes one load of the loop.
+// The number in the eight bytes from `at` on. LLVM makes one load of it.
 fn eight(bytes: &[u8], at: usize) -> u64
     requires { at + 8 ≤ length bytes.now }
     ensures { result ≡ word_of 8 (drop at bytes.now) }
 {
-    let mut n: u64 = 0;
-    let mut i: usize = 0;
-    while i < 8 {
-        n = more(n, bytes[at + i] as u64);
-        i += 1;
-    }
-    n
-}
-
-// The byte i positions behind `at`, 0 where it is missing.
-fn byte(bytes: &[u8], at: usize, i: usize) -> u64
-    requires { at ≤ length bytes.now }
-    ensures { result ≡ get_or bytes.now (at + i) 0 }
-{
-    if i < bytes.len() - at {
-        bytes[at + i] as u64
-    } else {
-        0
-    }
-}
-
-// The number in the eight bytes from `at` on, of which some may be missing.
-fn last(bytes: &[u8], at: usize) -> u64
-    requires { at ≤ length bytes.now }
-    ensures { result ≡ word_of 8 (drop at bytes.now) }
-{
-    let mut n: u64 = 0;
-    let mut i: usize = 0;
-    while i < 8 {
-        n = more(n, byte(bytes, at, i));
-        i += 1;
-    }
-    n
-}
-
-// The smaller of two numbers.
-fn smaller(a: usize, b: usize) -> usize
-    ensures { result ≡ min a b }
-{
-    if a < b { a } else { b }
+    u64::from_be_bytes(*bytes[at..at + 8].first_chunk().unwrap())
 }
 
 // The number in the `width` bits from bit `at` on, of a row of eight bytes or more: near its end it is cut out of the last eight.
@@ -63,7 +16,7 @@ pub fn long_number(bytes: &[u8], at: usize, width: usize) -> u64
     requires { Within bytes.now at width × (8 ≤ length bytes.now) }
     ensures { result ≡ value (take width (drop at (bits bytes.now))) }
 {
-    let from = smaller(at / 8, bytes.len() - 8);
+    let from = (at / 8).min(bytes.len() - 8);
     (eight(bytes, from) << (at - 8 * from)) >> (64 - width)
 }
 
@@ -83,7 +36,9 @@ pub fn number(bytes: &[u8], at: usize, width: usize) -> u64
     ensures { result ≡ value (take width (drop at (bits bytes.now))) }
 {
     if bytes.len() < 8 {
-        return (last(bytes, at / 8) << (at % 8)) >> (64 - width);
+        let mut filled = [0u8; 8];
+        filled[..bytes.len()].copy_from_slice(bytes);
+        return long_number(&filled, at, width);
     }
     long_number(bytes, at, width)
 }

@@ -13,15 +13,12 @@ pub struct Pen {
     pub width: usize,
 }
 
-// Four bytes of a number.
+// The last four bytes of a number.
 pub fn spell(bytes: &mut [u8], at: usize, n: u64)
     requires { at + 4 ≤ length bytes.old }
     ensures { bytes.new ≡ placed at (spelled 4 n) bytes.old }
 {
-    bytes[at] = (n / 16_777_216 % 256) as u8;
-    bytes[at + 1] = (n / 65_536 % 256) as u8;
-    bytes[at + 2] = (n / 256 % 256) as u8;
-    bytes[at + 3] = (n % 256) as u8;
+    bytes[at..at + 4].copy_from_slice(&n.to_be_bytes()[4..]);
 }
 
 // A number in a field of `width` bits.
@@ -61,7 +58,7 @@ fn spill(bytes: &mut [u8], pen: Pen) -> Pen
     while 8 <= width {
         width -= 8;
         bytes[at] = (kept >> width) as u8;
-        kept = kept % (1 << width);
+        kept %= 1 << width;
         at += 1;
     }
     Pen { at, kept, width }

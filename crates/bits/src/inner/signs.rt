@@ -3,7 +3,7 @@ ghost use Rattle.std.specs.Prelude.{◌≡◌, ◌^◌, ◌<◌, ◌≤◌};
 ghost use Rattle.std.specs.Int.Signed.{mag};
 ghost use Rattle.bits.specs.Signs.{signed as signed_of};
 
-// How far a number reaches: z, or -1 - z where it is below zero.
+// How far a number reaches: z, or -1 - z where it is below zero. LLVM does not take four of z.max(!z) in a step.
 pub fn reach(z: i64) -> u64
     ensures { result ≡ mag z }
 {
@@ -19,6 +19,6 @@ pub fn signed(n: u64, width: usize) -> i64
     if n < half {
         n as i64
     } else {
-        -1 - (2 * half - 1 - n) as i64
+        n as i64 - (2 * half) as i64
     }
 }

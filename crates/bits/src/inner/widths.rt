@@ -7,5 +7,5 @@ pub fn width_for(far: u64) -> usize
     requires { far < 2 ^ 31 }
     ensures { result ≡ width_for far }
 {
-    (65 - u64::leading_zeros(far)) as usize
+    (65 - far.leading_zeros()) as usize
 }

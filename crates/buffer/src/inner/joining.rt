@@ -12,12 +12,9 @@ pub fn records(from: &[[usize; 2]], out: &mut [[usize; 2]], at: usize, shift: us
     ensures { out.new
         ≡ placed at (rows (map (moved shift) (spans from.now))) out.old }
 {
-    let mut i: usize = 0;
-    while i < from.len() {
-        let start = from[i][0] + shift;
-        let end = from[i][1] + shift;
-        out[at + i] = [start, end];
-        i += 1;
+    let part = &mut out[at..at + from.len()];
+    for (i, range) in from.iter().enumerate() {
+        part[i] = [range[0] + shift, range[1] + shift];
     }
 }
 

@@ -1,44 +1,46 @@
 // The refusals of a set within a bound that is at most the limit.
 ghost use Rattle.std.specs.Prelude.{◌≡◌, ◌&&◌, ◌≤◌, length};
 ghost use Rattle.replies.specs.Ladder.{first_of};
+ghost use Rattle.replies.specs.Refusals.{told};
 ghost use Rattle.grid.specs.Limits.{limit};
 ghost use Rattle.grid.specs.Domain.{count};
 ghost use Rattle.buffer.specs.Spans.{spans, sound as sound_of};
 ghost use Rattle.buffer.specs.Refusals.{set};
 
 use crate::ranges;
+use grid::inner::bounds;
+use replies::Refusal;
 
-// What every call asks of a set, whose ranges are sound or not: 0, or the number of its first refusal.
-pub fn of_set(bound: u32, points: &[i32], sound: bool) -> u32
+// What every call asks of a set, whose ranges are sound or not: its first refusal, if any.
+pub fn of_set(bound: u32, points: &[i32], sound: bool) -> Result<(), Refusal>
     requires { bound ≤ limit }
-    ensures { result ≡ first_of (set bound points.now sound) }
+    ensures { told result ≡ first_of (set bound points.now sound) }
 {
-    let domain = grid::inner::bounds::domain(bound, points);
-    if domain == replies::ODD {
-        return replies::ODD;
-    }
-    if domain == replies::TOO_MANY {
-        return replies::TOO_MANY;
-    }
+    bounds::size(points)?;
     if !sound {
-        return replies::RANGES;
+        return Err(Refusal::Ranges);
     }
-    domain
+    bounds::within(bound, points)
 }
 
 // Of a contour set.
-pub fn contours(bound: u32, points: &[i32], ranges: &[[usize; 2]]) -> u32
+pub fn contours(bound: u32, points: &[i32], ranges: &[[usize; 2]]) -> Result<(), Refusal>
     requires { bound ≤ limit }
-    ensures { result ≡ first_of (set bound points.now
+    ensures { told result ≡ first_of (set bound points.now
         (sound_of (spans ranges.now) (count points.now))) }
 {
     of_set(bound, points, ranges::sound(ranges, points.len() / 2))
 }
 
 // Of a shape set.
-pub fn shapes(bound: u32, points: &[i32], contours: &[[usize; 2]], shapes: &[[usize; 2]]) -> u32
+pub fn shapes(
+    bound: u32,
+    points: &[i32],
+    contours: &[[usize; 2]],
+    shapes: &[[usize; 2]],
+) -> Result<(), Refusal>
     requires { bound ≤ limit }
-    ensures { result ≡ first_of (set bound points.now
+    ensures { told result ≡ first_of (set bound points.now
         (sound_of (spans contours.now) (count points.now)
         && sound_of (spans shapes.now) (length contours.now))) }
 {

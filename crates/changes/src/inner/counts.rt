@@ -10,14 +10,7 @@ use report::inner::text;
 fn counted(listing: &[[usize; 2]], kind: usize) -> usize
     ensures { result ≡ of_kind kind listing.now }
 {
-    let mut some: usize = 0;
-    let mut i: usize = 0;
-    while i < listing.len() {
-        let told = listing[i][0];
-        some += (told == kind) as usize;
-        i += 1;
-    }
-    some
+    listing.iter().filter(|line| line[0] == kind).count()
 }
 
 // Puts a word, and how many lines have this kind.

@@ -47,12 +47,8 @@ pub fn put(listing: &[[usize; 2]], text: &mut [u8]) -> usize
     ensures { Put 0 (lines_of 1 listing.now) text.old result text.new }
 {
     let mut behind: usize = 0;
-    let mut i: usize = 0;
-    while i < listing.len() {
-        let kind = listing[i][0];
-        let place = listing[i][1];
+    for (i, &[kind, place]) in listing.iter().enumerate() {
         behind = put_line(text, behind, i + 1, kind, place);
-        i += 1;
     }
     behind
 }

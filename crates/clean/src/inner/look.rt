@@ -28,28 +28,25 @@ fn onward(points: &[i32], n: usize, first: usize, begun: Edge, met: usize, start
 {
     let mut to = begun;
     let mut kept = met;
-    let mut i = start;
-    while i < n {
+    for i in start..n {
         let from = grid::inner::edge_at(points, i - 1, i);
-        if !grid::inner::aligned(to, from) {
-            to = from;
-            kept += 1;
-            i += 1;
-        } else if grid::still(from) {
-            i += 1;
-        } else if grid::inner::backward(to, from) {
-            return false;
-        } else {
-            to = from;
-            kept += 1;
-            i += 1;
+        if grid::inner::aligned(to, from) {
+            if grid::still(from) {
+                continue;
+            }
+            if grid::inner::backward(to, from) {
+                return false;
+            }
         }
+        to = from;
+        kept += 1;
     }
     let closing = grid::inner::edge_at(points, n - 1, first);
     3 <= kept && !grid::inner::reverses(to, closing)
 }
 
-// The same from the front.
+// The same from the front. It is made anew for each call, which costs less than one on a few points.
+#[inline(always)]
 pub fn none_reverses(points: &[i32], n: usize) -> bool
     requires { Contour points.now n × (3 ≤ n) }
     ensures { result ≡ spike_free_distinct (distinct_neighbours (points_of points.now)) }

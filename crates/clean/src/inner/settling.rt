@@ -2,9 +2,10 @@
 ghost use Rattle.std.specs.Prelude.{◌≡◌, ◌+◌, ◌*◌, ◌<◌, ◌≤◌, pos, length, get_or, set};
 ghost use Rattle.ring.specs.Rule.{goes};
 ghost use Rattle.ring.specs.inside.Rows.{FirstStand};
+ghost use Rattle.clean.specs.Outcome.{as_cleaned};
 ghost use Rattle.clean.specs.inside.Settling.{Ready, Settled, Swept, WrittenOut};
 
-use crate::cleaning::Cleaned;
+use crate::cleaning::Cleaning;
 use ring::Rule;
 
 // Point i of the contour becomes point k of the output.
@@ -14,10 +15,8 @@ fn put(points: &[i32], i: usize, out: &mut [i32], k: usize)
         ≡ set (set out.old (2 * k) (get_or points.now (2 * i) (pos 0)))
         (2 * k + 1) (get_or points.now (2 * i + 1) (pos 0)) }
 {
-    let x = points[2 * i];
-    let y = points[2 * i + 1];
-    out[2 * k] = x;
-    out[2 * k + 1] = y;
+    out[2 * k] = points[2 * i];
+    out[2 * k + 1] = points[2 * i + 1];
 }
 
 // How many points survive, and how many of them are marked.
@@ -33,18 +32,13 @@ fn write(points: &[i32], mark: &[u8], out: &mut [i32]) -> Survived
     requires points_in_bounds { length points.now ≤ length out.old }
     ensures { WrittenOut points.now mark.now out.old result out.new }
 {
-    let mut kept: usize = 0;
-    let mut marked: usize = 0;
-    let mut i: usize = 0;
-    while i < mark.len() {
-        let own = mark[i];
-        if own < 2 {
+    let mut kept = 0;
+    let mut marked = 0;
+    for (i, own) in mark.iter().enumerate() {
+        if *own < 2 {
             put(points, i, out, kept);
             kept += 1;
-            marked += own as usize;
-            i += 1;
-        } else {
-            i += 1;
+            marked += usize::from(*own);
         }
     }
     Survived {
@@ -63,27 +57,25 @@ pub fn settle_from(
     prev: &mut [u32],
     mark: &mut [u8],
     out: &mut [i32],
-) -> Cleaned
+) -> Cleaning
     requires ready { Ready points.now next.old prev.old mark.old out.old × (3 ≤ length mark.old) }
     requires standing_in_bounds { (standing < length mark.old)
         × FirstStand (goes rule points.now) (length mark.old) standing }
-    ensures { Settled rule points.now out.old result out.new }
+    ensures { Settled rule points.now out.old (as_cleaned result) out.new }
 {
     let walked = ring::inner::walk(rule, points, standing, next, prev, mark);
     let decisions = walked.decisions;
     if walked.kept {
         let survived = write(points, mark, out);
         let pending = survived.points - survived.marked;
-        Cleaned {
-            reply: replies::DONE,
-            points: survived.points,
+        Cleaning {
+            kept: Some(survived.points),
             decisions,
             turns: ring::inner::turns(walked, survived.points, pending, prev, mark),
         }
     } else {
-        Cleaned {
-            reply: replies::COLLAPSED,
-            points: 0,
+        Cleaning {
+            kept: None,
             decisions,
             turns: decisions,
         }
@@ -99,14 +91,13 @@ pub fn settle(
     prev: &mut [u32],
     mark: &mut [u8],
     out: &mut [i32],
-) -> Cleaned
+) -> Cleaning
     requires { Ready points.now next.old prev.old mark.old out.old }
-    ensures { Settled rule points.now out.old result out.new }
+    ensures { Settled rule points.now out.old (as_cleaned result) out.new }
 {
     if mark.len() < 3 {
-        return Cleaned {
-            reply: replies::COLLAPSED,
-            points: 0,
+        return Cleaning {
+            kept: None,
             decisions: 0,
             turns: 0,
         };
@@ -114,9 +105,8 @@ pub fn settle(
     let standing = ring::inner::standing(rule, points, mark.len());
     if standing == mark.len() {
         rows::inner::copy(points, out, 0);
-        return Cleaned {
-            reply: replies::DONE,
-            points: mark.len(),
+        return Cleaning {
+            kept: Some(mark.len()),
             decisions: mark.len(),
             turns: mark.len(),
         };
@@ -132,14 +122,14 @@ pub fn sweep(
     prev: &mut [u32],
     mark: &mut [u8],
     out: &mut [i32],
-) -> Cleaned
+) -> Cleaning
     requires { Ready points.now next.old prev.old mark.old out.old }
-    ensures settled { Settled rule points.now out.old result out.new }
+    ensures settled { Settled rule points.now out.old (as_cleaned result) out.new }
     ensures swept { Swept (length mark.old) next.new prev.new mark.new }
 {
     let cleaned = settle(rule, points, next, prev, mark, out);
-    rows::inner::zero(next);
-    rows::inner::zero(prev);
-    rows::inner::zero_bytes(mark);
+    next.fill(0);
+    prev.fill(0);
+    mark.fill(0);
     cleaned
 }

@@ -1,16 +1,34 @@
 // What two contours are to each other.
 ghost use Rattle.std.specs.Prelude.{◌≡◌};
 ghost use Rattle.grid.specs.Domain.{count, Contour};
-ghost use Rattle.difference.specs.Lines.{first_other as first_other_of, compared};
+ghost use Rattle.difference.specs.Lines.{first_other as first_other_of, compared, row as row_of};
 ghost use Rattle.difference.specs.inside.Sets.{Long};
 
 use crate::kind;
 
-// A line: its kind, and the place that goes with it.
+// What two contours are to each other, with the place where there is one to say.
 #[derive(Clone, Copy)]
-pub struct Line {
-    pub kind: usize,
-    pub place: usize,
+pub enum Line {
+    Same,
+    Elsewhere(usize),
+    Different(usize),
+    OnlyFirst,
+    OnlySecond,
+}
+
+impl Line {
+    // As it is written to a row: its kind, and its place, or 0.
+    pub fn row(self) -> [usize; 2]
+        ensures { result ≡ row_of self }
+    {
+        match self {
+            Line::Same => [kind::SAME, 0],
+            Line::Elsewhere(s) => [kind::ELSEWHERE, s],
+            Line::Different(d) => [kind::DIFFERENT, d],
+            Line::OnlyFirst => [kind::ONLY_FIRST, 0],
+            Line::OnlySecond => [kind::ONLY_SECOND, 0],
+        }
+    }
 }
 
 // The first of n positions at which two contours differ; n where they do not.
@@ -28,34 +46,16 @@ pub fn of_two(first: &[i32], second: &[i32]) -> Line
 {
     let m = first.len() / 2;
     let n = second.len() / 2;
-    if m < n {
-        return Line {
-            kind: kind::DIFFERENT,
-            place: first_other(first, second, m),
-        };
-    }
-    let d = first_other(first, second, n);
-    if n < m {
-        return Line {
-            kind: kind::DIFFERENT,
-            place: d,
-        };
+    let d = first_other(first, second, m.min(n));
+    if m != n {
+        return Line::Different(d);
     }
     if d == n {
-        return Line {
-            kind: kind::SAME,
-            place: 0,
-        };
+        return Line::Same;
     }
     let s = turned::inner::start(first, second, n);
     if s < n {
-        return Line {
-            kind: kind::ELSEWHERE,
-            place: s,
-        };
+        return Line::Elsewhere(s);
     }
-    Line {
-        kind: kind::DIFFERENT,
-        place: d,
-    }
+    Line::Different(d)
 }

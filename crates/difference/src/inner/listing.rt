@@ -8,7 +8,7 @@ ghost use Rattle.difference.specs.inside.Sets.{Sound, Room};
 
 use crate::inner::lines;
 use crate::inner::lines::Line;
-use crate::{kind, walker};
+use crate::walker;
 
 // Contour k of a set, as a walker that has come to it hands it out.
 fn contour_at<'a>(points: &'a [i32], ranges: &[[usize; 2]], k: usize) -> &'a [i32]
@@ -34,16 +34,10 @@ fn line_at(
         k same }
 {
     if ranges.len() <= k {
-        return Line {
-            kind: kind::ONLY_SECOND,
-            place: 0,
-        };
+        return Line::OnlySecond;
     }
     if other_ranges.len() <= k {
-        return Line {
-            kind: kind::ONLY_FIRST,
-            place: 0,
-        };
+        return Line::OnlyFirst;
     }
     lines::of_two(
         contour_at(points, ranges, k),
@@ -68,10 +62,8 @@ pub fn fill(
         (written (lines_of points.now ranges.now others.now other_ranges.now))
         listing.old }
 {
-    let mut k: usize = 0;
-    while k < n {
+    for k in 0..n {
         let line = line_at(points, ranges, others, other_ranges, k);
-        listing[k] = [line.kind, line.place];
-        k += 1;
+        listing[k] = line.row();
     }
 }

@@ -1,5 +1,5 @@
 // Kinds and floats, written to their rows.
-ghost use Rattle.std.specs.Prelude.{◌≡◌, map, ◌+◌, ◌*◌, ◌%◌, ◌≤◌, length, take, drop, replicate};
+ghost use Rattle.std.specs.Prelude.{◌≡◌, map, ◌+◌, ◌*◌, ◌%◌, ◌≤◌, length, take, drop};
 ghost use Rattle.rows.specs.Rows.{front, placed};
 ghost use Rattle.buffer.specs.Spans.{spans};
 ghost use Rattle.millimetres.specs.Scale.{millimetres};
@@ -14,13 +14,11 @@ fn some_places(points: &[i32], from: usize, n: usize, floats: &mut [f64])
         ≡ placed (2 * from) (map millimetres (take (2 * n) (drop (2 * from) points.now)))
         floats.old }
 {
-    let mut i: usize = 0;
-    while i < n {
+    for i in 0..n {
         let p = command::place_of(grid::inner::point_at(points, from + i));
         let at = 2 * (from + i);
         floats[at] = p.x;
         floats[at + 1] = p.y;
-        i += 1;
     }
 }
 
@@ -31,10 +29,8 @@ pub fn places(points: &[i32], floats: &mut [f64])
         ≡ front (map millimetres points.now) floats.old }
 {
     let n = points.len() / 2;
-    let mut k: usize = 0;
-    while k < n / 16 {
+    for k in 0..n / 16 {
         some_places(points, 16 * k, 16, floats);
-        k += 1;
     }
     some_places(points, 16 * (n / 16), n % 16, floats);
 }
@@ -43,25 +39,7 @@ pub fn places(points: &[i32], floats: &mut [f64])
 pub fn filled(ranges: &[[usize; 2]]) -> usize
     ensures { result ≡ filled_of (spans ranges.now) }
 {
-    let mut n: usize = 0;
-    let mut i: usize = 0;
-    while i < ranges.len() {
-        n += (ranges[i][0] < ranges[i][1]) as usize;
-        i += 1;
-    }
-    n
-}
-
-// Writes n Lines from `at` on.
-fn lines(kinds: &mut [u8], at: usize, n: usize)
-    requires { at + n ≤ length kinds.old }
-    ensures { kinds.new ≡ placed at (replicate n 1) kinds.old }
-{
-    let mut i: usize = 0;
-    while i < n {
-        kinds[at + i] = command::LINE;
-        i += 1;
-    }
+    ranges.iter().filter(|r| r[0] < r[1]).count()
 }
 
 // Writes the kinds of a contour of n points from `at` on, and answers the place behind them.
@@ -74,7 +52,7 @@ fn contour(kinds: &mut [u8], at: usize, n: usize) -> usize
         return at;
     }
     kinds[at] = command::MOVE;
-    lines(kinds, at + 1, n - 1);
+    kinds[at + 1..at + n].fill(command::LINE);
     kinds[at + n] = command::CLOSE;
     at + n + 1
 }
@@ -85,10 +63,8 @@ pub fn contours(ranges: &[[usize; 2]], kinds: &mut [u8])
     ensures { kinds.new
         ≡ front (set_kinds (spans ranges.now)) kinds.old }
 {
-    let mut at: usize = 0;
-    let mut i: usize = 0;
-    while i < ranges.len() {
-        at = contour(kinds, at, ranges[i][1] - ranges[i][0]);
-        i += 1;
+    let mut at = 0;
+    for r in ranges {
+        at = contour(kinds, at, r[1] - r[0]);
     }
 }

@@ -7,7 +7,7 @@ ghost use Rattle.fates.specs.inside.Telling.{Walkable};
 use clean::inner::look;
 use ring::Rule;
 
-// The contour is kept.
+// The contour is kept. These are numbers and no enum, since they stand in a row of bytes of the C interface.
 pub const KEPT: u8 = 0;
 
 // It collapsed.

@@ -26,11 +26,9 @@ fn others(
         ≡ take 1 fates.old
         ++ map (later rule outline) (drop 1 (contours points.now (spans ranges.now))) }
 {
-    let mut i: usize = 1;
-    while i < ranges.len() {
+    for i in 1..ranges.len() {
         let own = parts::named(points, ranges, i);
         fates[i] = contour::later(rule, outline, own, next, prev, mark);
-        i += 1;
     }
 }
 
@@ -47,7 +45,7 @@ pub fn shape(
     requires { Tellable points.now ranges.now next.old prev.old mark.old fates.old }
     ensures { fates.new ≡ shape_fates rule (contours points.now (spans ranges.now)) }
 {
-    if ranges.len() == 0 {
+    if ranges.is_empty() {
         return;
     }
     let own = parts::named(points, ranges, 0);

@@ -14,17 +14,7 @@ use ring::Rule;
 fn kept(fates: &[u8]) -> usize
     ensures { result ≡ occurrences kept_fate fates.now }
 {
-    let mut found: usize = 0;
-    let mut i: usize = 0;
-    while i < fates.len() {
-        if fates[i] == contour::KEPT {
-            found += 1;
-            i += 1;
-        } else {
-            i += 1;
-        }
-    }
-    found
+    fates.iter().filter(|fate| **fate == contour::KEPT).count()
 }
 
 // Shape after shape: the entries of each begin where those before it end.
@@ -43,21 +33,9 @@ fn each(
         ≡ fates_of rule
         (shapes_of points.now (spans contours.now) (spans shapes.now)) }
 {
-    let mut at: usize = 0;
-    let mut i: usize = 0;
-    while i < shapes.len() {
-        let to = shapes[i][1];
-        shape::shape(
-            rule,
-            points,
-            &contours[at..to],
-            next,
-            prev,
-            mark,
-            &mut fates[at..to],
-        );
-        at = to;
-        i += 1;
+    for &[from, to] in shapes {
+        let own = &contours[from..to];
+        shape::shape(rule, points, own, next, prev, mark, &mut fates[from..to]);
     }
 }
 

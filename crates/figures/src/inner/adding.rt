@@ -1,14 +1,16 @@
 // The figures of a set: of its contours, one after the other, or of its refusal.
-ghost use Rattle.std.specs.Prelude.{◌≡◌, [], ◌∷◌, ◌<◌};
+ghost use Rattle.std.specs.Prelude.{◌≡◌, [], ◌∷◌};
 ghost use Rattle.replies.specs.Ladder.{first_of};
+ghost use Rattle.replies.specs.Refusals.{number};
 ghost use Rattle.sets.specs.inside.Shape.{Zeroed};
 ghost use Rattle.figures.specs.Entries.{refused_set};
-ghost use Rattle.figures.specs.Batch.{numbers, figures_of};
-ghost use Rattle.figures.specs.Joining.{over, answered, fits as fits_in, sum as sum_of};
+ghost use Rattle.figures.specs.Batch.{figures_of};
+ghost use Rattle.figures.specs.Joining.{over, answered, added_as, fits as fits_in, sum as sum_of};
 ghost use Rattle.figures.specs.inside.Adding.{Countable, CountsAll};
 
-use crate::answer::{Added, Figures};
+use crate::answer::Figures;
 use crate::inner::{entries, sums};
+use replies::Refusal;
 use ring::Rule;
 
 // The figures of the contours, cleaned one after the other.
@@ -25,12 +27,10 @@ fn each(
     ensures { CountsAll rule points.now contours.now out.old result out.new }
 {
     let mut all = crate::none();
-    let mut i: usize = 0;
-    while i < contours.len() {
+    for i in 0..contours.len() {
         let own = buffer::inner::parts::named(points, contours, i);
         let more = entries::of_contour(rule, own, next, prev, mark, out);
         all = sums::sum(all, more);
-        i += 1;
     }
     all
 }
@@ -56,18 +56,14 @@ pub fn sweep(
 }
 
 // A refused set counts once, under its number.
-pub fn add_refused(f: Figures, refused: u32) -> Added
-    requires { refused < numbers }
-    ensures { result ≡ answered (first_of (over (fits_in f 1))) f (sum_of f (figures_of (refused_set refused ∷ []))) }
+pub fn add_refused(f: Figures, refusal: Refusal) -> Result<Figures, Refusal>
+    ensures { added_as f result
+        ≡ answered (first_of (over (fits_in f 1))) f
+        (sum_of f (figures_of (refused_set (number refusal) ∷ []))) }
 {
     if !sums::fits(f, 1) {
-        return Added {
-            reply: replies::FIGURES_FULL,
-            figures: f,
-        };
+        return Err(Refusal::FiguresFull);
     }
-    Added {
-        reply: replies::DONE,
-        figures: sums::sum(f, entries::of_entry(refused as usize, 0, 0, 0, 0)),
-    }
+    let number = refusal.number() as usize;
+    Ok(sums::sum(f, entries::of_entry(number, 0, 0, 0, 0)))
 }

@@ -16,21 +16,13 @@ pub struct Halves {
     pub low: u32,
 }
 
-// Of an area below 0 both are rounded down, by how far it lies below -1.
+// Both are rounded down.
 fn split(area: i64) -> Halves
     ensures { (result.high ≡ high_of area) × (result.low ≡ low_of area) }
 {
-    if area < 0 {
-        let rest = (-1 - area) as u64;
-        return Halves {
-            high: -1 - (rest / 4_294_967_296) as i64,
-            low: (4_294_967_295 - rest % 4_294_967_296) as u32,
-        };
-    }
-    let size = area as u64;
     Halves {
-        high: (size / 4_294_967_296) as i64,
-        low: (size % 4_294_967_296) as u32,
+        high: area.div_euclid(4_294_967_296),
+        low: area.rem_euclid(4_294_967_296) as u32,
     }
 }
 
@@ -74,9 +66,9 @@ pub fn of_contour(
         out,
     );
     let decisions = cleaned.decisions as u64;
-    if cleaned.reply != 0 {
-        return of_entry(7, n as u64, 0, decisions, 0);
-    }
+    let Some(kept) = cleaned.kept else {
+        return of_entry(replies::COLLAPSED as usize, n as u64, 0, decisions, 0);
+    };
     let area = area::inner::doubled_area(contour);
-    of_entry(0, n as u64, cleaned.points as u64, decisions, area)
+    of_entry(0, n as u64, kept as u64, decisions, area)
 }

@@ -10,21 +10,14 @@ fn total(row: &[u32]) -> u64
     requires { length row.now ≡ 22 }
     ensures { result ≡ total_of row.now }
 {
-    let mut sum: u64 = 0;
-    let mut i: usize = 0;
-    while i < row.len() {
-        sum += row[i] as u64;
-        i += 1;
-    }
-    sum
+    row.iter().map(|n| u64::from(*n)).sum()
 }
 
 // How many contours and refused sets are counted in all.
 pub fn counted(f: Figures) -> u64
     ensures { result ≡ in_all f }
 {
-    let row = f.totals;
-    total(&row)
+    total(&f.totals)
 }
 
 // Adds other totals to a row of them.
@@ -33,10 +26,8 @@ fn add_totals(row: &mut [u32], other: &[u32])
         × (total_of row.old + total_of other.now ≤ most_counted) }
     ensures { row.new ≡ added_up row.old other.now }
 {
-    let mut i: usize = 0;
-    while i < other.len() {
-        row[i] = row[i] + other[i];
-        i += 1;
+    for (i, more) in other.iter().enumerate() {
+        row[i] += *more;
     }
 }
 
@@ -76,8 +67,7 @@ pub fn sum(f: Figures, g: Figures) -> Figures
     ensures { result ≡ sum_of f g }
 {
     let mut totals = f.totals;
-    let other = g.totals;
-    add_totals(&mut totals, &other);
+    add_totals(&mut totals, &g.totals);
     let low = f.low as u64 + g.low as u64;
     let carry = low / 4_294_967_296;
     let high = f.high + g.high;

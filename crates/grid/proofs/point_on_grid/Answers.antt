@@ -1,6 +1,5 @@
 -- `grid::point_on_grid` meets its contract: each coordinate is within the limit.
-use Rattle.std.proofs.Common.{◌&&◌, ap, ◌∙◌, ap₂, to_z-of_z, w32, rules}
-use borrow.Author.Rules.{sfits_of}
+use Rattle.std.proofs.Common.{◌&&◌, ap, ◌∙◌, ap₂, to_z-of_z, w32, SFits, rules}
 use Rattle.grid.specs.Limits.{limit, on_grid}
 use Rattle.grid.proofs.point_on_grid.Goals as goal
 
@@ -15,6 +14,6 @@ on_grid-requires-2 c = search rules
 pub returns : goal.returns
 unfolding limit
 returns c =
-    let p = c.args.p in
-    ap₂ ◌&&◌ (c.on_grid.ensures ∙ ap (on_grid limit) (to_z-of_z {w = w32} {z = p.x} (sfits_of c.struct_told-1.given.0.1)))
-    (c.on_grid-2.ensures ∙ ap (on_grid limit) (to_z-of_z {w = w32} {z = p.y} (sfits_of c.struct_told-2-1.given.1.0.1)))
+    let x_fits : SFits w32 c.args.p.x = search rules in
+    let y_fits : SFits w32 c.args.p.y = search rules in
+    ap₂ ◌&&◌ (c.on_grid.ensures ∙ ap (on_grid limit) (to_z-of_z x_fits)) (c.on_grid-2.ensures ∙ ap (on_grid limit) (to_z-of_z y_fits))

@@ -1,8 +1,11 @@
 // Coordinates and rows of them, tested against a bound that is at most the limit.
 ghost use Rattle.std.specs.Prelude.{◌≡◌, ◌≤◌, not};
 ghost use Rattle.replies.specs.Ladder.{first_of};
+ghost use Rattle.replies.specs.Refusals.{told};
 ghost use Rattle.grid.specs.Limits.{limit, on_grid, all_on_grid};
-ghost use Rattle.grid.specs.Domain.{domain as domain_of};
+ghost use Rattle.grid.specs.Domain.{size as size_of, off, domain as domain_of};
+
+use replies::Refusal;
 
 // The lowest number whose top bit is set.
 const TOP: u32 = 2_147_483_648;
@@ -13,8 +16,8 @@ fn beyond(bound: u32, x: i32) -> bool
     requires { bound ≤ limit }
     ensures { result ≡ not (on_grid bound x) }
 {
-    let set_off = std::num::wrapping_add_u32(integers::bits_32(x), TOP + bound);
-    integers::signed_32(TOP + 2 * bound) < integers::signed_32(set_off)
+    let set_off = x.cast_unsigned().wrapping_add(TOP + bound);
+    (TOP + 2 * bound).cast_signed() < set_off.cast_signed()
 }
 
 // Whether a coordinate is within the bound.
@@ -30,13 +33,7 @@ fn some_beyond(bound: u32, row: &[i32]) -> bool
     requires { bound ≤ limit }
     ensures { result ≡ not (all_on_grid bound row.now) }
 {
-    let mut some = false;
-    let mut i: usize = 0;
-    while i < row.len() {
-        some = some | beyond(bound, row[i]);
-        i += 1;
-    }
-    some
+    row.iter().fold(false, |some, x| some | beyond(bound, *x))
 }
 
 // Whether every coordinate is within the bound. Most contours are boxes: of four to eight numbers the first four and the last
@@ -52,19 +49,35 @@ fn all_on_grid(bound: u32, row: &[i32]) -> bool
     !(some_beyond(bound, &row[..4]) | some_beyond(bound, &row[n - 4..]))
 }
 
-// What every call asks of a row of coordinates within the bound: 0, or the number of its first refusal.
-pub fn domain(bound: u32, points: &[i32]) -> u32
-    requires { bound ≤ limit }
-    ensures { result ≡ first_of (domain_of bound points.now) }
+// What is asked of a row's length: that it is even, and not of too many points.
+pub fn size(points: &[i32]) -> Result<(), Refusal>
+    ensures { told result ≡ first_of (size_of points.now) }
 {
     if points.len() % 2 == 1 {
-        return replies::ODD;
+        return Err(Refusal::Odd);
     }
     if crate::MOST < points.len() / 2 {
-        return replies::TOO_MANY;
+        return Err(Refusal::TooMany);
     }
+    Ok(())
+}
+
+// What is asked of its coordinates: that they are within the bound.
+pub fn within(bound: u32, points: &[i32]) -> Result<(), Refusal>
+    requires { bound ≤ limit }
+    ensures { told result ≡ first_of (off bound points.now) }
+{
     if !all_on_grid(bound, points) {
-        return replies::OFF_GRID;
+        return Err(Refusal::OffGrid);
     }
-    replies::DONE
+    Ok(())
+}
+
+// What every call asks of a row of coordinates within the bound: its first refusal, if any.
+pub fn domain(bound: u32, points: &[i32]) -> Result<(), Refusal>
+    requires { bound ≤ limit }
+    ensures { told result ≡ first_of (domain_of bound points.now) }
+{
+    size(points)?;
+    within(bound, points)
 }

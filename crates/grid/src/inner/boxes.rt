@@ -45,8 +45,5 @@ pub fn is_box(points: &[i32], n: usize) -> bool
     requires { Contour points.now n }
     ensures { result ≡ box points.now }
 {
-    if n != 4 {
-        return false;
-    }
-    four_by_turns(points)
+    n == 4 && four_by_turns(points)
 }

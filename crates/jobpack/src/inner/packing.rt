@@ -8,6 +8,7 @@ use crate::{CONTOURS, Lengths, NUMBERS};
 use jobread::inner::{places, reading};
 use jobread::{Place, Reader};
 use jobtext::TEXT;
+use replies::Refusal;
 
 // What is made of the rows, by where the reader is at the end of the text.
 fn by_place(
@@ -29,9 +30,8 @@ fn by_place(
     let n = reader.numbers;
     let k = reader.contours;
     let m = reader.shapes;
-    let place = reader.place;
-    match place {
-        Place::Head(_) => writing::damaged(1, out, words),
+    match reader.place {
+        Place::Head(_) | Place::NoHead => writing::damaged(1, out, words),
         Place::Start => {
             writing::write(
                 second,
@@ -42,13 +42,10 @@ fn by_place(
                 words,
             )
         }
-        Place::Word(_, _) => writing::damaged(k + 2, out, words),
-        Place::Space => writing::damaged(k + 2, out, words),
-        Place::Dash => writing::damaged(k + 2, out, words),
-        Place::Number(_, _) => writing::damaged(k + 2, out, words),
-        Place::NoHead => writing::damaged(1, out, words),
-        Place::NoLine => writing::damaged(k + 2, out, words),
-        Place::Refused(number) => writing::refused(number, out, words),
+        Place::Word(..) | Place::Space | Place::Dash | Place::Number(..) | Place::NoLine => {
+            writing::damaged(k + 2, out, words)
+        }
+        Place::Refused(refusal) => writing::refused(refusal, out, words),
     }
 }
 
@@ -59,7 +56,7 @@ pub fn pack(text: &[u8], out: &mut [u8], words: &mut [u8]) -> Lengths
         ≡ packing text.now out.old words.old }
 {
     if TEXT < text.len() {
-        return writing::refused(replies::TOO_MANY, out, words);
+        return writing::refused(Refusal::TooMany, out, words);
     }
     let mut points = [0i32; NUMBERS];
     let mut contours = [[0usize; 2]; CONTOURS];

@@ -1,20 +1,22 @@
 // The file of what was read, or why there is none.
 ghost use Rattle.std.specs.Prelude.{◌≡◌, ◌≤◌, length};
-ghost use Rattle.setfile.specs.Promises.{write_outcome};
+ghost use Rattle.replies.specs.Ladder.{first_of};
+ghost use Rattle.replies.specs.Refusals.{number};
+ghost use Rattle.setfile.specs.Promises.{edition_file, write_refusals};
 ghost use Rattle.setfile.specs.Writing as W;
 ghost use Rattle.jobpack.specs.Packing.{refusing, damaging, set_packed, leaving, outcome};
 
 use crate::Lengths;
+use replies::Refusal;
 use report::inner::text;
-use setfile::Written;
 
 // No file: the job is refused.
-pub fn refused(number: u32, out: &mut [u8], words: &mut [u8]) -> Lengths
+pub fn refused(refusal: Refusal, out: &mut [u8], words: &mut [u8]) -> Lengths
     requires { 40 ≤ length words.old }
     ensures { leaving result out.new words.new
-        ≡ outcome (refusing number) out.old words.old }
+        ≡ outcome (refusing (number refusal)) out.old words.old }
 {
-    let said = text::put_line(words, 0, b"refused ", number as u64);
+    let said = text::put_line(words, 0, b"refused ", u64::from(refusal.number()));
     Lengths {
         bytes: 0,
         words: said,
@@ -34,16 +36,18 @@ pub fn damaged(line: usize, out: &mut [u8], words: &mut [u8]) -> Lengths
     }
 }
 
-// Writes the file of a set in an edition.
-fn written(
+// Writes the file of a set in an edition to a row that has room for any.
+pub fn written(
     second: bool,
     points: &[i32],
     contours: &[[usize; 2]],
     shapes: &[[usize; 2]],
     out: &mut [u8],
-) -> Written
-    ensures { W.leaving result.reply result.bytes out.new
-        ≡ write_outcome second points.now contours.now shapes.now
+) -> Result<usize, Refusal>
+    requires { 65536 ≤ length out.old }
+    ensures { W.leaving (W.written_as result).reply (W.written_as result).bytes out.new
+        ≡ W.written (first_of (write_refusals second points.now contours.now shapes.now))
+        (edition_file second points.now contours.now shapes.now)
         out.old }
 {
     if second {
@@ -66,12 +70,8 @@ pub fn write(
         ≡ outcome (set_packed second points.now contours.now shapes.now)
         out.old words.old }
 {
-    let file = written(second, points, contours, shapes, out);
-    if file.reply != 0 {
-        return refused(file.reply, out, words);
-    }
-    Lengths {
-        bytes: file.bytes,
-        words: 0,
+    match written(second, points, contours, shapes, out) {
+        Ok(bytes) => Lengths { bytes, words: 0 },
+        Err(refusal) => refused(refusal, out, words),
     }
 }

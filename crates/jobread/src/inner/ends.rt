@@ -5,20 +5,13 @@ ghost use Rattle.jobread.specs.inside.Rows.{lines_of, Ranges};
 
 use crate::inner::places;
 use crate::{Place, Reader};
+use replies::Refusal;
 
 // The reader, elsewhere.
 pub fn moved(reader: Reader, place: Place) -> Reader
     ensures { result ≡ moved_to reader place }
 {
-    Reader {
-        place,
-        begins: reader.begins,
-        start: reader.start,
-        numbers: reader.numbers,
-        contours: reader.contours,
-        shapes: reader.shapes,
-        first: reader.first,
-    }
+    Reader { place, ..reader }
 }
 
 // Behind the first letter of a line.
@@ -28,11 +21,7 @@ fn opened(reader: Reader, begins: bool) -> Reader
     Reader {
         place: Place::Word(begins, 1),
         begins,
-        start: reader.start,
-        numbers: reader.numbers,
-        contours: reader.contours,
-        shapes: reader.shapes,
-        first: reader.first,
+        ..reader
     }
 }
 
@@ -53,13 +42,7 @@ pub fn start(reader: Reader, c: u8) -> Reader
 fn slot(begins: bool, m: usize) -> usize
     ensures { result ≡ slot_of begins m }
 {
-    if begins {
-        return m;
-    }
-    if m == 0 {
-        return 0;
-    }
-    m - 1
+    if begins { m } else { m.saturating_sub(1) }
 }
 
 // Which contour begins its shape.
@@ -81,7 +64,7 @@ fn ended(reader: Reader, contours: &mut [[usize; 2]], shapes: &mut [[usize; 2]])
         return moved(reader, Place::NoLine);
     }
     if (contours.len() <= n) | (shapes.len() <= m) {
-        return moved(reader, Place::Refused(replies::CANT_CARRY));
+        return moved(reader, Place::Refused(Refusal::CantCarry));
     }
     let end = reader.numbers / 2;
     let first = opens(reader.begins, n, reader.first);
@@ -90,12 +73,11 @@ fn ended(reader: Reader, contours: &mut [[usize; 2]], shapes: &mut [[usize; 2]])
     shapes[k] = [first, n + 1];
     Reader {
         place: Place::Start,
-        begins: reader.begins,
         start: end,
-        numbers: reader.numbers,
         contours: n + 1,
         shapes: k + 1,
         first,
+        ..reader
     }
 }
 
@@ -124,15 +106,9 @@ pub fn counted(reader: Reader) -> Reader
     requires { reader.numbers < 131072 }
     ensures { result ≡ counted_of reader }
 {
-    let place = reader.place;
     Reader {
-        place,
-        begins: reader.begins,
-        start: reader.start,
         numbers: reader.numbers + 1,
-        contours: reader.contours,
-        shapes: reader.shapes,
-        first: reader.first,
+        ..reader
     }
 }
 
@@ -149,10 +125,9 @@ pub fn word(
     ensures { lines_of result contours.new shapes.new
         ≡ in_word begins k (lines_of reader contours.old shapes.old) c }
 {
-    let due = places::word_letter(begins, k);
-    if due == 0 {
+    let Some(due) = places::word_letter(begins, k) else {
         return behind(reader, c, contours, shapes);
-    }
+    };
     if c == due {
         return moved(reader, Place::Word(begins, k + 1));
     }

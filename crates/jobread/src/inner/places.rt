@@ -1,5 +1,5 @@
 // What a character means, by where the reader is.
-ghost use Rattle.std.specs.Prelude.{◌≡◌, ◌<◌, get_or};
+ghost use Rattle.std.specs.Prelude.{◌≡◌, ◌<◌, get_or, slice_get, unwrap_or, IfSome};
 ghost use Rattle.jobtext.specs.Text.{word as word_of};
 ghost use Rattle.jobread.specs.Places.{digit as digit_of, after_head, begun as begun_by, after_space, after_dash, more as more_of, after_digit};
 
@@ -8,24 +8,22 @@ use crate::Place;
 // The largest size of a number.
 pub const LARGEST: usize = 2147483647;
 
-// What a character is worth as a digit; 10 where it is none.
-pub fn digit(c: u8) -> usize
-    ensures { result ≡ digit_of c }
+// What a character is worth as a digit.
+pub fn digit(c: u8) -> Option<usize>
+    ensures value { unwrap_or result 10 ≡ digit_of c }
+    ensures small { IfSome result (λ d. d < 10) }
 {
-    if (48 <= c) & (c <= 57) {
-        return (c - 48) as usize;
+    if c.is_ascii_digit() {
+        return Some(usize::from(c - b'0'));
     }
-    10
+    None
 }
 
-// Letter number k of a word; 0 behind its last.
+// Letter number k of a word; 0 behind its last, which specs/Places asks for.
 pub fn letter(word: &[u8], k: usize) -> u8
     ensures { result ≡ get_or word.now k 0 }
 {
-    if word.len() <= k {
-        return 0;
-    }
-    word[k]
+    word.get(k).copied().unwrap_or(0)
 }
 
 // Behind k characters of the line of the edition.
@@ -46,11 +44,10 @@ pub fn head(k: usize, c: u8) -> Place
 fn begun(below: bool, c: u8) -> Place
     ensures { result ≡ begun_by below c }
 {
-    let d = digit(c);
-    if d < 10 {
-        return Place::Number(below, d);
+    match digit(c) {
+        Some(d) => Place::Number(below, d),
+        None => Place::NoLine,
     }
-    Place::NoLine
 }
 
 // Behind a space.
@@ -95,12 +92,10 @@ pub fn number(below: bool, size: usize, d: usize) -> Place
     Place::Number(below, more(size, d))
 }
 
-// Letter number k of the word of a contour, which begins a shape or not; 0 behind its last.
-pub fn word_letter(begins: bool, k: usize) -> u8
-    ensures { result ≡ get_or (word_of begins) k 0 }
+// Letter number k of the word of a contour, which begins a shape or not; none behind its last.
+pub fn word_letter(begins: bool, k: usize) -> Option<u8>
+    ensures { result ≡ slice_get (word_of begins) k }
 {
-    if begins {
-        return letter(b"shape", k);
-    }
-    letter(b"hole", k)
+    let word: &[u8] = if begins { b"shape" } else { b"hole" };
+    word.get(k).copied()
 }

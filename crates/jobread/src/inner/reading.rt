@@ -5,6 +5,7 @@ ghost use Rattle.jobread.specs.inside.Rows.{state_of, Rooms};
 
 use crate::inner::{ends, places};
 use crate::{Place, Reader};
+use replies::Refusal;
 
 // A number, by its sign and its size.
 fn value(below: bool, size: usize) -> i32
@@ -32,16 +33,15 @@ fn number(
     ensures { state_of result points.new contours.new shapes.new
         ≡ in_number below size (state_of reader points.old contours.old shapes.old) c }
 {
-    let d = places::digit(c);
-    if d < 10 {
+    if let Some(d) = places::digit(c) {
         return ends::moved(reader, places::number(below, size, d));
     }
     if places::LARGEST < size {
-        return ends::moved(reader, Place::Refused(replies::OFF_GRID));
+        return ends::moved(reader, Place::Refused(Refusal::OffGrid));
     }
     let n = reader.numbers;
     if points.len() <= n {
-        return ends::moved(reader, Place::Refused(replies::TOO_MANY));
+        return ends::moved(reader, Place::Refused(Refusal::TooMany));
     }
     points[n] = value(below, size);
     ends::behind(ends::counted(reader), c, contours, shapes)
@@ -59,17 +59,14 @@ fn step(
     ensures { state_of result points.new contours.new shapes.new
         ≡ step_of (state_of reader points.old contours.old shapes.old) c }
 {
-    let place = reader.place;
-    match place {
+    match reader.place {
         Place::Head(k) => ends::moved(reader, places::head(k, c)),
         Place::Start => ends::start(reader, c),
         Place::Word(begins, k) => ends::word(reader, begins, k, c, contours, shapes),
         Place::Space => ends::moved(reader, places::space(c)),
         Place::Dash => ends::moved(reader, places::dash(c)),
         Place::Number(below, size) => number(reader, below, size, c, points, contours, shapes),
-        Place::NoHead => reader,
-        Place::NoLine => reader,
-        Place::Refused(_) => reader,
+        Place::NoHead | Place::NoLine | Place::Refused(_) => reader,
     }
 }
 
@@ -93,10 +90,8 @@ pub fn read(
         shapes: 0,
         first: 0,
     };
-    let mut i: usize = 0;
-    while i < text.len() {
-        reader = step(reader, text[i], points, contours, shapes);
-        i += 1;
+    for c in text {
+        reader = step(reader, *c, points, contours, shapes);
     }
     reader
 }

@@ -14,9 +14,8 @@ pub fn dump(bytes: &[u8], text: &mut [u8]) -> usize
         × (text.new ≡ front (dumped bytes.now) text.old) }
 {
     let second = head::is_second(bytes);
-    let file = judging::judge(second, bytes);
-    if file.reply != 0 {
-        return text::put_line(text, 0, b"refused ", file.reply as u64);
+    match judging::judge(second, bytes) {
+        Ok(file) => job::put(second, bytes, file.contours, text),
+        Err(refusal) => text::put_line(text, 0, b"refused ", u64::from(refusal.number())),
     }
-    job::put(second, bytes, file.contours, text)
 }

@@ -16,6 +16,6 @@ pub fn put(second: bool, bytes: &[u8], n: usize, text: &mut [u8]) -> usize
     ensures { Put 0 (text_of second (contained bytes.now)) text.old result text.new }
 {
     let mut points = [0i32; NUMBERS];
-    let behind = text::put_line(text, 0, b"edition ", head::number(second) as u64);
+    let behind = text::put_line(text, 0, b"edition ", u64::from(head::number(second)));
     lines::put(second, bytes, n, &mut points, text, behind)
 }

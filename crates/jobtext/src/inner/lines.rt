@@ -26,7 +26,7 @@ fn put_spaced(text: &mut [u8], at: usize, z: i32) -> usize
     ensures { Put at (spaced z) text.old result text.new }
 {
     let behind = text::put(text, at, b" ");
-    text::put_signed(text, behind, integers::wide(z))
+    text::put_signed(text, behind, i64::from(z))
 }
 
 // Puts the numbers of a contour.
@@ -35,10 +35,8 @@ fn put_numbers(text: &mut [u8], at: usize, contour: &[i32]) -> usize
     ensures { Put at (numbers_of contour.now) text.old result text.new }
 {
     let mut behind = at;
-    let mut i: usize = 0;
-    while i < contour.len() {
-        behind = put_spaced(text, behind, contour[i]);
-        i += 1;
+    for z in contour {
+        behind = put_spaced(text, behind, *z);
     }
     behind
 }
@@ -68,13 +66,11 @@ pub fn put(
 {
     let mut behind = from;
     let mut at: usize = 16;
-    let mut i: usize = 0;
-    while i < n {
+    for _ in 0..n {
         let h = headers::header_at(second, bytes, at);
         contours::put(second, bytes, at, h, points, 0);
         behind = put_line(text, behind, h.begins, &points[..2 * h.count]);
         at += headers::size(second, h);
-        i += 1;
     }
     behind
 }

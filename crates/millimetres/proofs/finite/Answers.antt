@@ -1,12 +1,7 @@
--- `millimetres::finite` meets its contract: a finite float lies between the infinities.
-use lib.Ieee.{div, neg, of_bits}
-use Rattle.millimetres.proofs.UnitLaws.{finite_inside, finite_outside}
+-- `millimetres::finite` meets its contract.
+use mathlib.Core.Path.{◌∙◌}
+use Rattle.millimetres.proofs.UnitLaws.{finite_is}
 use Rattle.millimetres.proofs.finite.Goals as goal
 
-pub returns-then-v : goal.returns-then-v
-unfolding div neg of_bits
-returns-then-v c = finite_inside c.args.v c.if-v.true
-
-pub returns-else-v : goal.returns-else-v
-unfolding div of_bits
-returns-else-v c = finite_outside c.args.v c.if-v.false
+pub returns : goal.returns
+returns c = c.is_finite.ensures.value ∙ finite_is c.args.v

@@ -9,10 +9,11 @@ ghost use Rattle.picture.specs.Frame.{sizes};
 ghost use Rattle.picture.specs.Picture.{drawn, job_extent, shown, picture};
 ghost use Rattle.picture.specs.inside.Parts.{Dotted};
 
+use crate::NUMBERS;
 use crate::inner::{frame, outlines, scale, spots};
-use crate::{NUMBERS, POINTS};
-use report::inner::text;
-use setfile::inner::{filling, head, judging};
+use buffer::Sizes;
+use report::inner::{listing, text};
+use setfile::inner::{filling, head};
 
 // Puts the picture of a file's n contours, which have these points.
 fn put_drawn(second: bool, bytes: &[u8], n: usize, points: &[i32], text: &mut [u8]) -> usize
@@ -32,11 +33,11 @@ fn put_drawn(second: bool, bytes: &[u8], n: usize, points: &[i32], text: &mut [u
     scale::put_closing(text, fourth_part, sizes)
 }
 
-// Reads the points of a file's n contours, which are so many, and puts its picture.
-fn put_job(second: bool, bytes: &[u8], n: usize, many: usize, text: &mut [u8]) -> usize
-    requires second_value { (second ≡ is_second bytes.now)
-        × Listable second bytes.now n
-        × (2 * many ≡ length (joined (job bytes.now))) }
+// Reads the points of a file of these sizes, and puts its picture.
+fn put_job(second: bool, bytes: &[u8], file: Sizes, text: &mut [u8]) -> usize
+    requires accepted { (second ≡ is_second bytes.now)
+        × Listable second bytes.now file.contours
+        × (2 * file.points ≡ length (joined (job bytes.now))) }
     requires bytes_in_bounds { length (drawn (job_extent bytes.now) (sizes (job_extent bytes.now)) (shown bytes.now))
         ≤ length text.old }
     ensures { Put 0
@@ -44,9 +45,10 @@ fn put_job(second: bool, bytes: &[u8], n: usize, many: usize, text: &mut [u8]) -
         (shown bytes.now))
         text.old result text.new }
 {
+    let n = file.contours;
     let mut points = [0i32; NUMBERS];
     filling::points(second, bytes, n, &mut points);
-    put_drawn(second, bytes, n, &points[..2 * many], text)
+    put_drawn(second, bytes, n, &points[..2 * file.points], text)
 }
 
 // Puts the picture of a file, and answers how long it is.
@@ -56,10 +58,8 @@ pub fn draw(bytes: &[u8], text: &mut [u8]) -> usize
         × (text.new ≡ front (picture bytes.now) text.old) }
 {
     let second = head::is_second(bytes);
-    let file = judging::judge(second, bytes);
-    let refusal = replies::or_room(file.reply, file.points <= POINTS);
-    if refusal != 0 {
-        return text::put_line(text, 0, b"refused ", refusal as u64);
+    match listing::accept(second, bytes) {
+        Ok(file) => put_job(second, bytes, file, text),
+        Err(refusal) => text::put_line(text, 0, b"refused ", u64::from(refusal.number())),
     }
-    put_job(second, bytes, file.contours, file.points, text)
 }

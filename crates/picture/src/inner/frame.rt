@@ -4,7 +4,7 @@ ghost use Rattle.grid.specs.Domain.{count, Contour};
 ghost use Rattle.grid.specs.Limits.{limit};
 ghost use Rattle.grid.specs.Points.{on, points as points_of};
 ghost use Rattle.report.specs.inside.Lines.{Put};
-ghost use Rattle.picture.specs.Frame.{lesser as lesser_of, greater as greater_of, widened as widened_of, extent as extent-of, letter as letter_of, sizes as sizes-of};
+ghost use Rattle.picture.specs.Frame.{widened as widened_of, extent as extent-of, letter as letter_of, sizes as sizes-of};
 ghost use Rattle.picture.specs.inside.Parts.{On, Small, opening, offset};
 
 use crate::inner::words;
@@ -26,20 +26,6 @@ pub struct Sizes {
     pub letter: u64,
 }
 
-// The lesser of two coordinates.
-fn lesser(a: i32, b: i32) -> i32
-    ensures { result ≡ lesser_of a b }
-{
-    if a < b { a } else { b }
-}
-
-// The greater of two.
-fn greater(a: i32, b: i32) -> i32
-    ensures { result ≡ greater_of a b }
-{
-    if a < b { b } else { a }
-}
-
 // One point more.
 fn widened(e: Extent, p: Point) -> Extent
     requires { On e × (on limit p ≡ true) }
@@ -48,12 +34,12 @@ fn widened(e: Extent, p: Point) -> Extent
     let low = e.low;
     let high = e.high;
     let least = Point {
-        x: lesser(p.x, low.x),
-        y: lesser(p.y, low.y),
+        x: low.x.min(p.x),
+        y: low.y.min(p.y),
     };
     let most = Point {
-        x: greater(p.x, high.x),
-        y: greater(p.y, high.y),
+        x: high.x.max(p.x),
+        y: high.y.max(p.y),
     };
     Extent {
         low: least,
@@ -79,10 +65,8 @@ pub fn extent_of(points: &[i32]) -> Extent
         low: first,
         high: first,
     };
-    let mut i: usize = 1;
-    while i < n {
+    for i in 1..n {
         e = widened(e, grid::inner::point_at(points, i));
-        i += 1;
     }
     e
 }
@@ -91,10 +75,7 @@ pub fn extent_of(points: &[i32]) -> Extent
 fn letter(width: u64, height: u64) -> u64
     ensures { result ≡ letter_of width height }
 {
-    if width < height {
-        return height / 40 + 1;
-    }
-    width / 40 + 1
+    width.max(height) / 40 + 1
 }
 
 // The sizes of an extent.
@@ -103,8 +84,8 @@ pub fn sizes_of(e: Extent) -> Sizes
     ensures { (result ≡ sizes-of e) × Small result }
 {
     let across = grid::inner::between(e.low, e.high);
-    let width = integers::magnitude(across.dx);
-    let height = integers::magnitude(across.dy);
+    let width = across.dx.unsigned_abs();
+    let height = across.dy.unsigned_abs();
     Sizes {
         width,
         height,

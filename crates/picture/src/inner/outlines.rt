@@ -16,7 +16,7 @@ fn put_coordinate(text: &mut [u8], at: usize, z: i32) -> usize
     requires { at + length (coordinate z) ≤ length text.old }
     ensures { Put at (coordinate z) text.old result text.new }
 {
-    let behind = text::put_signed(text, at, integers::wide(z));
+    let behind = text::put_signed(text, at, i64::from(z));
     text::put(text, behind, b" ")
 }
 
@@ -27,10 +27,8 @@ fn put_coordinates(text: &mut [u8], from: usize, contour: &[i32]) -> usize
     ensures { Put from (coordinates contour.now) text.old result text.new }
 {
     let mut behind = from;
-    let mut i: usize = 0;
-    while i < contour.len() {
-        behind = put_coordinate(text, behind, contour[i]);
-        i += 1;
+    for &z in contour {
+        behind = put_coordinate(text, behind, z);
     }
     behind
 }
@@ -80,15 +78,13 @@ pub fn put(
     let mut behind = from;
     let mut at: usize = 16;
     let mut start: usize = 0;
-    let mut i: usize = 0;
-    while i < n {
+    for i in 0..n {
         let h = headers::header_at(second, bytes, at);
         let begun = put_before(text, behind, h.begins, i);
         let end = start + 2 * h.count;
         behind = put_outline(text, begun, &points[start..end]);
         at += headers::size(second, h);
         start = end;
-        i += 1;
     }
     if n == 0 {
         return behind;

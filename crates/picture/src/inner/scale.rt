@@ -14,13 +14,11 @@ fn bar(width: u64) -> u64
     ensures { result ≡ bar_of width }
 {
     let mut long: u64 = 1;
-    let mut left: usize = 9;
-    while 0 < left {
+    for k in 0..9usize {
         if 125 * width < 1280 * long {
             return long;
         }
         long *= 10;
-        left -= 1;
     }
     long
 }

@@ -13,17 +13,15 @@ use Rattle.pool.proofs.contours_count.Goals as goal
 pub returns-then-not-found : goal.returns-then-not-found
 unfolding contours_count
 returns-then-not-found c =
-    c.how_many.ensures
-    ∙ count_unsound _ _ c.surveyed-found.ensures (λ l. length (own (number c.args.second) l)) (not-true _ c.if-not-found.true)
+    count_unsound _ _ c.surveyed-found.ensures (λ l. length (own (number c.args.second) l)) (not-true _ c.if-not-found.true)
 
-pub count-n-requires : goal.count-n-requires
-count-n-requires c =
+pub count-requires : goal.count-requires
+count-requires c =
     let s = c.args in
     records_there s.points.now s.records.now s.contours _ c.surveyed-found.ensures (not-false _ c.if-not-found.false)
 
 pub returns : goal.returns
 returns c =
     let s = c.args in
-    c.how_many-2.ensures
-    ∙ contours_given _ _ c.surveyed-found.ensures (not-false _ c.if-not-found.false) _ _ c.count-n.ensures
+    contours_given _ _ c.surveyed-found.ensures (not-false _ c.if-not-found.false) _ _ c.count.ensures
     ∙ ap (λ (p : ℕ). contours_count p (lent s.points.now s.records.now s.contours)) c.number.ensures

@@ -1,6 +1,6 @@
 -- `pool::free` meets its contract.
 use borrow.Author.Tests.{not-true, not-false}
-use mathlib.Core.Path.{refl, ◌∙◌}
+use mathlib.Core.Path.{refl}
 use native.Mathlib.Omega.{arith}
 use Rattle.pool.specs.Lists.{free as free_of}
 use Rattle.pool.specs.Outcome.{free_count}
@@ -10,16 +10,16 @@ use Rattle.pool.proofs.free.Goals as goal
 pub returns-then-not-found : goal.returns-then-not-found
 unfolding free_count
 returns-then-not-found c =
-    c.how_many.ensures ∙ count_unsound _ _ c.surveyed-found.ensures free_of (not-true _ c.if-not-found.true)
+    count_unsound _ _ c.surveyed-found.ensures free_of (not-true _ c.if-not-found.true)
 
-pub overflow_add-found : goal.overflow_add-found
-overflow_add-found c =
+pub overflow_add-result : goal.overflow_add-result
+overflow_add-result c =
     record { fits = omega (arith, both_within _ _ c.surveyed-found.ensures (not-false _ c.if-not-found.false)) }
 
-pub overflow_sub-found : goal.overflow_sub-found
-overflow_sub-found c =
+pub overflow_sub-result : goal.overflow_sub-result
+overflow_sub-result c =
     both_within _ _ c.surveyed-found.ensures (not-false _ c.if-not-found.false)
 
 pub returns : goal.returns
 returns c =
-    c.how_many-2.ensures ∙ free_given _ _ c.surveyed-found.ensures (not-false _ c.if-not-found.false) _ refl
+    free_given _ _ c.surveyed-found.ensures (not-false _ c.if-not-found.false) _ refl

@@ -35,11 +35,11 @@ pub record Newest (press n : ℕ) (records : List (List ℕ)) (r : ℕ) : Type 0
   pub later : (j : ℕ) → r ≤ j → j < n → press_at records j ≡ press → ⊥
   pub there : 0 < r → press_at records (r - 1) ≡ press
 
--- number k of a press among the first n records: its number from 1, or 0
-pub record Found (press k n : ℕ) (records : List (List ℕ)) (r : ℕ) : Type 0 where
-  pub within : r ≤ n
-  pub there : 0 < r → (k < length (own_slots press (take n (slots records)))) × (slot (get_or records (r - 1) []) ≡ get_or (own_slots press (take n (slots records))) k (slot []))
-  pub absent : r ≡ 0 → length (own_slots press (take n (slots records))) ≤ k
+-- number k of a press among the first n records stands at position i
+pub record Found (press k n : ℕ) (records : List (List ℕ)) (i : ℕ) : Type 0 where
+  pub within : i < n
+  pub there : k < length (own_slots press (take n (slots records)))
+  pub is : slot (get_or records i []) ≡ get_or (own_slots press (take n (slots records))) k (slot [])
 
 -- a record whose contour moves down by d points
 abbrev pub lowered : ℕ → List ℕ → List ℕ

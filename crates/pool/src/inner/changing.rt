@@ -44,8 +44,7 @@ pub fn take_out(
         (lent points.old records.old n) }
 {
     let k = newest - 1;
-    let start = records[k][0];
-    let end = records[k][1];
+    let [start, end, ..] = records[k];
     moving::numbers(points, 2 * start, 2 * (end - start), 2 * (total - end));
     moving::records(records, k, end - start, n - (k + 1));
 }

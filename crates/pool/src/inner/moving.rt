@@ -8,11 +8,8 @@ pub fn numbers(row: &mut [i32], at: usize, gap: usize, n: usize)
     requires { at + gap + n ≤ length row.old }
     ensures { row.new ≡ placed at (take n (drop (at + gap) row.old)) row.old }
 {
-    let mut i: usize = 0;
-    while i < n {
-        row[at + i] = row[at + gap + i];
-        i += 1;
-    }
+    let from = at + gap;
+    row.copy_within(from..from + n, at);
 }
 
 // Moves n records down by one, to position `at`; their contours move down by d points.
@@ -21,14 +18,8 @@ pub fn records(row: &mut [[usize; 4]], at: usize, d: usize, n: usize)
     ensures { row.new
         ≡ placed at (map (lowered d) (take n (drop (at + 1) row.old))) row.old }
 {
-    let mut i: usize = 0;
-    while i < n {
-        let from = at + 1 + i;
-        let start = row[from][0] - d;
-        let end = row[from][1] - d;
-        let tool = row[from][2];
-        let press = row[from][3];
-        row[at + i] = [start, end, tool, press];
-        i += 1;
+    for i in 0..n {
+        let [start, end, tool, press] = row[at + 1 + i];
+        row[at + i] = [start - d, end - d, tool, press];
     }
 }

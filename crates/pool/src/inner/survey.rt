@@ -7,6 +7,7 @@ ghost use Rattle.pool.specs.inside.Surveys.{Surveyed, share_of};
 use crate::inner::records;
 
 // What a survey finds: whether the records are sound, and then the points and what each press holds.
+// No Option: the promise `Surveyed` speaks of the four fields, and the crate shift changes them.
 #[derive(Clone, Copy)]
 pub struct Survey {
     pub sound: bool,
@@ -19,7 +20,7 @@ pub struct Survey {
 pub fn number(second: bool) -> usize
     ensures { result ≡ number_of_lem second }
 {
-    if second { 1 } else { 0 }
+    usize::from(second)
 }
 
 // What a press holds.
@@ -57,26 +58,23 @@ pub fn surveyed(points: &[i32], records: &[[usize; 4]], n: usize) -> Survey
     if records.len() < n {
         return unsound();
     }
-    let mut at: usize = 0;
-    let mut all: usize = 0;
-    let mut second: usize = 0;
-    let mut i: usize = 0;
-    while i < n {
-        let end = records[i][1];
-        let press = records[i][3];
-        if !records::follows(at, places, records[i][0], end, records[i][2], press) {
-            break;
+    let mut at = 0;
+    let mut all = 0;
+    let mut second = 0;
+    for record in &records[..n] {
+        if !records::follows(at, places, *record) {
+            return unsound();
         }
+        let [_, end, _, press] = *record;
         let size = records::holding(end - at);
         all += size;
         // The press is 0 or 1.
         second += press * size;
         at = end;
-        i += 1;
     }
     let first = all - second;
     Survey {
-        sound: (i == n) & fair(first, second),
+        sound: fair(first, second),
         points: at,
         first,
         second,

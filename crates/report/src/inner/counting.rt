@@ -4,10 +4,11 @@ ghost use Rattle.grid.specs.Domain.{Contour};
 ghost use Rattle.ring.specs.Walk.{survivors as survivors_of};
 ghost use Rattle.ring.specs.Rule.{goes};
 ghost use Rattle.ring.specs.inside.Rows.{FirstStand};
+ghost use Rattle.clean.specs.Outcome.{as_cleaned};
 ghost use Rattle.clean.specs.inside.Settling.{alone};
 ghost use Rattle.report.specs.Listing.{rule_of};
 
-use clean::Cleaned;
+use clean::Cleaning;
 use ring::Rule;
 
 // The rule of an edition.
@@ -25,17 +26,8 @@ fn survivors(mark: &[u8]) -> usize
     requires { length mark.now ≤ 8192 }
     ensures { result ≡ length (survivors_of mark.now) }
 {
-    let mut kept: u16 = 0;
-    let mut i: usize = 0;
-    while i < mark.len() {
-        if mark[i] < 2 {
-            kept += 1;
-            i += 1;
-        } else {
-            i += 1;
-        }
-    }
-    kept as usize
+    let kept: u16 = mark.iter().map(|m| u16::from(*m < 2)).sum();
+    usize::from(kept)
 }
 
 // The answer of the walk of a contour of three points or more, of which the first `standing` stand.
@@ -46,29 +38,27 @@ fn walked(
     next: &mut [u32],
     prev: &mut [u32],
     mark: &mut [u8],
-) -> Cleaned
+) -> Cleaning
     requires contour { Contour contour.now (length mark.old) × (3 ≤ length mark.old) }
     requires next_len { (length next.old ≡ length mark.old) × (length prev.old ≡ length mark.old) }
     requires standing_in_bounds { (standing < length mark.old)
         × FirstStand (goes (rule_of second) contour.now) (length mark.old) standing }
     requires mark_len_bound { length mark.old ≤ 8192 }
-    ensures { result ≡ (alone (rule_of second) contour.now []).answer }
+    ensures { as_cleaned result ≡ (alone (rule_of second) contour.now []).answer }
 {
     let ending = ring::inner::walk(rule(second), contour, standing, next, prev, mark);
     let decisions = ending.decisions;
     if ending.kept {
         let points = survivors(mark);
         let pending = ring::inner::unmarked(mark);
-        return Cleaned {
-            reply: replies::DONE,
-            points,
+        return Cleaning {
+            kept: Some(points),
             decisions,
             turns: ring::inner::turns(ending, points, pending, prev, mark),
         };
     }
-    Cleaned {
-        reply: replies::COLLAPSED,
-        points: 0,
+    Cleaning {
+        kept: None,
         decisions,
         turns: decisions,
     }
@@ -81,26 +71,24 @@ pub fn answer(
     next: &mut [u32],
     prev: &mut [u32],
     mark: &mut [u8],
-) -> Cleaned
+) -> Cleaning
     requires contour { Contour contour.now (length mark.old) }
     requires next_len { (length next.old ≡ length mark.old) × (length prev.old ≡ length mark.old) }
     requires mark_len_bound { length mark.old ≤ 8192 }
-    ensures { result ≡ (alone (rule_of second) contour.now []).answer }
+    ensures { as_cleaned result ≡ (alone (rule_of second) contour.now []).answer }
 {
     let n = mark.len();
     if n < 3 {
-        return Cleaned {
-            reply: replies::COLLAPSED,
-            points: 0,
+        return Cleaning {
+            kept: None,
             decisions: 0,
             turns: 0,
         };
     }
     let standing = ring::inner::standing(rule(second), contour, n);
     if standing == n {
-        return Cleaned {
-            reply: replies::DONE,
-            points: n,
+        return Cleaning {
+            kept: Some(n),
             decisions: n,
             turns: n,
         };

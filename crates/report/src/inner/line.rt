@@ -1,12 +1,13 @@
 // The line of one contour.
 ghost use Rattle.std.specs.Prelude.{◌+◌, ◌≤◌, ◌++◌, length};
 ghost use Rattle.grid.specs.Domain.{count, Contour};
+ghost use Rattle.clean.specs.Outcome.{as_cleaned};
 ghost use Rattle.report.specs.Text.{space, line_end};
 ghost use Rattle.report.specs.Listing.{area2, line, rule_of};
 ghost use Rattle.report.specs.inside.Lines.{Put, cell, kept_text, figures, Cleanable};
 
 use crate::inner::{counting, text};
-use clean::Cleaned;
+use clean::Cleaning;
 
 // Puts a number, and a space behind it. Most have one digit, which takes no call.
 fn put_cell(text: &mut [u8], at: usize, n: usize) -> usize
@@ -22,14 +23,14 @@ fn put_cell(text: &mut [u8], at: usize, n: usize) -> usize
 }
 
 // Puts how many points are kept, or a dash where the contour has collapsed, and a space behind it.
-fn put_kept(text: &mut [u8], at: usize, cleaned: Cleaned) -> usize
-    requires { at + length (kept_text cleaned ++ space) ≤ length text.old }
-    ensures { Put at (kept_text cleaned ++ space) text.old result text.new }
+fn put_kept(text: &mut [u8], at: usize, cleaned: Cleaning) -> usize
+    requires { at + length (kept_text (as_cleaned cleaned) ++ space) ≤ length text.old }
+    ensures { Put at (kept_text (as_cleaned cleaned) ++ space) text.old result text.new }
 {
-    if cleaned.reply == 0 {
-        return put_cell(text, at, cleaned.points);
+    match cleaned.kept {
+        Some(n) => put_cell(text, at, n),
+        None => text::put(text, at, b"- "),
     }
-    text::put(text, at, b"- ")
 }
 
 // Puts the doubled area, or a dash where there are no points, and the end of the line behind it.
@@ -47,10 +48,10 @@ fn put_area(text: &mut [u8], at: usize, contour: &[i32]) -> usize
 }
 
 // Puts the line of contour number `k`, by what was answered of its cleaning.
-fn put_figures(text: &mut [u8], at: usize, k: usize, contour: &[i32], cleaned: Cleaned) -> usize
+fn put_figures(text: &mut [u8], at: usize, k: usize, contour: &[i32], cleaned: Cleaning) -> usize
     requires contour { Contour contour.now (count contour.now) }
-    requires cleaned_in_bounds { at + length (figures k contour.now cleaned) ≤ length text.old }
-    ensures { Put at (figures k contour.now cleaned) text.old result text.new }
+    requires cleaned_in_bounds { at + length (figures k contour.now (as_cleaned cleaned)) ≤ length text.old }
+    ensures { Put at (figures k contour.now (as_cleaned cleaned)) text.old result text.new }
 {
     let second = put_cell(text, at, k);
     let third = put_cell(text, second, contour.len() / 2);

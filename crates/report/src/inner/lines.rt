@@ -26,14 +26,12 @@ pub fn put(
 {
     let mut behind = from;
     let mut at: usize = 16;
-    let mut i: usize = 0;
-    while i < n {
+    for i in 0..n {
         let h = headers::header_at(second, bytes, at);
         contours::put(second, bytes, at, h, points, 0);
         let contour = &points[..2 * h.count];
         behind = line::put(second, contour, i + 1, next, prev, mark, text, behind);
         at += headers::size(second, h);
-        i += 1;
     }
     behind
 }

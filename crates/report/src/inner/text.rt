@@ -9,7 +9,7 @@ pub fn put(text: &mut [u8], at: usize, word: &[u8]) -> usize
     requires { at + length word.now ≤ length text.old }
     ensures { Put at word.now text.old result text.new }
 {
-    rows::inner::copy_bytes(word, text, at);
+    rows::inner::copy(word, text, at);
     at + word.len()
 }
 
@@ -18,7 +18,7 @@ pub fn put_one(text: &mut [u8], at: usize, n: u32) -> usize
     requires { (n < 10) × (at + 1 ≤ length text.old) }
     ensures { Put at (last_digits 10 1 n) text.old result text.new }
 {
-    text[at] = 48 + n as u8;
+    text[at] = b'0' + n as u8;
     at + 1
 }
 
@@ -108,12 +108,8 @@ pub fn put_signed(text: &mut [u8], at: usize, z: i64) -> usize
     requires { at + length (signed z) ≤ length text.old }
     ensures { Put at (signed z) text.old result text.new }
 {
-    let size = integers::magnitude(z);
-    if z < 0 {
-        let behind = put(text, at, b"-");
-        return put_number(text, behind, size);
-    }
-    put_number(text, at, size)
+    let behind = if z < 0 { put(text, at, b"-") } else { at };
+    put_number(text, behind, z.unsigned_abs())
 }
 
 // Puts a number between two words.

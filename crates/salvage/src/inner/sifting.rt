@@ -1,11 +1,13 @@
 // The pass over a damaged file: each complete contour is kept behind those before it, or noted in the list.
 ghost use Rattle.std.specs.Prelude.{◌≡◌, not, [], ◌∷◌, ◌≤◌, length, drop};
 ghost use Rattle.replies.specs.Ladder.{first_of};
+ghost use Rattle.replies.specs.Refusals.{told};
 ghost use Rattle.setfile.specs.inside.Bytes.{all_there};
-ghost use Rattle.salvage.specs.Outcome.{leaving};
+ghost use Rattle.salvage.specs.Outcome.{saved_as, leaving};
 ghost use Rattle.salvage.specs.inside.Sifting.{none_sifted, Ready, Sifts, Roomy, ending};
 
-use crate::answer::Salvaged;
+use crate::answer::Saved;
+use replies::Refusal;
 use setfile::inner::fields;
 
 // Where the pass has come to: the positions that are read and written, how many contours are dropped, and whether the shape that stands open is kept.
@@ -29,17 +31,17 @@ fn complete(bytes: &[u8], at: usize) -> bool
     2 + 8 * fields::held(bytes, at) <= rest
 }
 
-// Why a contour is dropped: it is off the grid, or in no shape that is kept; or 0.
-fn reason(on: bool, shape: bool) -> u32
-    ensures { result ≡ first_of ((not on, 3) ∷ (not shape, 11) ∷ []) }
+// Why a contour is dropped: it is off the grid, or in no shape that is kept.
+fn check(on: bool, shape: bool) -> Result<(), Refusal>
+    ensures { told result ≡ first_of ((not on, 3) ∷ (not shape, 11) ∷ []) }
 {
     if !on {
-        return replies::OFF_GRID;
+        return Err(Refusal::OffGrid);
     }
     if !shape {
-        return replies::NO_SHAPE;
+        return Err(Refusal::NoShape);
     }
-    replies::DONE
+    Ok(())
 }
 
 // Contour number i, which is complete, is kept or noted.
@@ -52,31 +54,31 @@ fn sift(bytes: &[u8], s: Sifted, i: usize, out: &mut [u8], list: &mut [[usize; 2
     let n = fields::held(bytes, at);
     let begins = fields::starts(bytes, at);
     let on = fields::all_on(bytes, at + 2, 2 * n);
-    let wrong = reason(on, begins | s.keeping);
     let behind = at + (2 + 8 * n);
-    if wrong == 0 {
-        rows::inner::copy_bytes(&bytes[at..behind], out, s.to);
+    if let Err(refusal) = check(on, begins | s.keeping) {
+        let k = s.dropped;
+        list[k] = [i, refusal.number() as usize];
         return Sifted {
             at: behind,
-            to: s.to + (2 + 8 * n),
-            dropped: s.dropped,
-            keeping: true,
+            to: s.to,
+            dropped: k + 1,
+            keeping: s.keeping & !begins,
         };
     }
-    let k = s.dropped;
-    list[k] = [i, wrong as usize];
+    let to = s.to + (2 + 8 * n);
+    out[s.to..to].copy_from_slice(&bytes[at..behind]);
     Sifted {
         at: behind,
-        to: s.to,
-        dropped: k + 1,
-        keeping: s.keeping & !begins,
+        to,
+        dropped: s.dropped,
+        keeping: true,
     }
 }
 
 // Sifts the n promised contours as far as they are complete; the head is not written.
-pub fn contours(bytes: &[u8], n: usize, out: &mut [u8], list: &mut [[usize; 2]]) -> Salvaged
+pub fn contours(bytes: &[u8], n: usize, out: &mut [u8], list: &mut [[usize; 2]]) -> Saved
     requires { Roomy bytes.now n out.old list.old }
-    ensures { leaving result out.new list.new
+    ensures { leaving (saved_as result) out.new list.new
         ≡ ending n 0 none_sifted bytes.now out.old list.old }
 {
     let mut s = Sifted {
@@ -85,12 +87,10 @@ pub fn contours(bytes: &[u8], n: usize, out: &mut [u8], list: &mut [[usize; 2]])
         dropped: 0,
         keeping: false,
     };
-    let mut i: usize = 0;
-    while i < n {
+    for i in 0..n {
         let at = s.at;
         if !complete(bytes, at) {
-            return Salvaged {
-                reply: replies::DONE,
+            return Saved {
                 bytes: s.to,
                 dropped: s.dropped,
                 missing: n - i,
@@ -98,10 +98,8 @@ pub fn contours(bytes: &[u8], n: usize, out: &mut [u8], list: &mut [[usize; 2]])
             };
         }
         s = sift(bytes, s, i, out, list);
-        i += 1;
     }
-    Salvaged {
-        reply: replies::DONE,
+    Saved {
         bytes: s.to,
         dropped: s.dropped,
         missing: 0,

@@ -1,5 +1,6 @@
 -- What the code meets in the bytes that are left, which is the format at their bits, and what it writes, which is bits as bytes.
-use Rattle.std.specs.Prelude.{ℕ, ◌+◌, ◌*◌, ◌/◌, ◌%◌, Bool, List, ◌++◌, length, take, drop, ℤ, nat_le, slice_index}
+use Rattle.std.specs.Prelude.{ℕ, ◌+◌, ◌*◌, ◌/◌, ◌%◌, ◌^◌, Bool, List, ◌++◌, length, take, drop, ℤ, nat_le, bit_or}
+use Rattle.std.specs.Int.{w32, cast_signed, from_be_bytes, from_le_bytes}
 use Rattle.bits.specs.Bits.{value, bits, padded}
 use Rattle.bits.specs.Signs.{fields, numbers}
 use Rattle.bits.specs.inside.Words.{spelled}
@@ -11,13 +12,13 @@ use Rattle.setfile.specs.Format.{contour_bits, begins, points_in, contour_damage
 abbrev pub pair : List ℕ → ℕ
 pair f = value (take 16 (bits f))
 
--- the first four bytes as a number, the least significant first
-abbrev pub low_first : List ℕ → ℕ
-low_first f = slice_index f 0 + slice_index f 1 * 256 + slice_index f 2 * 65536 + slice_index f 3 * 16777216
+-- the coordinate in a word of four bytes
+abbrev pub coordinate : List ℕ → ℤ
+coordinate w = cast_signed w32 (from_be_bytes w32 w)
 
--- a number with its four bytes in the opposite order
-abbrev pub swapped : ℕ → ℕ
-swapped n = n % 256 * 16777216 + n / 256 % 256 * 65536 + n / 65536 % 256 * 256 + n / 16777216
+-- bits, and those of one word more, read from its last byte on and plus 32
+abbrev pub raised : ℕ → List ℕ → ℕ
+raised any w = bit_or any ((from_le_bytes w32 w + 32) % 2 ^ 32)
 
 -- k coordinates
 abbrev pub decoded : ℕ → List ℕ → List ℤ

@@ -1,5 +1,5 @@
 -- What the functions that read a file of either edition say to each other.
-use Rattle.std.specs.Prelude.{◌≡◌, ℕ, ◌+◌, ◌*◌, ◌/◌, ◌≤◌, Bool, true, false, not, ◌&&◌, List, [], ◌∷◌, ◌++◌, length, drop, ℤ, slice_set}
+use Rattle.std.specs.Prelude.{Result, Ok, Err, ◌≡◌, ℕ, ◌+◌, ◌*◌, ◌/◌, ◌≤◌, Bool, true, false, not, ◌&&◌, List, [], ◌∷◌, ◌++◌, length, drop, ℤ, ◌==◌, nat_lt, slice_set}
 use Rattle.grid.specs.Limits.{all_on_grid}
 use Rattle.replies.specs.Ladder.{Rung, first_of, so_far}
 use Rattle.grid.specs.Domain.{off}
@@ -8,19 +8,26 @@ use Rattle.steps.specs.Bodies.{body_size}
 use Rattle.steps.specs.inside.Asked.{Width}
 use Rattle.setfile.specs.declared.inner.headers.Header.{Header}
 use Rattle.setfile.specs.declared.inner.judging.Met.{Met}
-use Rattle.setfile.specs.declared.inner.judging.Judged.{Judged}
+use Rattle.replies.specs.declared.refusal.Refusal.{Refusal}
+use Rattle.replies.specs.Refusals.{number}
+use Rattle.buffer.specs.declared.answer.Sizes.{Sizes}
 use Rattle.setfile.specs.declared.inner.filling.Open.{Open}
 use Rattle.bits.specs.Bits.{digit, bits}
 use Rattle.setfile.specs.Entries.{Entry, contours_of, shapes_of, Parsed, damage, read_contours}
 use Rattle.setfile.specs.Entries.Parsed.{carries, damaged}
-use Rattle.setfile.specs.Layouts.{contours_in}
+use Rattle.setfile.specs.Layouts.{contours_in, edition_of}
 use Rattle.setfile.specs.Format as Format
 use Rattle.setfile.specs.Format.{begins, points_in}
 use Rattle.setfile.specs.Edition2.{width_in}
-use Rattle.setfile.specs.Editions.{layout, bound, bad_head, parsed}
+use Rattle.setfile.specs.Editions.{layout, bound, is_second, bad_head, parsed}
 use Rattle.setfile.specs.Reading.{most_bytes, long, refusals}
 
--- the refusals of a file's length and head, where only edition 1 is taken
+-- the refusals of a file's length and head, where edition 2 is taken too or not
+abbrev pub refusals_where : Bool → List ℕ → List Rung
+refusals_where either f =
+    long (length f) ++ (nat_lt (length f) 2, 10) ∷ (not (edition_of f == 1) && not (either && is_second f), 9) ∷ []
+
+-- where only edition 1 is taken
 abbrev pub head_refusals : List ℕ → List Rung
 head_refusals f = long (length f) ++ Format.bad_head f
 
@@ -91,13 +98,26 @@ pub record Within (second : Bool) (f : List ℕ) (m : Met) : Type 0 where
   pub points_few : m.points ≤ m.at
   pub shapes_few : m.shapes ≤ m.at
 
+-- what is judged of a file: its reply number, and its counts of points, contours and shapes
+pub record Judged : Type 0 where
+  pub reply : ℕ
+  pub points : ℕ
+  pub contours : ℕ
+  pub shapes : ℕ
+
 -- an answer of judging
 abbrev pub judged : ℕ → ℕ → ℕ → ℕ → Judged
 judged reply points contours shapes = record { reply = reply; points = points; contours = contours; shapes = shapes }
 
--- 3 where a coordinate is off the grid
-abbrev pub on_or_refused : Bool → ℕ
-on_or_refused on = first_of ((not on, 3) ∷ [])
+-- the sizes of a set, or its refusal
+abbrev pub judged_as : Result Sizes Refusal → Judged
+judged_as (Ok s) = judged 0 s.points s.contours s.shapes
+judged_as (Err r) = judged (number r) 0 0 0
+
+-- counts, or 3 where a coordinate is off the grid
+abbrev pub counted_where : Bool → ℕ → ℕ → ℕ → Judged
+counted_where true points contours shapes = judged 0 points contours shapes
+counted_where false points contours shapes = judged 3 0 0 0
 
 -- how many points contours have
 abbrev pub points_of : List Entry → ℕ
@@ -107,7 +127,7 @@ points_of l = length (joined (contours_of l)) / 2
 abbrev pub summed : Bool → Met → ℕ → Parsed → Judged
 summed second m n (damaged r) = judged r 0 0 0
 summed second m n (carries l) =
-    judged (on_or_refused (m.on && all_on_grid (bound second) (joined (contours_of l))))
+    counted_where (m.on && all_on_grid (bound second) (joined (contours_of l)))
     (m.points + points_of l) (n + length l) (m.shapes + length (shapes_of l))
 
 -- the refusals of a file of n bytes that is read so

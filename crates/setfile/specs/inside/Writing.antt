@@ -1,20 +1,20 @@
 -- What the parts of the writer say to each other.
-use Rattle.std.specs.Prelude.{◌≡◌, ℕ, ◌+◌, ◌*◌, ◌^◌, ◌<◌, ◌≤◌, Bool, true, false, List, [], ◌∷◌, map, length, ℤ, nat_lt, slice_index, slice_index_or}
-use Rattle.bits.specs.Bits.{digit}
+use Rattle.std.specs.Prelude.{◌≡◌, ℕ, ◌+◌, ◌*◌, ◌^◌, ◌<◌, ◌≤◌, Bool, true, false, ◌&&◌, List, [], ◌++◌, map, length, ℤ, slice_index, slice_index_or}
+use Rattle.replies.specs.Ladder.{Rung}
 use Rattle.bits.specs.declared.inner.pens.Pen.{Pen}
 use Rattle.bits.specs.inside.Pens.{reached, Wrote}
 use Rattle.grid.specs.Limits.{limit, all_on_grid}
 use Rattle.grid.specs.Domain.{count}
 use Rattle.steps.specs.Bodies.{contour_width, body_size}
-use Rattle.buffer.specs.declared.ranges.Span.{Span}
-use Rattle.buffer.specs.Spans.{span, spans, size, total}
+use Rattle.buffer.specs.Refusals.{set}
+use Rattle.buffer.specs.Spans.{span, spans, sound, total}
 use Rattle.buffer.specs.Sets.{cut, contour, contours, shapes}
 use Rattle.buffer.specs.inside.Ranges.{Names}
 use Rattle.rows.specs.Rows.{placed}
 use Rattle.setfile.specs.Entries.{shape_entries, entries}
 use Rattle.setfile.specs.Layouts.{all_coded, file_in}
 use Rattle.setfile.specs.Editions.{number, layout}
-use Rattle.setfile.specs.Writing.{most_contours, most_points}
+use Rattle.setfile.specs.Writing.{most_contours, most_points, uncarried}
 
 -- bytes were written to a row from a position on, and the position behind them is answered
 pub record Put (at : ℕ) (l row : List ℕ) (end : ℕ) (exit : List ℕ) : Type 0 where
@@ -84,10 +84,9 @@ pub record Ripe (second : Bool) (p : List ℤ) (cs ss : List (List ℕ)) (row : 
   pub all : length (entries (shapes p (spans cs) (spans ss))) ≡ length cs
   pub room : length (file_with second p cs ss) ≤ length row
 
--- how many spans are longer than n
-unfoldable pub longer : ℕ → List Span → ℕ
-longer n [] = 0
-longer n (s ∷ l) = digit (nat_lt n (size s)) + longer n l
+-- what is refused of a set within a bound, but for its file's length
+abbrev pub bounded_refusals : ℕ → List ℤ → List (List ℕ) → List (List ℕ) → List Rung
+bounded_refusals bound p cs ss = set bound p (sound (spans cs) (count p) && sound (spans ss) (length cs)) ++ uncarried (spans cs) (spans ss)
 
 -- how many bits a contour is written in by the second edition
 abbrev pub written_size : List ℤ → ℕ

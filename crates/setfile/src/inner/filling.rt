@@ -17,13 +17,11 @@ pub fn points(second: bool, bytes: &[u8], n: usize, out: &mut [i32])
 {
     let mut at: usize = 16;
     let mut to: usize = 0;
-    let mut i: usize = 0;
-    while i < n {
+    for _ in 0..n {
         let h = headers::header_at(second, bytes, at);
         contours::put(second, bytes, at, h, out, to);
         at += headers::size(second, h);
         to += 2 * h.count;
-        i += 1;
     }
 }
 
@@ -37,14 +35,12 @@ pub fn ranges(second: bool, bytes: &[u8], n: usize, records: &mut [[usize; 2]])
 {
     let mut at: usize = 16;
     let mut start: usize = 0;
-    let mut i: usize = 0;
-    while i < n {
+    for i in 0..n {
         let h = headers::header_at(second, bytes, at);
         let end = start + h.count;
         records[i] = [start, end];
         start = end;
         at += headers::size(second, h);
-        i += 1;
     }
 }
 
@@ -84,12 +80,10 @@ fn begun_shapes(second: bool, bytes: &[u8], n: usize, groups: &mut [[usize; 2]])
     let first = headers::header_at(second, bytes, 16);
     let mut at: usize = 16 + headers::size(second, first);
     let mut shape = Open { number: 0, from: 0 };
-    let mut i: usize = 1;
-    while i < n {
+    for i in 1..n {
         let h = headers::header_at(second, bytes, at);
         shape = begin(h.begins, shape, i, groups);
         at += headers::size(second, h);
-        i += 1;
     }
     let k = shape.number;
     groups[k] = [shape.from, n];

@@ -1,18 +1,20 @@
 // The head of a file: its edition, and how many contours it promises.
 ghost use Rattle.std.specs.Prelude.{◌≡◌, ◌≤◌, length};
 ghost use Rattle.replies.specs.Ladder.{first_of};
+ghost use Rattle.replies.specs.Refusals.{told};
 ghost use Rattle.setfile.specs.Layouts.{promised as promised_of};
 ghost use Rattle.setfile.specs.Editions.{number as number_of_lem, is_second};
-ghost use Rattle.setfile.specs.inside.Reading.{head_refusals, either_refusals};
+ghost use Rattle.setfile.specs.inside.Reading.{refusals_where, head_refusals, either_refusals};
 
 use crate::MOST_BYTES;
 use crate::inner::fields;
+use replies::Refusal;
 
 // Whether a file is of the second edition.
 pub fn is_second(bytes: &[u8]) -> bool
     ensures { result ≡ is_second bytes.now }
 {
-    if bytes.len() == 0 {
+    if bytes.is_empty() {
         return false;
     }
     bytes[0] / 16 == 2
@@ -25,37 +27,35 @@ pub fn number(second: bool) -> u32
     if second { 2 } else { 1 }
 }
 
-// What is refused of a file by its length and its head, where only edition 1 is taken: 0, or the first of 2, 10 and 9.
-pub fn refused(bytes: &[u8]) -> u32
-    ensures { result ≡ first_of (head_refusals bytes.now) }
+// What is refused of a file by its length and its head, where edition 2 is taken too or not: the first of 2, 10 and 9, if any.
+fn check_where(bytes: &[u8], either: bool) -> Result<(), Refusal>
+    ensures { told result ≡ first_of (refusals_where either bytes.now) }
 {
     if MOST_BYTES < bytes.len() {
-        return replies::TOO_MANY;
+        return Err(Refusal::TooMany);
     }
     if bytes.len() < 2 {
-        return replies::LENGTH;
-    }
-    if fields::pair(bytes, 0) / 4096 != 1 {
-        return replies::EDITION;
-    }
-    replies::DONE
-}
-
-// The same, where either edition is.
-pub fn either_refused(bytes: &[u8]) -> u32
-    ensures { result ≡ first_of (either_refusals bytes.now) }
-{
-    if MOST_BYTES < bytes.len() {
-        return replies::TOO_MANY;
-    }
-    if bytes.len() < 2 {
-        return replies::LENGTH;
+        return Err(Refusal::Length);
     }
     let edition = fields::pair(bytes, 0) / 4096;
-    if (edition != 1) & (edition != 2) {
-        return replies::EDITION;
+    if (edition != 1) & !(either & (edition == 2)) {
+        return Err(Refusal::Edition);
     }
-    replies::DONE
+    Ok(())
+}
+
+// What is refused so where only edition 1 is taken.
+pub fn check(bytes: &[u8]) -> Result<(), Refusal>
+    ensures { told result ≡ first_of (head_refusals bytes.now) }
+{
+    check_where(bytes, false)
+}
+
+// And where either edition is.
+pub fn check_either(bytes: &[u8]) -> Result<(), Refusal>
+    ensures { told result ≡ first_of (either_refusals bytes.now) }
+{
+    check_where(bytes, true)
 }
 
 // How many contours a file promises.

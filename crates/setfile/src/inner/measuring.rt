@@ -1,30 +1,30 @@
 // How long ranges are, and how long a file of edition 2 is.
-ghost use Rattle.std.specs.Prelude.{◌≡◌, ◌+◌, ◌-◌, ◌/◌, ◌≤◌, length};
-ghost use Rattle.buffer.specs.Spans.{spans};
-ghost use Rattle.setfile.specs.Writing.{most_contours};
-ghost use Rattle.setfile.specs.inside.Writing.{Named, Widths, longer as longer_of, all_size};
+ghost use Rattle.std.specs.Prelude.{◌≡◌, ◌+◌, ◌/◌, ◌≤◌, length};
+ghost use Rattle.buffer.specs.Spans.{span, spans, size};
+ghost use Rattle.setfile.specs.Writing.{most_contours, some_over, some_empty};
+ghost use Rattle.setfile.specs.inside.Writing.{Named, Widths, all_size};
 
 use crate::inner::headers;
 
 // How long a range is: nothing where it runs backward.
-fn size(start: usize, end: usize) -> usize
-    ensures { result ≡ end - start }
+fn size(range: &[usize; 2]) -> usize
+    ensures { result ≡ size (span range.now) }
 {
-    if start < end { end - start } else { 0 }
+    range[1].saturating_sub(range[0])
 }
 
-// How many of the ranges are longer than n.
-pub fn longer(ranges: &[[usize; 2]], n: usize) -> usize
-    ensures { result ≡ longer_of n (spans ranges.now) }
+// Whether one of the ranges is longer than n.
+pub fn some_over(ranges: &[[usize; 2]], n: usize) -> bool
+    ensures { result ≡ some_over n (spans ranges.now) }
 {
-    let mut some: usize = 0;
-    let mut i: usize = 0;
-    while i < ranges.len() {
-        let size = size(ranges[i][0], ranges[i][1]);
-        some += (n < size) as usize;
-        i += 1;
-    }
-    some
+    ranges.iter().any(|r| n < size(r))
+}
+
+// Whether one of the ranges is empty.
+pub fn some_empty(ranges: &[[usize; 2]]) -> bool
+    ensures { result ≡ some_empty (spans ranges.now) }
+{
+    ranges.iter().any(|r| size(r) == 0)
 }
 
 // How many bytes the file of a set has; the width of each contour is kept.
@@ -37,13 +37,11 @@ pub fn file_length(points: &[i32], contours: &[[usize; 2]], widths: &mut [u8]) -
         widths.new }
 {
     let mut bits: usize = 16;
-    let mut k: usize = 0;
-    while k < contours.len() {
+    for k in 0..contours.len() {
         let contour = buffer::inner::parts::named(points, contours, k);
         let width = steps::inner::writing::width(contour);
         widths[k] = width as u8;
         bits += headers::second_size(contour.len() / 2, width);
-        k += 1;
     }
-    (bits + 7) / 8
+    bits.div_ceil(8)
 }

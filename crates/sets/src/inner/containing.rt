@@ -23,14 +23,7 @@ fn inside_no_later(points: &[i32], ranges: &[[usize; 2]], p: Point) -> bool
     requires { Asked points.now ranges.now p }
     ensures { result ≡ inside_none p (drop 1 (contours points.now (spans ranges.now))) }
 {
-    let mut i: usize = 1;
-    while i < ranges.len() {
-        if location(points, ranges, i, p) == path::INSIDE {
-            return false;
-        }
-        i += 1;
-    }
-    true
+    (1..ranges.len()).all(|i| location(points, ranges, i, p) != path::INSIDE)
 }
 
 // Whether the point lies inside the first contour or on its boundary, and inside no later one.
@@ -38,11 +31,8 @@ pub fn has(points: &[i32], ranges: &[[usize; 2]], p: Point) -> bool
     requires { Asked points.now ranges.now p }
     ensures { result ≡ has_point p (contours points.now (spans ranges.now)) }
 {
-    if ranges.len() == 0 {
+    if ranges.is_empty() {
         return false;
     }
-    if location(points, ranges, 0, p) == path::OUTSIDE {
-        return false;
-    }
-    inside_no_later(points, ranges, p)
+    location(points, ranges, 0, p) != path::OUTSIDE && inside_no_later(points, ranges, p)
 }

@@ -1,8 +1,9 @@
 // One contour, cleaned behind what is written.
 ghost use Rattle.std.specs.Prelude.{◌≡◌};
+ghost use Rattle.clean.specs.Outcome.{as_cleaned};
 ghost use Rattle.sets.specs.inside.Contour.{Cleanable, Fated, Placeable, Notable, noted, noting, Behind, reached};
 
-use clean::Cleaned;
+use clean::Cleaning;
 use clean::inner::look;
 use ring::Rule;
 
@@ -31,15 +32,14 @@ fn one(
     prev: &mut [u32],
     mark: &mut [u8],
     out: &mut [i32],
-) -> Cleaned
+) -> Cleaning
     requires { Cleanable contour.now next.old prev.old mark.old out.old }
-    ensures { Fated rule contour.now out.old result out.new }
+    ensures { Fated rule contour.now out.old (as_cleaned result) out.new }
 {
     let n = contour.len() / 2;
     if n < 3 {
-        return Cleaned {
-            reply: replies::COLLAPSED,
-            points: 0,
+        return Cleaning {
+            kept: None,
             decisions: 0,
             turns: 0,
         };
@@ -47,9 +47,8 @@ fn one(
     let look = look::look_over(rule, contour, n);
     if look.passes {
         rows::inner::copy(contour, out, 0);
-        return Cleaned {
-            reply: replies::DONE,
-            points: n,
+        return Cleaning {
+            kept: Some(n),
             decisions: 0,
             turns: 0,
         };
@@ -66,35 +65,30 @@ fn one(
 }
 
 // How far the cleaning has come with a contour: where it stays its range is written behind the others.
-fn note(cleaned: Cleaned, at: Progress, records: &mut [[usize; 2]]) -> Tried
-    requires { Notable cleaned at records.old }
+fn note(cleaned: Cleaning, at: Progress, records: &mut [[usize; 2]]) -> Tried
+    requires { Notable (as_cleaned cleaned) at records.old }
     ensures { noted result records.new
-        ≡ noting cleaned.reply cleaned at records.old }
+        ≡ noting (as_cleaned cleaned).reply (as_cleaned cleaned) at records.old }
 {
-    let start = at.points;
-    let k = at.contours;
-    let decisions = at.decisions + cleaned.decisions;
-    let turns = at.turns + cleaned.turns;
-    if cleaned.reply != 0 {
+    let counted = Progress {
+        decisions: at.decisions + cleaned.decisions,
+        turns: at.turns + cleaned.turns,
+        ..at
+    };
+    let Some(points) = cleaned.kept else {
         return Tried {
             stays: false,
-            progress: Progress {
-                points: start,
-                contours: k,
-                decisions,
-                turns,
-            },
+            progress: counted,
         };
-    }
-    let end = start + cleaned.points;
-    records[k] = [start, end];
+    };
+    let end = at.points + points;
+    records[at.contours] = [at.points, end];
     Tried {
         stays: true,
         progress: Progress {
             points: end,
-            contours: k + 1,
-            decisions,
-            turns,
+            contours: at.contours + 1,
+            ..counted
         },
     }
 }

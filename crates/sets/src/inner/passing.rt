@@ -1,71 +1,39 @@
 // Whether every contour of a set passes the verdict that goes with a rule.
-ghost use Rattle.std.specs.Prelude.{◌≡◌};
-ghost use Rattle.grid.specs.Limits.{limit};
+ghost use Rattle.std.specs.Prelude.{◌≡◌, ◌<◌, [], length, slice_index_or};
 ghost use Rattle.grid.specs.Points.{points as points_of};
 ghost use Rattle.replies.specs.Ladder.{first_of};
-ghost use Rattle.grid.specs.Domain.{domain};
-ghost use Rattle.replies.specs.Verdicts.{verdict as verdict_of};
-ghost use Rattle.buffer.specs.Spans.{spans};
-ghost use Rattle.buffer.specs.Sets.{contours};
+ghost use Rattle.replies.specs.Verdicts.{answered};
+ghost use Rattle.buffer.specs.Spans.{span, spans};
+ghost use Rattle.buffer.specs.Sets.{contour, contours};
 ghost use Rattle.buffer.specs.Contours.{refusals};
 ghost use Rattle.clean.specs.Verdicts.{passes as passes_by};
 ghost use Rattle.sets.specs.Verdicts.{all_pass as all_pass_by, verdict_by};
 
 use buffer::inner::parts;
-use replies::Verdict;
+use replies::Refusal;
 use ring::Rule;
 
-// Whether a contour passes. A box does, by either rule.
-pub fn passes(rule: Rule, contour: &[i32]) -> bool
-    requires { first_of (domain limit contour.now) ≡ 0 }
-    ensures { result ≡ passes_by rule (points_of contour.now) }
+// Whether contour number k passes, of a set that no call refuses.
+fn named_passes(rule: Rule, points: &[i32], ranges: &[[usize; 2]], k: usize) -> bool
+    requires { (first_of (refusals points.now ranges.now) ≡ 0) × (k < length ranges.now) }
+    ensures { result ≡ passes_by rule (points_of (contour points.now (span (slice_index_or ranges.now k [])))) }
 {
-    if grid::inner::boxes::is_box(contour, contour.len() / 2) {
-        return true;
-    }
-    match rule {
-        Rule::Collinear => clean::inner::verdicts::all_turn(contour),
-        Rule::Spike => clean::inner::verdicts::no_spikes(contour),
-    }
+    clean::inner::verdicts::passes(rule, parts::named(points, ranges, k))
 }
 
 // Whether every contour passes, of a set that no call refuses.
-fn all_pass(rule: Rule, points: &[i32], ranges: &[[usize; 2]]) -> bool
+pub fn all_pass(rule: Rule, points: &[i32], ranges: &[[usize; 2]]) -> bool
     requires { first_of (refusals points.now ranges.now) ≡ 0 }
     ensures { result ≡ all_pass_by rule (contours points.now (spans ranges.now)) }
 {
-    let mut i: usize = 0;
-    while i < ranges.len() {
-        if !passes(rule, parts::named(points, ranges, i)) {
-            return false;
-        }
-        i += 1;
-    }
-    true
-}
-
-// The answer of a set that was refused with this number, or was not.
-pub fn asked(rule: Rule, refusal: u32, points: &[i32], ranges: &[[usize; 2]]) -> Verdict
-    requires { refusal ≡ 0 → first_of (refusals points.now ranges.now) ≡ 0 }
-    ensures { result ≡ verdict_of refusal (all_pass_by rule (contours points.now (spans ranges.now))) }
-{
-    if refusal != 0 {
-        return Verdict {
-            reply: refusal,
-            yes: false,
-        };
-    }
-    Verdict {
-        reply: replies::DONE,
-        yes: all_pass(rule, points, ranges),
-    }
+    (0..ranges.len()).all(|i| named_passes(rule, points, ranges, i))
 }
 
 // The answer of a contour set.
-pub fn verdict(rule: Rule, points: &[i32], ranges: &[[usize; 2]]) -> Verdict
-    ensures { result ≡ verdict_by rule (refusals points.now ranges.now)
+pub fn verdict(rule: Rule, points: &[i32], ranges: &[[usize; 2]]) -> Result<bool, Refusal>
+    ensures { answered result ≡ verdict_by rule (refusals points.now ranges.now)
         (contours points.now (spans ranges.now)) }
 {
-    let refusal = buffer::contours::refused(points, ranges);
-    asked(rule, refusal, points, ranges)
+    buffer::contours::check(points, ranges)?;
+    Ok(all_pass(rule, points, ranges))
 }

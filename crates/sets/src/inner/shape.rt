@@ -26,18 +26,17 @@ pub fn shape(
         ≡ run_shape rule (contours points.now (spans ranges.now))
         (reached at out.old records.old) }
 {
-    let mut stands = true;
     let mut progress = at;
-    let mut i: usize = 0;
-    while stands & (i < ranges.len()) {
+    for i in 0..ranges.len() {
         let own = buffer::inner::parts::named(points, ranges, i);
         let tried = contour::behind(rule, own, progress, next, prev, mark, out, records);
-        stands = tried.stays | (0 < i);
+        if i == 0 && !tried.stays {
+            return tried;
+        }
         progress = tried.progress;
-        i += 1;
     }
     Tried {
-        stays: stands,
+        stays: true,
         progress,
     }
 }

@@ -24,20 +24,13 @@ fn group(tried: Tried, at: Total, groups: &mut [[usize; 2]]) -> Total
         ≡ adding tried.stays (reached tried.progress [] [])
         (grouped at.shapes (reached at.progress [] []) groups.old) }
 {
-    let k = at.shapes;
-    let before = at.progress;
     let progress = tried.progress;
     if !tried.stays {
-        return Total {
-            shapes: k,
-            progress,
-        };
+        return Total { progress, ..at };
     }
-    let start = before.contours;
-    let end = progress.contours;
-    groups[k] = [start, end];
+    groups[at.shapes] = [at.progress.contours, progress.contours];
     Total {
-        shapes: k + 1,
+        shapes: at.shapes + 1,
         progress,
     }
 }
@@ -63,19 +56,18 @@ fn add_shape(
         (reached at.progress out.old records.old))
         (grouped at.shapes (reached at.progress out.old records.old) groups.old) }
 {
-    let before = at.progress;
-    let tried = shape::shape(rule, points, ranges, before, next, prev, mark, out, records);
+    let tried = shape::shape(
+        rule,
+        points,
+        ranges,
+        at.progress,
+        next,
+        prev,
+        mark,
+        out,
+        records,
+    );
     group(tried, at, groups)
-}
-
-// The contour ranges of shape k.
-fn ranges_of<'a>(contours: &'a [[usize; 2]], shapes: &[[usize; 2]], k: usize) -> &'a [[usize; 2]]
-    requires { (k < length shapes.now) × Within contours.now (span (slice_index_or shapes.now k [])) }
-    ensures { result.now ≡ cut contours.now (span (slice_index_or shapes.now k [])) }
-{
-    let from = shapes[k][0];
-    let to = shapes[k][1];
-    &contours[from..to]
 }
 
 // The shapes of the ranges, one after the other; those that fall are dropped.
@@ -107,13 +99,11 @@ fn each(
             turns: 0,
         },
     };
-    let mut i: usize = 0;
-    while i < shapes.len() {
-        let own = ranges_of(contours, shapes, i);
+    for &[from, to] in shapes {
+        let own = &contours[from..to];
         at = add_shape(
             rule, points, own, at, next, prev, mark, out, records, groups,
         );
-        i += 1;
     }
     at
 }
@@ -123,9 +113,9 @@ pub fn zero_scratch(next: &mut [u32], prev: &mut [u32], mark: &mut [u8])
     ensures { Zeroed next.old prev.old mark.old
         next.new prev.new mark.new }
 {
-    rows::inner::zero(next);
-    rows::inner::zero(prev);
-    rows::inner::zero_bytes(mark);
+    next.fill(0);
+    prev.fill(0);
+    mark.fill(0);
 }
 
 // The shapes in front of the rows, with the scratch zeroed after them.
@@ -161,10 +151,9 @@ pub fn sweep_shapes(
 fn only(at: Total) -> Tried
     ensures { result ≡ only_of at }
 {
-    let progress = at.progress;
     Tried {
         stays: at.shapes == 1,
-        progress,
+        progress: at.progress,
     }
 }
 

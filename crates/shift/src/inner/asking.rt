@@ -36,18 +36,12 @@ pub fn has(points: &[i32], records: &[[usize; 4]], n: usize, press: usize, p: Po
     ensures { result ≡ has_from false p (shape_from points.now records.now n press 0) }
 {
     let mut met = false;
-    let mut i: usize = 0;
-    while i < n {
-        if records[i][3] != press {
-            i += 1;
-        } else {
-            let start = records[i][0];
-            let end = records[i][1];
+    for &[start, end, _, own] in &records[..n] {
+        if own == press {
             if rules_out(met, location(points, start, end, p)) {
                 return false;
             }
             met = true;
-            i += 1;
         }
     }
     met

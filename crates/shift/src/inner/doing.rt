@@ -8,20 +8,20 @@ ghost use Rattle.pool.specs.inside.Surveys.{with_more, share_of};
 ghost use Rattle.ring.specs.declared.Rule as R;
 ghost use Rattle.shift.specs.Steps.Request.{adds, removes, cleans, asks};
 ghost use Rattle.shift.specs.States.{yes_or_no};
-ghost use Rattle.shift.specs.inside.Doing.{Held, Did, with_less};
+ghost use Rattle.shift.specs.inside.Doing.{Held, Did, ended, with_less};
 ghost use Rattle.sifting.specs.inside.Cleaning.{HasScratch, field};
 
 use crate::inner::asking;
 use grid::Point;
 use pool::inner::survey::Survey;
 use pool::inner::{adding, changing, records, survey};
+use replies::Refusal;
 use ring::Rule;
 use sifting::inner::cleaning;
 
-// What a request is told, and what is counted of the pool then.
+// The result of a request that is done, and what is counted of the pool then.
 #[derive(Clone, Copy)]
 pub struct Done {
-    pub reply: u32,
     pub result: usize,
     pub contours: usize,
     pub found: Survey,
@@ -33,19 +33,18 @@ fn more(found: Survey, second: bool, n: usize) -> Survey
     ensures { result ≡ with_more second n found }
 {
     let size = records::holding(n);
+    let points = found.points + n;
     if second {
         return Survey {
-            sound: found.sound,
-            points: found.points + n,
-            first: found.first,
+            points,
             second: found.second + size,
+            ..found
         };
     }
     Survey {
-        sound: found.sound,
-        points: found.points + n,
+        points,
         first: found.first + size,
-        second: found.second,
+        ..found
     }
 }
 
@@ -55,19 +54,18 @@ fn less(found: Survey, second: bool, n: usize) -> Survey
     ensures { result ≡ with_less second n found }
 {
     let size = records::holding(n);
+    let points = found.points - n;
     if second {
         return Survey {
-            sound: found.sound,
-            points: found.points - n,
-            first: found.first,
+            points,
             second: found.second - size,
+            ..found
         };
     }
     Survey {
-        sound: found.sound,
-        points: found.points - n,
+        points,
         first: found.first - size,
-        second: found.second,
+        ..found
     }
 }
 
@@ -79,26 +77,17 @@ pub fn add(
     found: Survey,
     second: bool,
     contour: &[i32],
-) -> Done
+) -> Result<Done, Refusal>
     requires { Held (lent points.old records.old n) found }
     ensures { Did (adds second contour.now) (lent points.old records.old n)
-        result (lent points.new records.new result.contours) }
+        (ended n found result) (lent points.new records.new (ended n found result).contours) }
 {
-    let reply = adding::add_surveyed(points, records, n, found, second, 0, contour);
-    if reply != 0 {
-        return Done {
-            reply,
-            result: 0,
-            contours: n,
-            found,
-        };
-    }
-    Done {
-        reply,
+    adding::add_surveyed(points, records, n, found, second, 0, contour)?;
+    Ok(Done {
         result: 0,
         contours: n + 1,
         found: more(found, second, contour.len() / 2),
-    }
+    })
 }
 
 // How many points record k names.
@@ -116,28 +105,22 @@ pub fn remove(
     n: usize,
     found: Survey,
     second: bool,
-) -> Done
+) -> Result<Done, Refusal>
     requires { Held (lent points.old records.old n) found }
     ensures { Did (removes second) (lent points.old records.old n)
-        result (lent points.new records.new result.contours) }
+        (ended n found result) (lent points.new records.new (ended n found result).contours) }
 {
     let newest = records::newest(records, n, survey::number(second));
     if newest == 0 {
-        return Done {
-            reply: replies::NONE_LEFT,
-            result: 0,
-            contours: n,
-            found,
-        };
+        return Err(Refusal::NoneLeft);
     }
     let size = size(records, newest - 1);
     changing::take_out(points, records, n, found.points, newest);
-    Done {
-        reply: replies::DONE,
+    Ok(Done {
         result: 0,
         contours: n - 1,
         found: less(found, second, size),
-    }
+    })
 }
 
 // All contours are cleaned by a rule.
@@ -150,14 +133,13 @@ pub fn clean(
     next: &mut [u32],
     prev: &mut [u32],
     mark: &mut [u8],
-) -> Done
+) -> Result<Done, Refusal>
     requires { Held (lent points.old records.old n) found × HasScratch next.old prev.old mark.old }
     ensures { Did (cleans rule) (lent points.old records.old n)
-        result (lent points.new records.new result.contours) }
+        (ended n found result) (lent points.new records.new (ended n found result).contours) }
 {
     let cleaned = cleaning::clean(rule, points, records, n, next, prev, mark);
-    Done {
-        reply: replies::DONE,
+    Ok(Done {
         result: cleaned.decisions,
         contours: cleaned.contours,
         found: Survey {
@@ -166,14 +148,14 @@ pub fn clean(
             first: cleaned.held - cleaned.second,
             second: cleaned.second,
         },
-    }
+    })
 }
 
 // Yes or no, as a result.
 fn as_result(yes: bool) -> usize
     ensures { result ≡ yes_or_no yes }
 {
-    if yes { 1 } else { 0 }
+    usize::from(yes)
 }
 
 // A point is asked of a press's contours.
@@ -184,24 +166,18 @@ pub fn ask(
     found: Survey,
     second: bool,
     p: Point,
-) -> Done
+) -> Result<Done, Refusal>
     requires { Held (lent points.now records.now n) found }
     ensures { Did (asks second p) (lent points.now records.now n)
-        result (lent points.now records.now result.contours) }
+        (ended n found result) (lent points.now records.now (ended n found result).contours) }
 {
     if !grid::point_on_grid(p) {
-        return Done {
-            reply: replies::OFF_GRID,
-            result: 0,
-            contours: n,
-            found,
-        };
+        return Err(Refusal::OffGrid);
     }
     let yes = asking::has(points, records, n, survey::number(second), p);
-    Done {
-        reply: replies::DONE,
+    Ok(Done {
         result: as_result(yes),
         contours: n,
         found,
-    }
+    })
 }

@@ -1,10 +1,10 @@
 -- What is said of a pool that is cleaned where it lies, contour by contour.
 use mathlib.Core.Path.{◌≡◌}
-use mathlib.Core.Bool.{Bool, true, false}
 use mathlib.Core.List.{List, [], ◌∷◌}
 use Prim.Native.Nat.{ℕ, ◌+◌, ◌-◌, ◌*◌, ◌<◌, ◌≤◌}
 use lib.ListN.{length, get_or, set}
 use lib.IntN.{ℤ}
+use Rattle.std.specs.Prelude.{Option, Some, None}
 use Rattle.rows.specs.Rows.{placed}
 use Rattle.grid.specs.Domain.{count, Contour}
 use Rattle.ring.specs.declared.Rule.{Rule}
@@ -38,17 +38,25 @@ with_none decisions at = record { contours = at.contours; points = at.points; he
 abbrev pub record_behind : ℕ → ℕ → ℕ → Progress → List ℕ
 record_behind n tool press at = at.points ∷ (at.points + n) ∷ tool ∷ press ∷ []
 
--- a contour that stays or not is noted
-abbrev pub noting : Bool → Kept → Progress → ℕ → ℕ → List (List ℕ) → Noted
-noting true k at tool press records = noted (with_one k.points press k.decisions at) (set records at.contours (record_behind k.points tool press at))
-noting false k at tool press records = noted (with_none k.decisions at) records
+-- a contour that stays with so many points, or not, is noted, after so many decisions
+abbrev pub noting_by : Option ℕ → ℕ → Progress → ℕ → ℕ → List (List ℕ) → Noted
+noting_by (Some n) decisions at tool press records = noted (with_one n press decisions at) (set records at.contours (record_behind n tool press at))
+noting_by None decisions at tool press records = noted (with_none decisions at) records
+
+abbrev pub noting : Kept → Progress → ℕ → ℕ → List (List ℕ) → Noted
+noting k = noting_by k.points k.decisions
+
+-- the points of a contour that stays, or none
+abbrev pub points_by : Option ℕ → ℕ
+points_by (Some n) = n
+points_by None = 0
 
 -- a record more, and sums that fit
 pub record Notable (k : Kept) (at : Progress) (press : ℕ) (records : List (List ℕ)) : Type 0 where
   pub space : at.contours < length records
   pub one_of_two : press ≤ 1
-  pub points_few : at.points + k.points ≤ capacity
-  pub held_few : at.held + holding k.points ≤ capacity
+  pub points_few : at.points + points_by k.points ≤ capacity
+  pub held_few : at.held + holding (points_by k.points) ≤ capacity
   pub second_few : at.second ≤ at.held
   pub decisions_few : at.decisions + k.decisions ≤ 4 * capacity
 

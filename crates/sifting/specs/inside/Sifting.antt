@@ -1,10 +1,11 @@
 -- What is said of a contour that is cleaned where it lies, and moved down.
 use mathlib.Core.Path.{◌≡◌}
-use mathlib.Core.Bool.{true, false}
+use mathlib.Core.Bool.{false}
 use mathlib.Core.List.{List}
 use Prim.Native.Nat.{ℕ, ◌+◌, ◌-◌, ◌*◌, ◌≤◌}
 use lib.ListN.{length}
 use lib.IntN.{ℤ}
+use Rattle.std.specs.Prelude.{Some, None}
 use Rattle.rows.specs.Rows.{placed}
 use Rattle.grid.specs.Points.{points}
 use Rattle.grid.specs.Domain.{count, Contour}
@@ -41,8 +42,8 @@ pub record Lowered (row : List ℤ) (start to : ℕ) (mark : List ℕ) (r : ℕ)
 
 -- what is kept of a contour, by its fate
 abbrev pub kept_of : Fate → Kept
-kept_of (stays d t) = record { stays = true; points = count d; decisions = t.decisions }
-kept_of (gone t) = record { stays = false; points = 0; decisions = t.decisions }
+kept_of (stays d t) = record { points = Some (count d); decisions = t.decisions }
+kept_of (gone t) = record { points = None; decisions = t.decisions }
 
 -- and the row then, where it moves down to point to
 abbrev pub row_of : Fate → ℕ → List ℤ → List ℤ

@@ -22,25 +22,17 @@ pub struct Progress {
 fn note(kept: Kept, at: Progress, records: &mut [[usize; 4]], tool: usize, press: usize) -> Progress
     requires { Notable kept at press records.old }
     ensures { noted result records.new
-        ≡ noting kept.stays kept at tool press records.old }
+        ≡ noting kept at tool press records.old }
 {
-    let k = at.contours;
-    let start = at.points;
     let decisions = at.decisions + kept.decisions;
-    if !kept.stays {
-        return Progress {
-            contours: k,
-            points: start,
-            held: at.held,
-            second: at.second,
-            decisions,
-        };
-    }
-    let end = start + kept.points;
-    let size = records::holding(kept.points);
-    records[k] = [start, end, tool, press];
+    let Some(points) = kept.points else {
+        return Progress { decisions, ..at };
+    };
+    let end = at.points + points;
+    let size = records::holding(points);
+    records[at.contours] = [at.points, end, tool, press];
     Progress {
-        contours: k + 1,
+        contours: at.contours + 1,
         points: end,
         held: at.held + size,
         second: at.second + press * size,
@@ -65,10 +57,7 @@ fn next_contour(
         (field records.old i 2) (field records.old i 3)
         (going at points.old records.old) }
 {
-    let start = records[i][0];
-    let end = records[i][1];
-    let tool = records[i][2];
-    let press = records[i][3];
+    let [start, end, tool, press] = records[i];
     let kept = sifting::sift(rule, points, start, end, at.points, next, prev, mark);
     note(kept, at, records, tool, press)
 }
@@ -93,10 +82,8 @@ pub fn clean(
         second: 0,
         decisions: 0,
     };
-    let mut i: usize = 0;
-    while i < n {
+    for i in 0..n {
         at = next_contour(rule, points, records, i, at, next, prev, mark);
-        i += 1;
     }
     at
 }

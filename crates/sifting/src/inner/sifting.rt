@@ -4,6 +4,7 @@ ghost use mathlib.Core.Bool.{true, false};
 ghost use Prim.Native.Nat.{◌+◌, ◌-◌, ◌*◌, ◌<◌, ◌≤◌};
 ghost use lib.IntN.{pos};
 ghost use lib.ListN.{length, get_or, set};
+ghost use Rattle.std.specs.Prelude.{None};
 ghost use Rattle.ring.specs.Rule.{goes};
 ghost use Rattle.ring.specs.inside.Rows.{Ended, FirstStand};
 ghost use Rattle.clean.specs.inside.Looking.{LookedOver};
@@ -14,11 +15,10 @@ use clean::inner::look::Look;
 use pool::inner::moving;
 use ring::{Ending, Rule};
 
-// Whether a contour stays, with how many points, and after how many decisions.
+// With how many points a contour stays, if it stays, and after how many decisions.
 #[derive(Clone, Copy)]
 pub struct Kept {
-    pub stays: bool,
-    pub points: usize,
+    pub points: Option<usize>,
     pub decisions: usize,
 }
 
@@ -41,14 +41,10 @@ fn survivors(row: &mut [i32], start: usize, to: usize, mark: &[u8]) -> usize
     ensures { Lowered row.old start to mark.now result row.new }
 {
     let mut kept: usize = 0;
-    let mut i: usize = 0;
-    while i < mark.len() {
-        if mark[i] < 2 {
+    for (i, m) in mark.iter().enumerate() {
+        if *m < 2 {
             put(row, start + i, to + kept);
             kept += 1;
-            i += 1;
-        } else {
-            i += 1;
         }
     }
     kept
@@ -87,11 +83,10 @@ fn walk(
 }
 
 fn gone(decisions: usize) -> Kept
-    ensures { result ≡ record { stays = false; points = 0; decisions = decisions } }
+    ensures { result ≡ record { points = None; decisions = decisions } }
 {
     Kept {
-        stays: false,
-        points: 0,
+        points: None,
         decisions,
     }
 }
@@ -121,8 +116,7 @@ fn walk_down(
     }
     let points = survivors(row, start, to, mark);
     Kept {
-        stays: true,
-        points,
+        points: Some(points),
         decisions,
     }
 }
@@ -149,8 +143,7 @@ pub fn sift(
     if look.passes {
         moving::numbers(row, 2 * to, 2 * start - 2 * to, 2 * n);
         return Kept {
-            stays: true,
-            points: n,
+            points: Some(n),
             decisions: 0,
         };
     }

@@ -1,5 +1,5 @@
 // The four differences of two points more, as one number: each point is one number first, so that two are subtracted and not four.
-ghost use Rattle.std.specs.Prelude.{◌≡◌, true, ◌+◌, ◌-◌, ◌*◌, ◌^◌, ◌<◌, ◌≤◌, length, drop, pos, ◌+ℤ◌, ◌-ℤ◌};
+ghost use Rattle.std.specs.Prelude.{◌≡◌, true, ◌+◌, ◌-◌, ◌*◌, ◌^◌, ◌<◌, length, drop, pos, ◌+ℤ◌, ◌-ℤ◌};
 ghost use Rattle.integers.specs.Bound.{In};
 ghost use Rattle.bits.specs.Signs.{all_fit};
 ghost use Rattle.grid.specs.Limits.{limit, all_on_grid};
@@ -11,8 +11,7 @@ pub fn scale(width: usize) -> i64
     requires { Narrow width }
     ensures { result ≡ pos (2 ^ width) }
 {
-    let n: u64 = 1 << width;
-    n as i64
+    1 << width
 }
 
 // A point as one number.
@@ -22,7 +21,7 @@ pub fn joined(contour: &[i32], k: usize, scale: i64) -> i64
         × In 32768 scale }
     ensures { result ≡ joined_of scale contour.now k }
 {
-    integers::wide(contour[k]) * scale + integers::wide(contour[k + 1])
+    i64::from(contour[k]) * scale + i64::from(contour[k + 1])
 }
 
 // Half of the values of a width, for both differences of a point.

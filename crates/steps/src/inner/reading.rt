@@ -1,7 +1,7 @@
 // A contour's points, read from its steps.
 ghost use Rattle.std.specs.Prelude.{◌≡◌, true, not, ◌+◌, ◌-◌, ◌*◌, ◌^◌, ◌<◌, ◌≤◌, eqb, leb, length, take, drop, nat_abs, ◌+ℤ◌};
 ghost use Rattle.bits.specs.Bits.{value, bits};
-ghost use Rattle.bits.specs.Signs.{signed, all_fit, numbers};
+ghost use Rattle.bits.specs.Signs.{signed, fits, all_fit, numbers};
 ghost use Rattle.bits.specs.Widths.{width_of};
 ghost use Rattle.bits.specs.inside.Words.{Within, leading};
 ghost use Rattle.grid.specs.Limits.{limit, on_grid, all_on_grid};
@@ -22,20 +22,24 @@ fn step(bytes: &[u8], at: usize, width: usize) -> i64
     signs::signed(fields::long_number(bytes, at, width), width)
 }
 
-// Whether one of k differences, from bit `at` on, does not fit one bit less.
+// Whether the difference of `width` bits at bit `at` does not fit one bit less.
+fn needs(bytes: &[u8], at: usize, width: usize) -> bool
+    requires { Within bytes.now at width
+        × Width width
+        × (8 ≤ length bytes.now)
+        × (1 < width) }
+    ensures { result
+        ≡ not (fits (width - 1) (signed width (value (take width (drop at (bits bytes.now)))))) }
+{
+    1 << (width - 2) <= signs::reach(step(bytes, at, width))
+}
+
+// Whether one of k differences, from bit `at` on, does not.
 fn some_needs(bytes: &[u8], at: usize, width: usize, k: usize) -> bool
     requires { There bytes.now at width k × (1 < width) }
     ensures { result ≡ not (all_fit (width - 1) (numbers width k (drop at (bits bytes.now)))) }
 {
-    let most: u64 = 1 << (width - 2);
-    let mut i: usize = 0;
-    while i < k {
-        if most <= signs::reach(step(bytes, at + width * i, width)) {
-            return true;
-        }
-        i += 1;
-    }
-    false
+    (0..k).any(|i| needs(bytes, at + width * i, width))
 }
 
 // Whether the width that is written of n points, which stand from bit `at` on, is the smallest.
@@ -60,7 +64,7 @@ fn next(bytes: &[u8], at: usize, width: usize, x: i32) -> i64
     requires { Within bytes.now at width × Width width × (8 ≤ length bytes.now) }
     ensures { result ≡ x +ℤ signed width (value (take width (drop at (bits bytes.now)))) }
 {
-    integers::wide(x) + step(bytes, at, width)
+    i64::from(x) + step(bytes, at, width)
 }
 
 // Whether the numbers that follow x and y by k differences, from bit `at` on, are on the grid.
@@ -70,15 +74,13 @@ fn sums_on(bytes: &[u8], at: usize, width: usize, k: usize, x: i32, y: i32) -> b
 {
     let mut a = x;
     let mut b = y;
-    let mut i: usize = 0;
-    while i < k {
+    for i in 0..k {
         let u = next(bytes, at + width * i, width, a);
-        if (LIMIT as u64) < integers::magnitude(u) {
+        if u64::from(LIMIT) < u.unsigned_abs() {
             return false;
         }
         a = b;
         b = u as i32;
-        i += 1;
     }
     true
 }
@@ -97,7 +99,7 @@ fn stays(x: i32, width: usize, k: usize) -> bool
     ensures { result ≡ leb (nat_abs x + k * 2 ^ (width - 1)) limit }
 {
     let half: u64 = 1 << (width - 1);
-    integers::magnitude(integers::wide(x)) + (k as u64) * half <= LIMIT as u64
+    u64::from(x.unsigned_abs()) + (k as u64) * half <= u64::from(LIMIT)
 }
 
 // Whether n points, which stand from bit `at` on, are on the grid. So near its middle that no difference leaves it, none is read.
@@ -138,13 +140,11 @@ fn write_sums(
 {
     let mut a = x;
     let mut b = y;
-    let mut i: usize = 0;
-    while i < k {
+    for i in 0..k {
         let u = next(bytes, at + width * i, width, a) as i32;
         out[to + i] = u;
         a = b;
         b = u;
-        i += 1;
     }
 }
 
@@ -153,7 +153,7 @@ fn moved(word: u64, width: usize, x: i32) -> i32
     requires { Width width × (on_grid limit (x +ℤ signed width (leading word width)) ≡ true) }
     ensures { result ≡ x +ℤ signed width (leading word width) }
 {
-    (integers::wide(x) + signs::signed(word >> (64 - width), width)) as i32
+    (i64::from(x) + signs::signed(word >> (64 - width), width)) as i32
 }
 
 // Writes the n points that follow x and y, from bit `at` on, from position `to` on: both differences of a point are read at once.
@@ -173,15 +173,13 @@ fn write_points(
 {
     let mut a = x;
     let mut b = y;
-    let mut i: usize = 0;
-    while i < n {
+    for i in 0..n {
         let first = fields::ahead(bytes, at + width * (2 * i), 2 * width);
         let second = first << width;
         a = moved(first, width, a);
         b = moved(second, width, b);
         out[to + 2 * i] = a;
         out[to + (2 * i + 1)] = b;
-        i += 1;
     }
 }
 

@@ -28,7 +28,7 @@ fn reach(contour: &[i32], k: usize) -> u32
     requires { (k + 2 < length contour.now) × (all_on_grid limit contour.now ≡ true) }
     ensures { result ≡ mag (step contour.now k) }
 {
-    signs::reach(integers::wide(difference(contour, k))) as u32
+    signs::reach(i64::from(difference(contour, k))) as u32
 }
 
 // A number that reaches to the same bit as the farthest difference: all that they reach, or-ed. LLVM takes four of them in a step.
@@ -36,11 +36,9 @@ fn reaches(contour: &[i32]) -> u32
     requires { all_on_grid limit contour.now ≡ true }
     ensures { (result < 2 ^ 31) × (width_for result ≡ contour_width contour.now) }
 {
-    let mut all: u32 = 0;
-    let mut k: usize = 0;
-    while k + 2 < contour.len() {
-        all = all | reach(contour, k);
-        k += 1;
+    let mut all = 0;
+    for k in 0..contour.len().saturating_sub(2) {
+        all |= reach(contour, k);
     }
     all
 }
@@ -51,7 +49,7 @@ pub fn width(contour: &[i32]) -> usize
         × (all_on_grid limit contour.now ≡ true) }
     ensures { result ≡ contour_width contour.now }
 {
-    widths::width_for(reaches(contour) as u64)
+    widths::width_for(u64::from(reaches(contour)))
 }
 
 // Writes a coordinate in 32 bits behind the pen.
@@ -60,7 +58,7 @@ fn put_whole(bytes: &mut [u8], pen: Pen, x: i32) -> Pen
     ensures { Wrote pen (field 32 (unsigned_of 32 x)) bytes.old result bytes.new
         × (result.width < 32) }
 {
-    pens::write(bytes, pen, 32, integers::bits_32(x) as u64)
+    pens::write(bytes, pen, 32, u64::from(x.cast_unsigned()))
 }
 
 // Writes a contour's first point behind the pen.
@@ -84,7 +82,7 @@ fn step_bits(contour: &[i32], k: usize, width: usize) -> u64
         × (fits width (step contour.now k) ≡ true) }
     ensures { result ≡ unsigned_of width (step contour.now k) }
 {
-    integers::bits_32(difference(contour, k)) as u64 % (1 << width)
+    u64::from(difference(contour, k).cast_unsigned()) % (1 << width)
 }
 
 // Writes its differences behind the pen.
@@ -95,11 +93,9 @@ fn put_steps(bytes: &mut [u8], pen: Pen, contour: &[i32], width: usize) -> Pen
         × (result.width < 32) }
 {
     let mut p = pen;
-    let mut k: usize = 0;
-    while k + 2 < contour.len() {
+    for k in 0..contour.len().saturating_sub(2) {
         let n = step_bits(contour, k, width);
         p = pens::write(bytes, p, width, n);
-        k += 1;
     }
     p
 }
@@ -115,15 +111,14 @@ fn put_pairs(bytes: &mut [u8], pen: Pen, contour: &[i32], width: usize) -> Pen
 {
     let mut b = broad::broaden(pen);
     let mut from = pairs::joined(contour, 0, pairs::scale(width));
-    let mut k: usize = 0;
-    while k + 5 < contour.len() {
-        let next = pairs::four(contour, k, width, from);
+    let pairs = (contour.len() - 2) / 4;
+    for i in 0..pairs {
+        let next = pairs::four(contour, 4 * i, width, from);
         b = broad::sweep(bytes, b, 4 * width, next.bits);
         from = next.last;
-        k += 4;
     }
     let p = broad::narrow(bytes, b);
-    put_steps(bytes, p, &contour[k..], width)
+    put_steps(bytes, p, &contour[4 * pairs..], width)
 }
 
 // Writes them in any width.
@@ -133,10 +128,8 @@ fn put_following(bytes: &mut [u8], pen: Pen, contour: &[i32], width: usize) -> P
         bytes.new
         × (result.width < 32) }
 {
-    if width <= 15 {
-        if 6 <= contour.len() {
-            return put_pairs(bytes, pen, contour, width);
-        }
+    if width <= 15 && 6 <= contour.len() {
+        return put_pairs(bytes, pen, contour, width);
     }
     put_steps(bytes, pen, contour, width)
 }
@@ -147,7 +140,7 @@ pub fn put(bytes: &mut [u8], pen: Pen, contour: &[i32], width: usize) -> Pen
     ensures { Wrote pen (body contour.now) bytes.old result bytes.new
         × (result.width < 32) }
 {
-    if contour.len() == 0 {
+    if contour.is_empty() {
         return pen;
     }
     let first = put_first(bytes, pen, contour);

@@ -60,12 +60,9 @@ pub fn put(points: &[i32], ranges: &[[usize; 2]], fates: &[u8], text: &mut [u8])
         text.old result text.new }
 {
     let mut behind: usize = 0;
-    let mut i: usize = 0;
-    while i < ranges.len() {
+    for (i, fate) in fates.iter().enumerate() {
         let own = parts::named(points, ranges, i);
-        let fate = fates[i];
-        behind = put_line(text, behind, i + 1, fate, own);
-        i += 1;
+        behind = put_line(text, behind, i + 1, *fate, own);
     }
     behind
 }

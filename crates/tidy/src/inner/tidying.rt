@@ -5,7 +5,8 @@ ghost use Rattle.buffer.specs.Sets.{joined, shapes as shapes_of};
 ghost use Rattle.sets.specs.Fates.{shapes_fate};
 ghost use Rattle.fates.specs.Fates.{fates as fates_of};
 ghost use Rattle.report.specs.inside.Lines.{Put};
-ghost use Rattle.jobpack.specs.Packing.{written, leaving, outcome};
+ghost use Rattle.setfile.specs.Writing as W;
+ghost use Rattle.jobpack.specs.Packing.{leaving, outcome};
 ghost use Rattle.tidy.specs.Words.{lines as lines_of, refusal, file, set_tidied, tidying};
 ghost use Rattle.tidy.specs.inside.Sets.{Tidiable};
 
@@ -14,10 +15,11 @@ use crate::{CONTOURS, NUMBERS, POINTS};
 use fates::inner::shapes as telling;
 use jobpack::Lengths;
 use jobpack::inner::writing;
+use replies::Refusal;
 use ring::Rule;
 use sets::inner::shapes as cleaning;
 
-// Writes the file of the cleaned shapes of a set, or says why there is none.
+// Writes the file of the cleaned shapes of a set.
 fn write(
     rule: Rule,
     second: bool,
@@ -25,16 +27,14 @@ fn write(
     contours: &[[usize; 2]],
     shapes: &[[usize; 2]],
     out: &mut [u8],
-    text: &mut [u8],
-) -> Lengths
+) -> Result<usize, Refusal>
     requires tidiable { Tidiable points.now contours.now shapes.now }
-    requires in_bounds { (65536 ≤ length out.old) × (343980 ≤ length text.old) }
-    ensures { leaving result out.new text.new
-        ≡ outcome
-        (written
+    requires in_bounds { 65536 ≤ length out.old }
+    ensures { W.leaving (W.written_as result).reply (W.written_as result).bytes out.new
+        ≡ W.written
         (refusal second (shapes_fate rule (shapes_of points.now (spans contours.now) (spans shapes.now))).shapes)
-        (file second (shapes_fate rule (shapes_of points.now (spans contours.now) (spans shapes.now))).shapes))
-        out.old text.old }
+        (file second (shapes_fate rule (shapes_of points.now (spans contours.now) (spans shapes.now))).shapes)
+        out.old }
 {
     let mut next = [0u32; POINTS];
     let mut prev = [0u32; POINTS];
@@ -58,7 +58,7 @@ fn write(
     let n = 2 * progress.points;
     let k = progress.contours;
     let m = total.shapes;
-    writing::write(second, &kept[..n], &ranges[..k], &groups[..m], out, text)
+    writing::written(second, &kept[..n], &ranges[..k], &groups[..m], out)
 }
 
 // Puts a line for each contour that goes where the shapes of a set are cleaned.
@@ -111,14 +111,12 @@ fn tidy_set(
         (set_tidied rule second (shapes_of points.now (spans contours.now) (spans shapes.now)))
         out.old text.old }
 {
-    let file = write(rule, second, points, contours, shapes, out, text);
-    if file.words != 0 {
-        return file;
-    }
-    let said = tell(rule, points, contours, shapes, text);
-    Lengths {
-        bytes: file.bytes,
-        words: said,
+    match write(rule, second, points, contours, shapes, out) {
+        Ok(bytes) => Lengths {
+            bytes,
+            words: tell(rule, points, contours, shapes, text),
+        },
+        Err(refusal) => writing::refused(refusal, out, text),
     }
 }
 
@@ -131,14 +129,14 @@ pub fn tidy(rule: Rule, bytes: &[u8], out: &mut [u8], text: &mut [u8]) -> Length
     let mut points = [0i32; NUMBERS];
     let mut ranges = [[0usize; 2]; CONTOURS];
     let mut shapes = [[0usize; 2]; CONTOURS];
-    let read = setfile::read(bytes, &mut points, &mut ranges, &mut shapes);
-    if read.reply != 0 {
-        return writing::refused(read.reply, out, text);
-    }
+    let read = match setfile::read(bytes, &mut points, &mut ranges, &mut shapes) {
+        Ok(carried) => carried,
+        Err(refusal) => return writing::refused(refusal, out, text),
+    };
     let second = read.edition == 2;
-    let n = 2 * read.points;
-    let k = read.contours;
-    let m = read.shapes;
+    let n = 2 * read.sizes.points;
+    let k = read.sizes.contours;
+    let m = read.sizes.shapes;
     tidy_set(
         rule,
         second,

@@ -6,6 +6,7 @@ ghost use Rattle.report.specs.inside.Lines.{Put};
 ghost use Rattle.vertices.specs.Vertices.{dot, dot_if, dots, vertices};
 ghost use Rattle.vertices.specs.inside.Marks.{survive};
 
+use crate::inner::REMOVED;
 use grid::Point;
 use report::inner::text;
 
@@ -15,9 +16,9 @@ fn put_dot(text: &mut [u8], at: usize, p: Point) -> usize
     ensures { Put at (dot p) text.old result text.new }
 {
     let second = text::put(text, at, b"M");
-    let third = text::put_signed(text, second, integers::wide(p.x));
+    let third = text::put_signed(text, second, i64::from(p.x));
     let fourth = text::put(text, third, b" ");
-    let fifth = text::put_signed(text, fourth, integers::wide(p.y));
+    let fifth = text::put_signed(text, fourth, i64::from(p.y));
     text::put(text, fifth, b"h0")
 }
 
@@ -28,16 +29,11 @@ fn put_vertex(text: &mut [u8], at: usize, kept: bool, p: Point, stays: bool) -> 
     ensures { Put at (dot_if kept (record { point = p; stays = stays }))
         text.old result text.new }
 {
-    if kept {
-        if stays {
-            return put_dot(text, at, p);
-        }
-        return at;
+    if kept == stays {
+        put_dot(text, at, p)
+    } else {
+        at
     }
-    if stays {
-        return at;
-    }
-    put_dot(text, at, p)
 }
 
 // Puts the dots of the kept points, or of the others, by their marks.
@@ -50,11 +46,9 @@ pub fn put(text: &mut [u8], from: usize, kept: bool, points: &[i32], mark: &[u8]
         text.old result text.new }
 {
     let mut behind = from;
-    let mut i: usize = 0;
-    while i < mark.len() {
+    for (i, &m) in mark.iter().enumerate() {
         let p = grid::inner::point_at(points, i);
-        behind = put_vertex(text, behind, kept, p, mark[i] < 2);
-        i += 1;
+        behind = put_vertex(text, behind, kept, p, m < REMOVED);
     }
     behind
 }

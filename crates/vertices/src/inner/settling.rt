@@ -1,26 +1,15 @@
 // Which points cleaning keeps, told by the marks of the walks.
-ghost use Rattle.std.specs.Prelude.{◌≡◌, ◌*◌, ◌≤◌, length, replicate};
+ghost use Rattle.std.specs.Prelude.{◌≡◌, ◌*◌, ◌≤◌, length};
 ghost use Rattle.grid.specs.Domain.{Contour};
-ghost use Rattle.ring.specs.Walk.{removed};
 ghost use Rattle.buffer.specs.Sets.{joined};
 ghost use Rattle.report.specs.Listing.{rule_of, job};
 ghost use Rattle.report.specs.inside.Lines.{Listable};
 ghost use Rattle.vertices.specs.Vertices.{kept_of, all_kept};
 ghost use Rattle.vertices.specs.inside.Marks.{survive, Marked};
 
+use crate::inner::REMOVED;
 use report::inner::counting;
 use setfile::inner::headers;
-
-// Marks every point as removed.
-fn remove_all(mark: &mut [u8])
-    ensures { mark.new ≡ replicate (length mark.old) removed }
-{
-    let mut i: usize = 0;
-    while i < mark.len() {
-        mark[i] = 2;
-        i += 1;
-    }
-}
 
 // Cleans a contour, and leaves in its marks which points are kept: of one that collapses none.
 fn settle(second: bool, contour: &[i32], next: &mut [u32], prev: &mut [u32], mark: &mut [u8])
@@ -29,12 +18,12 @@ fn settle(second: bool, contour: &[i32], next: &mut [u32], prev: &mut [u32], mar
     ensures { survive mark.new ≡ kept_of (rule_of second) contour.now }
 {
     if mark.len() < 3 {
-        remove_all(mark);
+        mark.fill(REMOVED);
         return;
     }
     let ending = ring::inner::walk(counting::rule(second), contour, 0, next, prev, mark);
     if !ending.kept {
-        remove_all(mark);
+        mark.fill(REMOVED);
     }
 }
 
@@ -54,8 +43,7 @@ pub fn settle_all(
 {
     let mut at: usize = 16;
     let mut start: usize = 0;
-    let mut i: usize = 0;
-    while i < n {
+    for i in 0..n {
         let h = headers::header_at(second, bytes, at);
         let count = h.count;
         let end = start + count;
@@ -68,6 +56,5 @@ pub fn settle_all(
         );
         at += headers::size(second, h);
         start = end;
-        i += 1;
     }
 }

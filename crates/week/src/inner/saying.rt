@@ -13,10 +13,7 @@ fn put_if(text: &mut [u8], at: usize, so: bool, word: &[u8]) -> usize
     requires { at + length (if_so so word.now) ≤ length text.old }
     ensures { Put at (if_so so word.now) text.old result text.new }
 {
-    if so {
-        return text::put(text, at, word);
-    }
-    text::put(text, at, b"")
+    if so { text::put(text, at, word) } else { at }
 }
 
 // Puts the table, how many files were counted, and why no more were; answers where that ends.
@@ -26,7 +23,7 @@ pub fn put(week: Week, text: &mut [u8]) -> usize
     ensures { Put 0 (said week) text.old result text.new }
 {
     let second = table::put(week.figures, text);
-    let third = text::put_line(text, second, b"files counted: ", week.files as u64);
+    let third = text::put_line(text, second, b"files counted: ", u64::from(week.files));
     let fourth = put_if(
         text,
         third,

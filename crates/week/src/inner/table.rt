@@ -1,5 +1,6 @@
 // The table of a week's figures.
-ghost use Rattle.std.specs.Prelude.{◌≡◌, true, ◌+◌, ◌≤◌, ◌<◌, length};
+ghost use Rattle.std.specs.Prelude.{◌≡◌, true, ◌+◌, ◌≤◌, length};
+ghost use Rattle.replies.specs.Refusals.{number};
 ghost use Rattle.buffer.specs.Sets.{joined};
 ghost use Rattle.report.specs.inside.Lines.{Put};
 ghost use Rattle.figures.specs.Joining.{possible};
@@ -7,16 +8,19 @@ ghost use Rattle.week.specs.Table.{told as told_of, contour_lines, unread_lines,
 
 use crate::inner::wide;
 use figures::Figures;
+use replies::Refusal;
 use report::inner::text;
 
-// Puts a word, and how many contours or files have this reply.
-fn put_told(text: &mut [u8], at: usize, word: &[u8], totals: &[u32], reply: usize) -> usize
-    requires reply_in_bounds { reply < length totals.now }
-    requires reply_in_bounds_2 { at + length (told_of word.now totals.now reply) ≤ length text.old }
-    ensures { Put at (told_of word.now totals.now reply)
+// Puts a word, and how many contours or files are refused for this.
+fn put_told(text: &mut [u8], at: usize, word: &[u8], totals: &[u32], refusal: Refusal) -> usize
+    requires in_bounds { 22 ≤ length totals.now }
+    requires text_in_bounds { at + length (told_of word.now totals.now (number refusal))
+        ≤ length text.old }
+    ensures { Put at (told_of word.now totals.now (number refusal))
         text.old result text.new }
 {
-    text::put_line(text, at, word, totals[reply] as u64)
+    let reply = refusal.number() as usize;
+    text::put_line(text, at, word, u64::from(totals[reply]))
 }
 
 // Puts what became of the contours.
@@ -25,8 +29,14 @@ fn put_contours(text: &mut [u8], at: usize, totals: &[u32]) -> usize
     requires totals_in_bounds { at + length (joined (contour_lines totals.now)) ≤ length text.old }
     ensures { Put at (joined (contour_lines totals.now)) text.old result text.new }
 {
-    let second = put_told(text, at, b"contours kept: ", totals, 0);
-    put_told(text, second, b"contours collapsed: ", totals, 7)
+    let second = text::put_line(text, at, b"contours kept: ", u64::from(totals[0]));
+    put_told(
+        text,
+        second,
+        b"contours collapsed: ",
+        totals,
+        Refusal::Collapsed,
+    )
 }
 
 // Puts the files whose contours cannot be told.
@@ -40,22 +50,28 @@ fn put_unread(text: &mut [u8], at: usize, totals: &[u32]) -> usize
         at,
         b"files over 65,536 bytes or points (2): ",
         totals,
-        2,
+        Refusal::TooMany,
     );
-    let third = put_told(text, second, b"files of another edition (9): ", totals, 9);
+    let third = put_told(
+        text,
+        second,
+        b"files of another edition (9): ",
+        totals,
+        Refusal::Edition,
+    );
     let fourth = put_told(
         text,
         third,
         b"files cut off or with bytes left over (10): ",
         totals,
-        10,
+        Refusal::Length,
     );
     put_told(
         text,
         fourth,
         b"files whose first contour begins no shape (11): ",
         totals,
-        11,
+        Refusal::NoShape,
     )
 }
 
@@ -70,22 +86,28 @@ fn put_refused(text: &mut [u8], at: usize, totals: &[u32]) -> usize
         at,
         b"files with a place off the grid (3): ",
         totals,
-        3,
+        Refusal::OffGrid,
     );
-    let third = put_told(text, second, b"files over 8,192 points (5): ", totals, 5);
+    let third = put_told(
+        text,
+        second,
+        b"files over 8,192 points (5): ",
+        totals,
+        Refusal::Room,
+    );
     let fourth = put_told(
         text,
         third,
         b"files with a width that is not the smallest (15): ",
         totals,
-        15,
+        Refusal::Width,
     );
     put_told(
         text,
         fourth,
         b"files with a fill bit that is set (16): ",
         totals,
-        16,
+        Refusal::Fill,
     )
 }
 

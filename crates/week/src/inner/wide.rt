@@ -15,7 +15,7 @@ fn put_wide(text: &mut [u8], at: usize, high: u64, low: u32) -> usize
     requires low_in_bounds { at + length (long_decimal (high * 2 ^ 32 + low)) ≤ length text.old }
     ensures { Put at (long_decimal (high * 2 ^ 32 + low)) text.old result text.new }
 {
-    let rest = high % 100_000_000 * 4_294_967_296 + low as u64;
+    let rest = high % 100_000_000 * 4_294_967_296 + u64::from(low);
     let front = high / 100_000_000 * 4_294_967_296 + rest / 100_000_000;
     let last = rest % 100_000_000;
     if front == 0 {
@@ -35,7 +35,7 @@ fn put_below(text: &mut [u8], at: usize, high: u64, low: u32) -> usize
     if low == 0 {
         return put_wide(text, behind, high, 0);
     }
-    put_wide(text, behind, high - 1, 4_294_967_295 - low + 1)
+    put_wide(text, behind, high - 1, low.wrapping_neg())
 }
 
 // Puts an area.
@@ -44,7 +44,7 @@ fn put_area(text: &mut [u8], at: usize, high: i64, low: u32) -> usize
     requires low_in_bounds { at + length (long_signed (whole high low)) ≤ length text.old }
     ensures { Put at (long_signed (whole high low)) text.old result text.new }
 {
-    let size = integers::magnitude(high);
+    let size = high.unsigned_abs();
     if high < 0 {
         return put_below(text, at, size, low);
     }

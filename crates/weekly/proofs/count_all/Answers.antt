@@ -14,20 +14,20 @@ loop-n-init g c = (
 pub returns-then-week : goal.returns-then-week
 returns-then-week g c = counted_possible c.loop-n.invariant.3
 
-pub returns-then-k-eq0 : goal.returns-then-k-eq0
-returns-then-k-eq0 g c =
+pub returns-in_default : goal.returns-in_default
+returns-in_default g c =
     counted_possible (week_counted c.loop-n.week true (take c.loop-n.n c.loop-n.window) c.count.result c.count.ensures c.loop-n.invariant.3)
 
 pub returns-then-week-2 : goal.returns-then-week-2
 returns-then-week-2 g c =
     counted_possible
-    (week_counted c.loop-n.week false (take c.first_length-k.result c.loop-n.window) c.count-week.result c.count-week.ensures c.loop-n.invariant.3)
+    (week_counted c.loop-n.week false (take c.in-Some.k c.loop-n.window) c.count-week.result c.count-week.ensures c.loop-n.invariant.3)
 
 pub loop-n-smaller : goal.loop-n-smaller
 loop-n-smaller g c =
     omega (
       arith,
-      week_goes_on c.loop-n.week false (take c.first_length-k.result c.loop-n.window) c.count-week.result c.count-week.ensures c.if-week-2.false,
+      week_goes_on c.loop-n.week false (take c.in-Some.k c.loop-n.window) c.count-week.result c.count-week.ensures c.if-week-2.false,
       c.loop-n.invariant.2,
       c.if-week.false,
     )
@@ -38,11 +38,11 @@ loop-n-preserved g c = (
   c.in_ok-n-2.ensures,
   omega (
     arith,
-    week_goes_on c.loop-n.week false (take c.first_length-k.result c.loop-n.window) c.count-week.result c.count-week.ensures c.if-week-2.false,
+    week_goes_on c.loop-n.week false (take c.in-Some.k c.loop-n.window) c.count-week.result c.count-week.ensures c.if-week-2.false,
     c.loop-n.invariant.2,
     c.if-week.false,
   ),
-  week_counted c.loop-n.week false (take c.first_length-k.result c.loop-n.window) c.count-week.result c.count-week.ensures c.loop-n.invariant.3,
+  week_counted c.loop-n.week false (take c.in-Some.k c.loop-n.window) c.count-week.result c.count-week.ensures c.loop-n.invariant.3,
 )
 
 pub returns : goal.returns

@@ -1,65 +1,23 @@
 -- `buffer::contours::add_contour` meets its contract.
-use Rattle.buffer.proofs.AddLaws.{OneMore, one_more_refused, one_more_points, one_more_ranges, one_more_done}
+use Rattle.std.proofs.lemmas.Result.{err_from_is_err_and}
+use Rattle.std.proofs.Common.{refl}
+use Rattle.buffer.proofs.AddLaws.{one_more_refused, one_more_no_room, one_more_points, one_more_ranges, one_more_done}
 use Rattle.buffer.proofs.contours.add_contour.Goals as goal
 
--- what is refused of the set, the contour and the room
-judged : (c : goal.After-refused) →
-    let s = c.args in
-    OneMore s.points.now s.ranges.now s.contour.now s.out.now s.records.now c.or_room-first.result
-judged c = record {
-  s = _;
-  k = _;
-  sounds = c.sound.ensures;
-  of_both = c.of_both-refusal.ensures;
-  with_room = c.or_room-first.ensures;
-}
+pub returns-in_err-of_both : goal.returns-in_err-of_both
+returns-in_err-of_both c =
+    let p = err_from_is_err_and c.from_residual.result c.from_residual.ensures.1 in
+    rw (p.1, p.2) (one_more_refused _ _ _ _ _ _ c.sound.ensures _ c.in_err-of_both.ensures)
 
--- what is refused of the set, the contour and the room
-judged_2 : (c : goal.After-both_numbers-arg-1) →
-    let s = c.args in
-    OneMore s.points.now s.ranges.now s.contour.now s.out.now s.records.now c.or_room-first.result
-judged_2 c = record {
-  s = _;
-  k = _;
-  sounds = c.sound.ensures;
-  of_both = c.of_both-refusal.ensures;
-  with_room = c.or_room-first.ensures;
-}
-
--- what is refused of the set, the contour and the room
-judged_3 : (c : goal.After-both_records-arg-1) →
-    let s = c.args in
-    OneMore s.points.now s.ranges.now s.contour.now s.out.now s.records.now c.or_room-first.result
-judged_3 c = record {
-  s = _;
-  k = _;
-  sounds = c.sound.ensures;
-  of_both = c.of_both-refusal.ensures;
-  with_room = c.or_room-first.ensures;
-}
-
--- what is refused of the set, the contour and the room
-judged_4 : (c : goal.After-records-1) →
-    let s = c.args in
-    OneMore s.points.now s.ranges.now s.contour.now s.out.now s.records.now c.or_room-first.result
-judged_4 c = record {
-  s = _;
-  k = _;
-  sounds = c.sound.ensures;
-  of_both = c.of_both-refusal.ensures;
-  with_room = c.or_room-first.ensures;
-}
-
-pub returns-then-first-ne0 : goal.returns-then-first-ne0
-returns-then-first-ne0 c = one_more_refused (judged c) _ c.refused.ensures c.if-first-ne0.true
+pub returns-then-not-room : goal.returns-then-not-room
+returns-then-not-room c = one_more_no_room _ _ _ _ _ _ c.sound.ensures c.in_ok-of_both.ensures c.if-not-room.true
 
 pub both_numbers-requires : goal.both_numbers-requires
-both_numbers-requires c = one_more_points (judged_2 c) c.if-first-ne0.false
+both_numbers-requires c = one_more_points _ _ _ _ _ _ c.sound.ensures c.in_ok-of_both.ensures c.if-not-room.false
 
 pub both_records-requires : goal.both_records-requires
-both_records-requires c =
-    one_more_ranges (judged_3 c) c.if-first-ne0.false
+both_records-requires c = one_more_ranges _ _ _ _ _ _ c.sound.ensures c.in_ok-of_both.ensures c.if-not-room.false
 
 pub returns : goal.returns
 returns c =
-    one_more_done (judged_4 c) c.if-first-ne0.false _ _ c.both_numbers.ensures c.both_records.ensures
+    one_more_done _ _ _ _ _ _ c.sound.ensures c.in_ok-of_both.ensures c.if-not-room.false _ _ c.both_numbers.ensures c.both_records.ensures

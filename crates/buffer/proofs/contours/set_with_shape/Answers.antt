@@ -1,20 +1,29 @@
 -- `buffer::contours::set_with_shape` meets its contract.
-use mathlib.Core.Path.{◌∙◌}
-use mathlib.Core.List.{[]}
+use Rattle.std.proofs.lemmas.Result.{err_from_is_err_and}
+use mathlib.Core.Path.{refl, ◌∙◌}
+use mathlib.Core.List.{[], ◌∷◌}
+use native.Mathlib.Omega.{arith}
+use Rattle.grid.specs.Limits.{limit}
+use Rattle.grid.specs.Domain.{domain}
 use Rattle.buffer.specs.Spans.{spans}
+use Rattle.buffer.specs.Sets.{whole, every}
 use Rattle.buffer.specs.Contours as C
-use Rattle.buffer.proofs.AnswerLaws.{stored_told}
-use Rattle.buffer.proofs.PackLaws.{shape_movable}
+use Rattle.buffer.specs.Shapes as S
+use Rattle.buffer.proofs.SpanLaws.{one_movable}
+use Rattle.buffer.proofs.AnswerLaws.{stored_not, stored_clear}
+use Rattle.buffer.proofs.PackLaws.{shape_movable, contours_movable, shapes_movable}
 use Rattle.buffer.proofs.contours.set_with_shape.Goals as goal
 
+pub returns-in_err-check : goal.returns-in_err-check
+returns-in_err-check c =
+    let p = err_from_is_err_and c.from_residual.result c.from_residual.ensures.1 in
+    rw (p.1, p.2) (stored_not _ _ _ _ _ _ _ _ c.in_err-check.ensures)
+
 pub contours-requires : goal.contours-requires
-contours-requires c =
-    let s = c.args in
-    λ z. shape_movable s.points.now s.ranges.now _ c.refused-refusal.ensures z
+contours-requires c = shape_movable _ _ 0 c.in_ok-check.ensures refl
 
 pub returns : goal.returns
 returns c =
     let s = c.args in
     c.contours.ensures
-    ∙ stored_told s.points.now (spans s.ranges.now) [] s.out.now s.records.now []
-    (C.refusals s.points.now s.ranges.now) tt _ c.refused-refusal.ensures
+    ∙ stored_clear s.points.now (spans s.ranges.now) [] s.out.now s.records.now [] (C.refusals s.points.now s.ranges.now) tt c.in_ok-check.ensures

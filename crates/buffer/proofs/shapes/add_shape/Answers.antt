@@ -1,88 +1,27 @@
 -- `buffer::shapes::add_shape` meets its contract.
+use Rattle.std.proofs.lemmas.Result.{err_from_is_err_and}
 use native.Mathlib.Omega.{arith}
-use Rattle.buffer.proofs.AddLaws.{ShapeMore, shape_more_refused, shape_more_points, shape_more_contours, shape_more_shapes, shape_more_done}
+use Rattle.buffer.proofs.AddLaws.{shape_more_refused, shape_more_no_room, shape_more_points, shape_more_contours, shape_more_shapes, shape_more_done}
 use Rattle.buffer.proofs.shapes.add_shape.Goals as goal
 
--- what is refused of the set, the shape and the room
-judged : (c : goal.After-refused) →
-    let s = c.args in
-    ShapeMore s.points.now s.contours.now s.shapes.now s.more.now s.ranges.now
-    s.out.now s.records.now s.groups.now c.or_room-first.result
-judged c = record {
-  s = _;
-  k = _;
-  sounds = c.both_sound.ensures;
-  of_both = c.of_both-refusal.ensures;
-  with_room = c.or_room-first.ensures;
-}
+pub returns-in_err-of_both : goal.returns-in_err-of_both
+returns-in_err-of_both c =
+    let p = err_from_is_err_and c.from_residual.result c.from_residual.ensures.1 in
+    rw (p.1, p.2) (shape_more_refused _ _ _ _ _ _ _ _ _ c.both_sound.ensures _ c.in_err-of_both.ensures)
 
--- what is refused of the set, the shape and the room
-judged_2 : (c : goal.After-both_numbers-arg-1) →
-    let s = c.args in
-    ShapeMore s.points.now s.contours.now s.shapes.now s.more.now s.ranges.now
-    s.out.now s.records.now s.groups.now c.or_room-first.result
-judged_2 c = record {
-  s = _;
-  k = _;
-  sounds = c.both_sound.ensures;
-  of_both = c.of_both-refusal.ensures;
-  with_room = c.or_room-first.ensures;
-}
-
--- what is refused of the set, the shape and the room
-judged_3 : (c : goal.After-both_records-arg-1) →
-    let s = c.args in
-    ShapeMore s.points.now s.contours.now s.shapes.now s.more.now s.ranges.now
-    s.out.now s.records.now s.groups.now c.or_room-first.result
-judged_3 c = record {
-  s = _;
-  k = _;
-  sounds = c.both_sound.ensures;
-  of_both = c.of_both-refusal.ensures;
-  with_room = c.or_room-first.ensures;
-}
-
--- what is refused of the set, the shape and the room
-judged_4 : (c : goal.After-both_records-arg-2-1) →
-    let s = c.args in
-    ShapeMore s.points.now s.contours.now s.shapes.now s.more.now s.ranges.now
-    s.out.now s.records.now s.groups.now c.or_room-first.result
-judged_4 c = record {
-  s = _;
-  k = _;
-  sounds = c.both_sound.ensures;
-  of_both = c.of_both-refusal.ensures;
-  with_room = c.or_room-first.ensures;
-}
-
--- what is refused of the set, the shape and the room
-judged_5 : (c : goal.After-groups-1) →
-    let s = c.args in
-    ShapeMore s.points.now s.contours.now s.shapes.now s.more.now s.ranges.now
-    s.out.now s.records.now s.groups.now c.or_room-first.result
-judged_5 c = record {
-  s = _;
-  k = _;
-  sounds = c.both_sound.ensures;
-  of_both = c.of_both-refusal.ensures;
-  with_room = c.or_room-first.ensures;
-}
-
-pub returns-then-first-ne0 : goal.returns-then-first-ne0
-returns-then-first-ne0 c = shape_more_refused (judged c) _ c.refused.ensures c.if-first-ne0.true
+pub returns-then-not-room : goal.returns-then-not-room
+returns-then-not-room c = shape_more_no_room _ _ _ _ _ _ _ _ _ c.both_sound.ensures c.in_ok-of_both.ensures c.if-not-room.true
 
 pub both_numbers-requires : goal.both_numbers-requires
-both_numbers-requires c = shape_more_points (judged_2 c) c.if-first-ne0.false
+both_numbers-requires c = shape_more_points _ _ _ _ _ _ _ _ _ c.both_sound.ensures c.in_ok-of_both.ensures c.if-not-room.false
 
 pub both_records-requires : goal.both_records-requires
-both_records-requires c =
-    shape_more_contours (judged_3 c) c.if-first-ne0.false
+both_records-requires c = shape_more_contours _ _ _ _ _ _ _ _ _ c.both_sound.ensures c.in_ok-of_both.ensures c.if-not-room.false
 
 pub both_records-requires-2 : goal.both_records-requires-2
-both_records-requires-2 c =
-    shape_more_shapes (judged_4 c) c.if-first-ne0.false (omega arith)
+both_records-requires-2 c = shape_more_shapes _ _ _ _ _ _ _ _ _ c.both_sound.ensures c.in_ok-of_both.ensures c.if-not-room.false (omega arith)
 
 pub returns : goal.returns
 returns c =
-    shape_more_done (judged_5 c) c.if-first-ne0.false _ _ _
+    shape_more_done _ _ _ _ _ _ _ _ _ c.both_sound.ensures c.in_ok-of_both.ensures c.if-not-room.false _ _ _
     c.both_numbers.ensures c.both_records.ensures c.both_records-2.ensures

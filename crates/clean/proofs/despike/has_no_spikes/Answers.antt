@@ -1,47 +1,20 @@
--- `clean::despike::has_no_spikes` meets its contract: a box has no spikes, and of any other contour no_spikes tells.
-use mathlib.Core.Path.{◌≡◌, sym, ◌∙◌}
-use Rattle.replies.specs.Ladder.{first_of}
-use Rattle.grid.specs.Limits.{limit}
-use Rattle.grid.specs.Domain.{domain}
-use Rattle.grid.proofs.DomainLaws.{in_domain}
+-- `clean::despike::has_no_spikes` meets its contract.
+use Rattle.std.proofs.lemmas.Result.{err_from_is_err_and}
+use Rattle.std.proofs.Common.{sym}
+use Rattle.replies.proofs.RefusalLaws.{refusals_have_numbers}
 use Rattle.replies.proofs.VerdictLaws.{verdict_refused, verdict_given}
-use Rattle.ring.specs.declared.Rule.TheVariants.{Spike}
 use Rattle.clean.specs.Verdicts.{spike_free}
-use Rattle.clean.proofs.LookLaws.{box_passes}
 use Rattle.clean.proofs.despike.has_no_spikes.Goals as goal
 
--- the row is not refused
-given : (c : goal.Else-refusal-ne0) → first_of (domain limit c.args.points.now) ≡ 0
-given c = sym c.domain-refusal.ensures ∙ c.if-refusal-ne0.false
-
--- the row is not refused
-given_2 : (c : goal.Then-is_box) → first_of (domain limit c.args.points.now) ≡ 0
-given_2 c = sym c.domain-refusal.ensures ∙ c.if-refusal-ne0.false
-
--- the row is not refused
-given_3 : (c : goal.Else-is_box) → first_of (domain limit c.args.points.now) ≡ 0
-given_3 c = sym c.domain-refusal.ensures ∙ c.if-refusal-ne0.false
-
--- the row is not refused
-given_4 : (c : goal.After-no_spikes) → first_of (domain limit c.args.points.now) ≡ 0
-given_4 c = sym c.domain-refusal.ensures ∙ c.if-refusal-ne0.false
-
-pub returns-then-refusal-ne0 : goal.returns-then-refusal-ne0
+pub returns-in_err-domain : goal.returns-in_err-domain
 unfolding spike_free
-returns-then-refusal-ne0 c = verdict_refused _ _ _ c.domain-refusal.ensures c.if-refusal-ne0.true
+returns-in_err-domain c =
+    let p = err_from_is_err_and c.from_residual.result c.from_residual.ensures.1 in
+    rw (p.1, p.2) (verdict_refused _ _ _ c.in_err-domain.ensures (refusals_have_numbers _))
 
-pub is_box-requires : goal.is_box-requires
-is_box-requires c = in_domain _ (given c)
-
-pub returns-then-is_box : goal.returns-then-is_box
-unfolding spike_free
-returns-then-is_box c =
-    let row = c.args.points.now in
-    verdict_given _ _ _ (given_2 c) (box_passes row (in_domain row (given_2 c)) Spike (sym c.is_box.ensures ∙ c.if-is_box.true))
-
-pub no_spikes-requires : goal.no_spikes-requires
-no_spikes-requires c = given_3 c
+pub passes-requires : goal.passes-requires
+passes-requires c = sym c.in_ok-domain.ensures
 
 pub returns : goal.returns
 unfolding spike_free
-returns c = verdict_given _ _ _ (given_4 c) c.no_spikes.ensures
+returns c = verdict_given _ _ _ (sym c.in_ok-domain.ensures) c.passes.ensures

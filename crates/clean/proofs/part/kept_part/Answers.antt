@@ -1,10 +1,9 @@
 -- `clean::part::kept_part` meets its contract, case by case.
 use borrow.Author.Tests.{eq-eqb, ne_eqb, lt-ltb, le-ltb, le-leb, lt-leb}
-use mathlib.Core.Path.{◌≡◌, sym}
+use mathlib.Core.Path.{◌≡◌}
 use Prim.Native.Nat.{◌*◌, ◌<◌, ◌≤◌}
 use native.Mathlib.Omega.{arith}
 use lib.ListN.{length}
-use lib.Seq.{length-take-le}
 use Rattle.clean.specs.Part.{kept_part}
 use Rattle.clean.proofs.part.kept_part.Goals as goal
 
@@ -26,9 +25,6 @@ returns-then-out-want c =
     let a = c.args in
     let l : 2 * a.k < length a.contour.now = omega (arith, c.if-contour-want.false, c.if-contour-k.false) in
     rw (ne_eqb _ _ c.if-contour-want.false, lt-ltb _ _ l, lt-leb _ _ c.if-out-want.true, kept_part)
-
-pub slice_bounds-result-end-2 : goal.slice_bounds-result-end-2
-slice_bounds-result-end-2 c = let a = c.args in sym (length-take-le (2 * a.k) a.out.now c.if-out-want.false)
 
 pub returns : goal.returns
 unfolding kept_part

@@ -1,61 +1,26 @@
 -- `drawing::importing::import` meets its contract: it is refused by the ladder and for want of room, or both rows are filled.
-use Rattle.drawing.proofs.ImportLaws.{Importing, import_refused, import_points, import_ranges, import_done}
+use Rattle.std.proofs.lemmas.Result.{err_from_is_err_and}
+use Rattle.drawing.proofs.ImportLaws.{import_refused, import_no_room, import_points, import_ranges, import_done}
 use Rattle.drawing.proofs.importing.import.Goals as goal
 
--- the drawing is judged, and the room for its set
-judged : (c : goal.After-refused) →
-    let s = c.args in
-    Importing s.kinds.now s.floats.now s.points.now s.ranges.now c.contours-contours.result c.or_room-first.result
-judged c = record {
-  k = _;
-  contours = c.contours-contours.ensures;
-  of_drawing = c.judge.ensures;
-  with_room = c.or_room-first.ensures;
-}
+pub returns-in_err-judge : goal.returns-in_err-judge
+returns-in_err-judge c =
+    let p = err_from_is_err_and c.from_residual.result c.from_residual.ensures.1 in
+    rw (p.1, p.2) (import_refused _ _ _ _ _ c.in_err-judge.ensures)
 
--- the drawing is judged, and the room for its set
-judged_2 : (c : goal.After-points-arg-1) →
-    let s = c.args in
-    Importing s.kinds.now s.floats.now s.points.now s.ranges.now c.contours-contours.result c.or_room-first.result
-judged_2 c = record {
-  k = _;
-  contours = c.contours-contours.ensures;
-  of_drawing = c.judge.ensures;
-  with_room = c.or_room-first.ensures;
-}
-
--- the drawing is judged, and the room for its set
-judged_3 : (c : goal.After-ranges-arg-1) →
-    let s = c.args in
-    Importing s.kinds.now s.floats.now s.points.now s.ranges.now c.contours-contours.result c.or_room-first.result
-judged_3 c = record {
-  k = _;
-  contours = c.contours-contours.ensures;
-  of_drawing = c.judge.ensures;
-  with_room = c.or_room-first.ensures;
-}
-
--- the drawing is judged, and the room for its set
-judged_4 : (c : goal.After-ranges-1) →
-    let s = c.args in
-    Importing s.kinds.now s.floats.now s.points.now s.ranges.now c.contours-contours.result c.or_room-first.result
-judged_4 c = record {
-  k = _;
-  contours = c.contours-contours.ensures;
-  of_drawing = c.judge.ensures;
-  with_room = c.or_room-first.ensures;
-}
-
-pub returns-then-first-ne0 : goal.returns-then-first-ne0
-returns-then-first-ne0 c = import_refused (judged c) _ c.refused.ensures c.if-first-ne0.true
+pub returns-then-not-room : goal.returns-then-not-room
+returns-then-not-room c = import_no_room _ _ _ _ c.in_ok-judge.ensures _ c.contours-contours.ensures c.if-not-room.true
 
 pub points-requires : goal.points-requires
-points-requires c = import_points (judged_2 c) c.if-first-ne0.false
+points-requires c =
+    let s = c.args in
+    import_points s.kinds.now s.floats.now s.points.now s.ranges.now c.in_ok-judge.ensures _ c.contours-contours.ensures c.if-not-room.false
 
 pub ranges-requires : goal.ranges-requires
 ranges-requires c =
-    import_ranges (judged_3 c) c.if-first-ne0.false
+    let s = c.args in
+    import_ranges s.kinds.now s.floats.now s.points.now s.ranges.now c.in_ok-judge.ensures _ c.contours-contours.ensures c.if-not-room.false
 
 pub returns : goal.returns
 returns c =
-    import_done (judged_4 c) c.if-first-ne0.false _ _ c.points.ensures c.ranges-2.ensures
+    import_done _ _ _ _ c.in_ok-judge.ensures _ c.contours-contours.ensures c.if-not-room.false _ _ c.points.ensures c.ranges-2.ensures

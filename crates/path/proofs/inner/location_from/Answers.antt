@@ -2,7 +2,6 @@
 use borrow.Author.Rules.{sfits_of}
 use mathlib.Core.Path.{◌≡◌, sym, ◌∙◌, ap, ap₂}
 use mathlib.Core.Bool.{Bool, true, false, xor}
-use native.Mathlib.Omega.{arith}
 use lib.IntN.{ℤ, pos}
 use lib.Signed.{lt_z}
 use mir.Syntax.{w32}
@@ -58,15 +57,6 @@ module _ (p a b : Point) {q r : Point} {up : Bool} {z : ℤ} (start : q ≡ a) (
         counts = ap (lt_z (pos 0)) (to_z-of_z fits ∙ k) ∙ turn_counts p b a ∙ crosses_down p a b h l;
       }
 
-pub loop-i-init : goal.loop-i-init
-loop-i-init c = c.requires.2
-
-pub point_at-start-requires : goal.point_at-start-requires
-point_at-start-requires c = omega (arith, c.requires.0.even, c.loop-i.invariant.a_in)
-
-pub point_at-end-requires : goal.point_at-end-requires
-point_at-end-requires c = omega (arith, c.requires.0.even, c.loop-i-test.true)
-
 pub turn_on-turn-requires : goal.turn_on-turn-requires
 turn_on-turn-requires c =
     let row = c.args.points.now in
@@ -78,18 +68,6 @@ returns-then-turn-eq0 c =
     c.lies_above.ensures c.if-lies_above.true (c.loop-i.invariant.not_above c.loop-i-test.true) c.turn_on-turn.ensures in
     untouched_met c.args.points.now c.args.p c.requires.0 c.loop-i.invariant c.loop-i-test.true
     (turn_met _ _ _ h.low h.high (sym h.turned ∙ bits_eq w32 {b = pos 0} (sfits_of c.turn_on-turn.type_inv) (sfits_lit tt) c.if-turn-eq0.true))
-
-pub overflow_add-i : goal.overflow_add-i
-overflow_add-i c = omega (arith, c.loop-i-test.true, c.ranges.n.fits)
-
-pub next_across-i-requires : goal.next_across-i-requires
-next_across-i-requires c = (c.requires.0, omega (arith, c.loop-i-test.true))
-
-pub overflow_sub-a : goal.overflow_sub-a
-overflow_sub-a c = omega (arith, c.next_across-i.ensures.from)
-
-pub loop-i-smaller-then-lies_above : goal.loop-i-smaller-then-lies_above
-loop-i-smaller-then-lies_above c = omega (arith, c.next_across-i.ensures.from, c.loop-i-test.true)
 
 pub loop-i-preserved-then-lies_above : goal.loop-i-preserved-then-lies_above
 unfolding xor
@@ -111,18 +89,6 @@ returns-then-turn-eq0-2 c =
     untouched_met c.args.points.now c.args.p c.requires.0 c.loop-i.invariant c.loop-i-test.true
     (on_edge_swap _ _ _ ∙ turn_met _ _ _ h.low h.high (sym h.turned ∙ bits_eq w32 {b = pos 0} (sfits_of c.turn_on-turn-then-lies_above-2.type_inv) (sfits_lit tt) c.if-turn-eq0-2.true))
 
-pub overflow_add-i-then-lies_above-2 : goal.overflow_add-i-then-lies_above-2
-overflow_add-i-then-lies_above-2 c = omega (arith, c.loop-i-test.true, c.ranges.n.fits)
-
-pub next_reached-i-requires : goal.next_reached-i-requires
-next_reached-i-requires c = (c.requires.0, omega (arith, c.loop-i-test.true), c.requires.1)
-
-pub overflow_sub-a-then-lies_above-2 : goal.overflow_sub-a-then-lies_above-2
-overflow_sub-a-then-lies_above-2 c = omega (arith, c.next_reached-i.ensures.from)
-
-pub loop-i-smaller-then-lies_above-2 : goal.loop-i-smaller-then-lies_above-2
-loop-i-smaller-then-lies_above-2 c = omega (arith, c.next_reached-i.ensures.from, c.loop-i-test.true)
-
 pub loop-i-preserved-then-lies_above-2 : goal.loop-i-preserved-then-lies_above-2
 unfolding xor
 loop-i-preserved-then-lies_above-2 c =
@@ -139,18 +105,6 @@ touches-requires c =
 pub returns-then-touches : goal.returns-then-touches
 returns-then-touches c =
     untouched_met c.args.points.now c.args.p c.requires.0 c.loop-i.invariant c.loop-i-test.true (sym (c.touches.ensures ∙ ap₂ (on_edge c.args.p) c.point_at-start.ensures c.point_at-end.ensures) ∙ c.if-touches.true)
-
-pub overflow_add-i-else-lies_above-2 : goal.overflow_add-i-else-lies_above-2
-overflow_add-i-else-lies_above-2 c = omega (arith, c.loop-i-test.true, c.ranges.n.fits)
-
-pub next_reached-i-requires-else-lies_above-2 : goal.next_reached-i-requires-else-lies_above-2
-next_reached-i-requires-else-lies_above-2 c = (c.requires.0, omega (arith, c.loop-i-test.true), c.requires.1)
-
-pub overflow_sub-a-else-lies_above-2 : goal.overflow_sub-a-else-lies_above-2
-overflow_sub-a-else-lies_above-2 c = omega (arith, c.next_reached-i-else-lies_above-2.ensures.from)
-
-pub loop-i-smaller : goal.loop-i-smaller
-loop-i-smaller c = omega (arith, c.next_reached-i-else-lies_above-2.ensures.from, c.loop-i-test.true)
 
 pub loop-i-preserved : goal.loop-i-preserved
 loop-i-preserved c =

@@ -6,12 +6,6 @@ use Rattle.grid.proofs.EdgeLaws.{corner_short}
 use Rattle.path.proofs.ContainsLaws.{meets_is}
 use Rattle.path.proofs.inner.meets_right.Goals as goal
 
-pub between-requires : goal.between-requires
-between-requires c = (c.requires.1, c.requires.2)
-
-pub between-requires-2 : goal.between-requires-2
-between-requires-2 c = (c.requires.2, c.requires.0)
-
 pub turns_left-requires : goal.turns_left-requires
 turns_left-requires c =
     rw (c.between.ensures, c.between-2.ensures) (corner_short limit c.args.l c.args.h c.args.p c.requires.1 c.requires.2 c.requires.0)

@@ -1,9 +1,7 @@
-use Prim.Native.Nat.{◌-◌}
-use Rattle.path.proofs.ContainsLaws.{Passing}
+use Rattle.std.proofs.Common.{◌≡◌, ℕ, ◌<◌, ◌≤◌}
+use Rattle.grid.specs.Points.{at}
+use Rattle.path.specs.Contains.{above}
 use Rattle.path.proofs.inner.next_across.Given as goal
 
 abbrev pub invariant-loop-here : goal.invariant-loop-here
-invariant-loop-here l = Passing l.points l.n l.i l.p l.up l.here
-
-abbrev pub decreases-loop-here : goal.decreases-loop-here
-decreases-loop-here l = l.n - l.here
+invariant-loop-here l = (j : ℕ) → l.i ≤ j → j < l.here → above l.p (at l.points j) ≡ l.up

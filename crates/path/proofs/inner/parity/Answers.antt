@@ -1,4 +1,6 @@
 -- `path::inner::parity` meets its contract: where no edge changes side, none crosses.
+use Rattle.std.proofs.Common.{◌∙◌}
+use borrow.Author.Tests.{le-ltb}
 use Rattle.path.proofs.ContainsLaws.{changing_first, changing_done}
 use Rattle.path.proofs.inner.parity.Goals as goal
 
@@ -8,4 +10,5 @@ parity_from-requires c =
 
 pub returns-else-first-n : goal.returns-else-first-n
 returns-else-first-n c =
-    changing_done c.args.points.now c.args.p c.requires.0 (changing_first c.args.points.now c.args.p c.requires.0 c.requires.1 c.first_across-first.result c.first_across-first.ensures) c.if-first-n.false
+    le-ltb _ _ c.if-first-n.false
+    ∙ changing_done c.args.points.now c.args.p c.requires.0 (changing_first c.args.points.now c.args.p c.requires.0 c.requires.1 c.first_across-first.result c.first_across-first.ensures) c.if-first-n.false

@@ -8,12 +8,6 @@ use Rattle.ring.specs.Rule.{by, goes_along}
 use Rattle.ring.proofs.RuleLaws.{goes_edges}
 use Rattle.ring.proofs.inner.goes.Goals as goal
 
-pub edge_at-to-requires : goal.edge_at-to-requires
-edge_at-to-requires c = (c.requires.on, c.requires.a_in, c.requires.b_in)
-
-pub edge_at-from-requires : goal.edge_at-from-requires
-edge_at-from-requires c = let p = c.requires in (p.on, p.b_in, p.c_in)
-
 pub goes_along-requires : goal.goes_along-requires
 goes_along-requires c =
     let row = c.args.points.now in

@@ -1,23 +1,11 @@
 -- `ring::inner::standing_by` meets its contract: no vertex passed is to go.
 use mathlib.Core.Path.{sym, ◌∙◌}
-use native.Mathlib.Omega.{arith}
 use Rattle.ring.specs.Rule.{by}
 use Rattle.ring.proofs.Along.{passed_none, short_on, going_met, passed_more, closing_from, last_met, passed_all}
 use Rattle.ring.proofs.inner.standing_by.Goals as goal
 
-pub overflow_sub-last : goal.overflow_sub-last
-overflow_sub-last c = omega (arith, c.requires.1)
-
-pub edge_at-closing-requires : goal.edge_at-closing-requires
-edge_at-closing-requires c = let p = c.requires in (p.0.on, omega (arith, p.0.even, p.1), omega (arith, p.0.even, p.1))
-
 pub loop-i-init : goal.loop-i-init
 loop-i-init c = passed_none (by c.args.collinear) c.args.points.now c.requires.0 _ c.requires.1 c.edge_at-closing.ensures
-
-pub edge_at-from-requires : goal.edge_at-from-requires
-edge_at-from-requires c =
-    let p = c.requires.0 in
-    (p.on, omega (arith, p.even, c.loop-i-test.true), omega (arith, p.even, c.loop-i-test.true))
 
 pub goes_along-requires : goal.goes_along-requires
 goes_along-requires c =

@@ -1,20 +1,16 @@
--- `ring::inner::unmarked` meets its contract: the unmarked positions passed are counted.
-use native.Mathlib.Omega.{arith}
-use Rattle.ring.proofs.Counting.{found_none, found_less, found_one, found_other, found_all}
+-- `ring::inner::unmarked` meets its contract: the unmarked positions are counted one by one.
+use Rattle.std.proofs.Common.{◌≡◌, ◌^◌, ◌<◌, ◌∙◌, ℕ, eqb, rules}
+use Rattle.std.specs.List.{sum_by}
+use Rattle.std.specs.Int.{from_bool}
+use Rattle.ring.proofs.Marks.{count-sum}
 use Rattle.ring.proofs.inner.unmarked.Goals as goal
 
-pub loop-i-init : goal.loop-i-init
-loop-i-init c = found_none _ _
-
-pub overflow_add-found : goal.overflow_add-found
-overflow_add-found c =
-    omega (arith, found_less _ _ c.loop-i.invariant c.loop-i-test.true c.if-mark-i-eq0.true, c.requires)
-
-pub loop-i-preserved-then-mark-i-eq0 : goal.loop-i-preserved-then-mark-i-eq0
-loop-i-preserved-then-mark-i-eq0 c = found_one _ _ c.loop-i.invariant c.loop-i-test.true c.if-mark-i-eq0.true
-
-pub loop-i-preserved : goal.loop-i-preserved
-loop-i-preserved c = found_other _ _ c.loop-i.invariant c.loop-i-test.true c.if-mark-i-eq0.false
+pub sum-found-requires-clause-fits : goal.sum-found-requires-clause-fits
+sum-found-requires-clause-fits c =
+    let few : sum_by (λ (y : ℕ). from_bool (eqb y 0)) c.args.mark.now < 2 ^ 16 = rw (count-sum 0 c.args.mark.now) c.requires in
+    search rules
 
 pub returns : goal.returns
-returns c = found_all _ _ c.loop-i.invariant c.loop-i-test.false
+returns c =
+    let all : c.sum-found.result ≡ sum_by (λ (y : ℕ). from_bool (eqb y 0)) c.args.mark.now = search rules in
+    c.from.ensures ∙ all ∙ count-sum 0 c.args.mark.now

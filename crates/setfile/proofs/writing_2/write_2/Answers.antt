@@ -1,72 +1,48 @@
--- `setfile::writing_2::write_2` meets its contract: refused, too long, no room, or the file in front of the row.
-use Rattle.std.proofs.Common.{◌≡◌, sym, ◌∙◌, arith}
-use Rattle.replies.specs.Ladder.{first_of}
+-- `setfile::writing_2::write_2` meets its contract: refused, too long, or the file in front of the row where it has room.
+use Rattle.std.proofs.lemmas.Result.{err_from_is_err_and}
+use Rattle.replies.proofs.RefusalLaws.{refusals_have_numbers}
+use Rattle.std.proofs.Common.{rules, sym, ◌∙◌, arith}
 use Rattle.grid.specs.Limits.{limit}
-use Rattle.setfile.specs.Writing2.{set_refusals}
 use Rattle.setfile.proofs.CarryLaws.{all_named}
-use Rattle.setfile.proofs.Outcome2Laws.{regular-set, ripe, write_refused, write_long, write_full, write_done}
+use Rattle.setfile.proofs.Outcome2Laws.{regular-set, ripe, write_refused, write_long, write_free}
 use Rattle.setfile.proofs.writing_2.write_2.Goals as goal
 
--- nothing is refused before the file's length
-free : (c : goal.After-widths-1) →
-    let s = c.args in
-    first_of (set_refusals s.points.now s.contours.now s.shapes.now) ≡ 0
-free c = sym c.refused-refusal.ensures ∙ c.if-refusal-ne0.false
+pub check_set-requires : goal.check_set-requires
+unfolding limit
+check_set-requires c = search rules
 
--- nothing is refused before the file's length
-free_2 : (c : goal.Then-length-gt-MOST_BYTES) →
+pub returns-in_err-check_set : goal.returns-in_err-check_set
+unfolding limit
+returns-in_err-check_set c =
     let s = c.args in
-    first_of (set_refusals s.points.now s.contours.now s.shapes.now) ≡ 0
-free_2 c = sym c.refused-refusal.ensures ∙ c.if-refusal-ne0.false
-
--- nothing is refused before the file's length
-free_3 : (c : goal.Then-bytes-length) →
-    let s = c.args in
-    first_of (set_refusals s.points.now s.contours.now s.shapes.now) ≡ 0
-free_3 c = sym c.refused-refusal.ensures ∙ c.if-refusal-ne0.false
-
--- nothing is refused before the file's length
-free_4 : (c : goal.After-put_file-arg-1) →
-    let s = c.args in
-    first_of (set_refusals s.points.now s.contours.now s.shapes.now) ≡ 0
-free_4 c = sym c.refused-refusal.ensures ∙ c.if-refusal-ne0.false
-
--- nothing is refused before the file's length
-free_5 : (c : goal.After-slice_known-2-1) →
-    let s = c.args in
-    first_of (set_refusals s.points.now s.contours.now s.shapes.now) ≡ 0
-free_5 c = sym c.refused-refusal.ensures ∙ c.if-refusal-ne0.false
-
-pub returns-then-refusal-ne0 : goal.returns-then-refusal-ne0
-returns-then-refusal-ne0 c =
-    let s = c.args in
-    write_refused s.points.now s.contours.now s.shapes.now s.bytes.now _ c.refused-refusal.ensures c.if-refusal-ne0.true
+    let p = err_from_is_err_and c.from_residual.result c.from_residual.ensures.1 in
+    rw (p.1, p.2) (write_refused s.points.now s.contours.now s.shapes.now s.bytes.now _ c.in_err-check_set.ensures (refusals_have_numbers _))
 
 pub file_length-length-requires : goal.file_length-length-requires
+unfolding limit
 file_length-length-requires c =
     let s = c.args in
-    let r = regular-set s.points.now s.contours.now s.shapes.now (free c) in
+    let free = sym c.in_ok-check_set.ensures in
+    let r = regular-set s.points.now s.contours.now s.shapes.now free in
     (all_named limit s.points.now s.contours.now s.shapes.now r (omega arith), r.few, r.few)
 
 pub returns-then-length-gt-MOST_BYTES : goal.returns-then-length-gt-MOST_BYTES
+unfolding limit
 returns-then-length-gt-MOST_BYTES c =
     let s = c.args in
-    write_long s.points.now s.contours.now s.shapes.now s.bytes.now (free_2 c) _ c.file_length-length.ensures.0 c.if-length-gt-MOST_BYTES.true
+    let free = sym c.in_ok-check_set.ensures in
+    (write_long s.points.now s.contours.now s.shapes.now s.bytes.now free _ c.file_length-length.ensures.0 c.if-length-gt-MOST_BYTES.true)
 
-pub returns-then-bytes-length : goal.returns-then-bytes-length
-returns-then-bytes-length c =
+pub put_in_room-requires : goal.put_in_room-requires
+unfolding limit
+put_in_room-requires c =
     let s = c.args in
-    write_full s.points.now s.contours.now s.shapes.now s.bytes.now (free_3 c) _ c.file_length-length.ensures.0 c.if-length-gt-MOST_BYTES.false c.if-bytes-length.true
-
-pub put_file-written-requires : goal.put_file-written-requires
-put_file-written-requires c =
-    let s = c.args in (
-      ripe s.points.now s.contours.now s.shapes.now s.bytes.now (free_4 c) _ c.file_length-length.ensures.0 c.if-length-gt-MOST_BYTES.false c.if-bytes-length.false,
-      λ e. c.file_length-length.ensures.1,
-    )
+    let free = sym c.in_ok-check_set.ensures in
+    (λ h. ripe s.points.now s.contours.now s.shapes.now s.bytes.now free _ c.file_length-length.ensures.0 c.if-length-gt-MOST_BYTES.false h, c.file_length-length.ensures.1)
 
 pub returns : goal.returns
+unfolding limit
 returns c =
     let s = c.args in
-    write_done s.points.now s.contours.now s.shapes.now s.bytes.now (free_5 c) _ c.file_length-length.ensures.0 c.if-length-gt-MOST_BYTES.false c.if-bytes-length.false
-    _ _ c.put_file-written.ensures.0 c.put_file-written.ensures.1
+    let free = sym c.in_ok-check_set.ensures in
+    c.put_in_room.ensures ∙ write_free s.points.now s.contours.now s.shapes.now s.bytes.now free _ c.file_length-length.ensures.0 c.if-length-gt-MOST_BYTES.false

@@ -1,10 +1,16 @@
 -- `sets::areas::area_two` meets its contract.
+use Rattle.std.proofs.lemmas.Result.{err_from_is_err_and}
 use Rattle.std.proofs.Common.{sym, ◌∙◌}
-use Rattle.sets.proofs.AreaLaws.{set_doubled}
+use Rattle.sets.proofs.AreaLaws.{set_refused, set_taken}
 use Rattle.sets.proofs.areas.area_two.Goals as goal
 
-pub asked-requires : goal.asked-requires
-asked-requires c = λ z. sym c.refused-refusal.ensures ∙ z
+pub returns-in_err-check : goal.returns-in_err-check
+returns-in_err-check c =
+    let p = err_from_is_err_and c.from_residual.result c.from_residual.ensures.1 in
+    rw (p.1, p.2) (set_refused _ _ _ c.in_err-check.ensures)
+
+pub total-requires : goal.total-requires
+total-requires c = sym c.in_ok-check.ensures
 
 pub returns : goal.returns
-returns c = c.asked.ensures ∙ set_doubled _ _ _ tt c.refused-refusal.ensures
+returns c = c.total.ensures ∙ set_taken _ _ tt c.in_ok-check.ensures

@@ -1,7 +1,5 @@
 -- `turned::inner::agree` meets its contract: what agrees grows by a run, or ends in one.
-use mathlib.Core.Path.{◌≡◌}
-use Prim.Native.Nat.{ℕ, ◌+◌, ◌-◌, ◌%◌, ◌<◌, ◌≤◌, max}
-use native.Mathlib.Omega.{arith}
+use Rattle.std.proofs.Common.{◌≡◌, ℕ, ◌+◌, ◌-◌, ◌%◌, ◌<◌, ◌≤◌, max, arith}
 use native.Mathlib.Nat.{mod-lt}
 use Rattle.turned.proofs.RunLaws.{run_agrees, run_differs}
 use Rattle.turned.proofs.inner.agree.Goals as goal
@@ -22,7 +20,7 @@ far i j {n = n} {k = k} h ex ey ea eb =
 pub returns-then-r-run : goal.returns-then-r-run
 returns-then-r-run c =
     let s = c.args in
-    let f = far s.i s.j c.loop-k-test.true c.round-x.ensures c.round-y.ensures c.larger.ensures c.larger-in-loop-k.ensures in
+    let f = far s.i s.j c.loop-k-test.true c.round-x.ensures c.round-y.ensures c.max.ensures c.max-in-loop-k.ensures in
     let ran = rw (c.round-x.ensures, c.round-y.ensures) at c.level-r.ensures in
     record {
       within = omega (arith, f.all, c.if-r-run.true);
@@ -33,6 +31,6 @@ returns-then-r-run c =
 pub loop-k-preserved : goal.loop-k-preserved
 loop-k-preserved c =
     let s = c.args in
-    let f = far s.i s.j c.loop-k-test.true c.round-x.ensures c.round-y.ensures c.larger.ensures c.larger-in-loop-k.ensures in
+    let f = far s.i s.j c.loop-k-test.true c.round-x.ensures c.round-y.ensures c.max.ensures c.max-in-loop-k.ensures in
     let ran = rw (c.round-x.ensures, c.round-y.ensures) at c.level-r.ensures in
     (f.all, λ x h. run_agrees s.first.now s.second.now s.n s.i s.j c.loop-k.k _ _ f.first f.second ran c.loop-k.invariant.1 x (omega (arith, c.level-r.ensures.within, c.if-r-run.false)))

@@ -6,4 +6,4 @@ use Rattle.ukmerelt.proofs.contour_sets.ukm_in_shape.Goals as goal
 
 pub returns : goal.returns
 returns c =
-    c.in_shape.ensures ∙ handed_on (in_shape c.args.points.now c.args.ranges.now) c.ranges.x c.ranges.y
+    c.from.ensures ∙ c.in_shape.ensures ∙ handed_on (in_shape c.args.points.now c.args.ranges.now) c.ranges.x c.ranges.y

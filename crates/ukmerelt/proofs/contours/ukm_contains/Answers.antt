@@ -6,4 +6,4 @@ use Rattle.ukmerelt.proofs.contours.ukm_contains.Goals as goal
 
 pub returns : goal.returns
 returns c =
-    c.contains_point.ensures ∙ handed_on (contains c.args.points.now) c.ranges.x c.ranges.y
+    c.from.ensures ∙ c.contains_point.ensures ∙ handed_on (contains c.args.points.now) c.ranges.x c.ranges.y

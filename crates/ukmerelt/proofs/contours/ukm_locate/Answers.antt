@@ -6,4 +6,4 @@ use Rattle.ukmerelt.proofs.contours.ukm_locate.Goals as goal
 
 pub returns : goal.returns
 returns c =
-    c.locate.ensures ∙ handed_on (located c.args.points.now) c.ranges.x c.ranges.y
+    c.from.ensures ∙ c.locate.ensures ∙ handed_on (located c.args.points.now) c.ranges.x c.ranges.y

@@ -3,23 +3,20 @@ use native.Mathlib.Omega.{arith}
 use Rattle.account.proofs.LineLaws.{telling_none, telling_room, telling_more, telling_all}
 use Rattle.account.proofs.inner.lines.put.Goals as goal
 
-pub loop-i-init : goal.loop-i-init
-loop-i-init c = telling_none _ _ c.requires.list_in_bounds
+pub loop-number-init : goal.loop-number-init
+loop-number-init c = telling_none _ _ c.requires.list_in_bounds
 
 pub overflow_add-number : goal.overflow_add-number
 overflow_add-number c =
-    omega (arith, c.requires.numbers c.loop-i.i c.loop-i-test.true)
+    omega (arith, c.requires.numbers c.loop-number.number-index c.loop-number-test.true)
 
 pub put_line-behind-requires : goal.put_line-behind-requires
 put_line-behind-requires c =
-    telling_room c.loop-i.invariant c.loop-i-test.true
+    telling_room c.loop-number.invariant c.loop-number-test.true
 
-pub loop-i-preserved : goal.loop-i-preserved
-loop-i-preserved c =
-    telling_more c.loop-i.invariant c.loop-i-test.true c.put_line-behind.ensures
-
-pub shape_of-text : goal.shape_of-text
-shape_of-text c = c.loop-i.invariant.going.long
+pub loop-number-preserved : goal.loop-number-preserved
+loop-number-preserved c =
+    telling_more c.loop-number.invariant c.loop-number-test.true c.put_line-behind.ensures
 
 pub returns : goal.returns
-returns c = telling_all c.loop-i.invariant c.loop-i-test.false
+returns c = telling_all c.loop-number.invariant c.loop-number-test.false

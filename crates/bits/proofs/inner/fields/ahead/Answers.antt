@@ -13,5 +13,5 @@ returns c =
     let i : ℕ = (s.at + s.width - 1) / 8 - 7 in
     let n : s.at - 8 * i ≡ (s.at + s.width - 1) % 8 + (57 - s.width) = omega (arith, p.0.some, p.0.few, p.1) in
     subst (Ahead s.bytes.now s.at s.width) (ap₂ (λ (v k : ℕ). v * 2 ^ k % 2 ^ 64) (sym c.eight.ensures) n)
-    (ahead_is s.bytes.now i s.at s.width (λ k. (c.shared_slice_known-1.given k).fits)
+    (ahead_is s.bytes.now i s.at s.width (λ k. (c.type_inv.bytes k).fits)
     (omega (arith, p.0.some, p.0.few, p.1)) (omega (arith, p.0.some, p.0.few, p.1)) p.0.room)

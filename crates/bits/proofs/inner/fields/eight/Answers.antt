@@ -1,37 +1,16 @@
--- `bits::inner::fields::eight` meets its contract: n is the number in the i bytes passed.
-use mathlib.Core.Path.{◌≡◌, sym, ◌∙◌, ap}
-use Prim.Native.Nat.{ℕ, ◌+◌, ◌*◌}
-use native.Mathlib.Omega.{arith}
-use lib.ListN.{drop, get_or}
-use Rattle.bits.specs.inside.Words.{word}
-use Rattle.bits.proofs.WordLaws.{word_more, more_fits, word_none, byte_drop}
+-- `bits::inner::fields::eight` meets its contract.
+use Rattle.std.proofs.Common.{◌∙◌, ap, List, ℕ, drop, arith}
+use lib.Seq.{take-take}
+use lib.ListN.{length-drop}
+use Rattle.std.specs.Int.{w64, from_be_bytes}
+use Rattle.bits.proofs.WordLaws.{word_read}
 use Rattle.bits.proofs.inner.fields.eight.Goals as goal
-
-pub loop-i-init : goal.loop-i-init
-loop-i-init c = (omega arith, sym (word_none (drop c.args.at c.args.bytes.now)))
-
-pub overflow_cast-bytes : goal.overflow_cast-bytes
-overflow_cast-bytes c = omega (arith, c.shared_slice_known-in-loop-i-1.given (c.args.at + c.loop-i.i))
-
-pub more-n-requires : goal.more-n-requires
-more-n-requires c =
-    let s = c.args in
-    let l = c.loop-i in
-    let known = c.shared_slice_known-1 in
-    let small = byte_drop s.at s.bytes.now (λ k. (known.given k).fits) in
-    (rw l.invariant.1 (more_fits (drop s.at s.bytes.now) l.i small c.loop-i-test.true), omega (arith, known.given (s.at + l.i)))
-
-pub loop-i-preserved : goal.loop-i-preserved
-loop-i-preserved c =
-    let s = c.args in
-    let l = c.loop-i in (
-      omega arith,
-      c.more-n.ensures ∙ ap (λ (a : ℕ). a * 256 + get_or s.bytes.now (s.at + l.i) 0) l.invariant.1 ∙ word_more s.bytes.now s.at l.i,
-    )
 
 pub returns : goal.returns
 returns c =
     let s = c.args in
-    let l = c.loop-i in
-    let e : l.i ≡ 8 = omega arith in
-    l.invariant.1 ∙ ap (λ (k : ℕ). word k (drop s.at s.bytes.now)) e
+    let f : List ℕ = drop s.at s.bytes.now in
+    let chunk = rw c.unwrap.ensures at c.first_chunk.ensures.cases in
+    c.from_be_bytes.ensures
+    ∙ ap (from_be_bytes w64) (chunk.same ∙ take-take 8 _ f (omega arith))
+    ∙ word_read f (omega (arith, length-drop s.at s.bytes.now))

@@ -1,13 +1,9 @@
 -- `bits::inner::pens::lift` meets its contract.
 use native.Mathlib.Omega.{arith}
-use lib.Pow.{pow_pos}
 use Rattle.bits.specs.Bits.{fill}
 use Rattle.bits.proofs.BitLaws.{field-length}
 use Rattle.bits.proofs.PenLaws.{lifted}
 use Rattle.bits.proofs.inner.pens.lift.Goals as goal
-
-pub write-full-requires : goal.write-full-requires
-write-full-requires c = let pre = c.requires in (pre.0, record { within_32 = omega arith; room = omega (arith, pre.1) }, pow_pos _)
 
 pub spill-done-requires : goal.spill-done-requires
 spill-done-requires c = let w = c.write-full.ensures in (record { small = w.0.small; few = w.1 }, omega (arith, c.requires.1, w.0.behind, w.0.long, field-length (fill c.args.pen.width) 0))

@@ -2,15 +2,8 @@
 use mathlib.Core.Path.{refl}
 use Prim.Native.Nat.{◌+◌, ◌-◌, ◌*◌, ◌%◌, ◌^◌}
 use native.Mathlib.Omega.{arith}
-use Rattle.bits.proofs.PenLaws.{taken_up, up_fits, wrote_up, wrote_four}
-use Rattle.bits.proofs.CodeLaws.{one_shifted_some}
+use Rattle.bits.proofs.PenLaws.{taken_up, wrote_up, wrote_four}
 use Rattle.bits.proofs.inner.pens.write.Goals as goal
-
-pub overflow_add-kept : goal.overflow_add-kept
-overflow_add-kept c =
-    let s = c.args in
-    let pre = c.requires in
-    omega (arith, taken_up s.pen s.bytes.now s.width s.n pre.0 pre.1.within_32 pre.2, up_fits s.pen s.bytes.now s.width s.n pre.0 pre.1.within_32 pre.2)
 
 pub returns-then-all-lt32 : goal.returns-then-all-lt32
 returns-then-all-lt32 c =
@@ -19,11 +12,6 @@ returns-then-all-lt32 c =
       rw (taken_up s.pen s.bytes.now s.width s.n pre.0 pre.1.within_32 pre.2) (wrote_up s.pen s.bytes.now s.width s.n pre.0.small pre.2),
       c.if-all-lt32.true,
     )
-
-pub nonzero_rem-result : goal.nonzero_rem-result
-nonzero_rem-result c =
-    let s = c.args in
-    one_shifted_some (s.pen.width + s.width - 32) (omega (arith, c.requires.0.few, c.requires.1.within_32))
 
 pub returns : goal.returns
 returns c =

@@ -1,62 +1,19 @@
 -- `buffer::inner::packing::shapes` meets its contract.
 use native.Mathlib.Omega.{arith}
-use lib.ListN.{length}
-use Rattle.buffer.proofs.PackLaws.{group_refused, group_fits, group_done}
-use Rattle.buffer.proofs.AnswerLaws.{Fits}
+use Rattle.buffer.proofs.PackLaws.{group_no_room, group_fits, group_done}
 use Rattle.buffer.proofs.inner.packing.shapes.Goals as goal
 
-pub returns-then-first-ne0 : goal.returns-then-first-ne0
-returns-then-first-ne0 c =
-    let s = c.args in
-    group_refused s.refusal _ s.points.now s.contours.now s.shapes.now s.out.now s.records.now s.groups.now
-    c.or_room-first.ensures _ c.refused.ensures c.if-first-ne0.true
-
--- nothing is refused, and there is room
-fits : (c : goal.After-copy-arg-1) →
-    let s = c.args in
-    Fits s.refusal (length s.points.now) (length s.contours.now) (length s.shapes.now)
-    s.out.now s.records.now s.groups.now
-fits c =
-    let s = c.args in
-    group_fits s.refusal _ s.points.now s.contours.now s.shapes.now s.out.now s.records.now s.groups.now
-    c.or_room-first.ensures c.if-first-ne0.false
-
--- nothing is refused, and there is room
-fits_2 : (c : goal.After-records-arg-1) →
-    let s = c.args in
-    Fits s.refusal (length s.points.now) (length s.contours.now) (length s.shapes.now)
-    s.out.now s.records.now s.groups.now
-fits_2 c =
-    let s = c.args in
-    group_fits s.refusal _ s.points.now s.contours.now s.shapes.now s.out.now s.records.now s.groups.now
-    c.or_room-first.ensures c.if-first-ne0.false
-
--- nothing is refused, and there is room
-fits_3 : (c : goal.After-records-arg-2-1) →
-    let s = c.args in
-    Fits s.refusal (length s.points.now) (length s.contours.now) (length s.shapes.now)
-    s.out.now s.records.now s.groups.now
-fits_3 c =
-    let s = c.args in
-    group_fits s.refusal _ s.points.now s.contours.now s.shapes.now s.out.now s.records.now s.groups.now
-    c.or_room-first.ensures c.if-first-ne0.false
+pub returns-then-not-room : goal.returns-then-not-room
+returns-then-not-room c = group_no_room _ _ _ _ _ _ c.if-not-room.true
 
 pub copy-requires : goal.copy-requires
-copy-requires c = omega (arith, (fits c).points_in)
+copy-requires c = let s = c.args in omega (arith, (group_fits s.points.now s.contours.now s.shapes.now s.out.now s.records.now s.groups.now c.if-not-room.false).points_in)
 
 pub records-requires : goal.records-requires
-records-requires c =
-    let h = fits_2 c in
-    (omega (arith, h.contours_in), (c.requires h.sound).0)
+records-requires c = let s = c.args in (omega (arith, (group_fits s.points.now s.contours.now s.shapes.now s.out.now s.records.now s.groups.now c.if-not-room.false).contours_in), c.requires.0)
 
 pub records-requires-2 : goal.records-requires-2
-records-requires-2 c =
-    let h = fits_3 c in
-    (omega (arith, h.shapes_in), (c.requires h.sound).1)
+records-requires-2 c = let s = c.args in (omega (arith, (group_fits s.points.now s.contours.now s.shapes.now s.out.now s.records.now s.groups.now c.if-not-room.false).shapes_in), c.requires.1)
 
 pub returns : goal.returns
-returns c =
-    let s = c.args in
-    group_done s.refusal _ s.points.now s.contours.now s.shapes.now s.out.now s.records.now s.groups.now
-    c.or_room-first.ensures _ _ _ c.if-first-ne0.false
-    c.copy.ensures c.records.ensures c.records-2.ensures
+returns c = group_done _ _ _ _ _ _ c.if-not-room.false _ _ _ c.copy.ensures c.records.ensures c.records-2.ensures

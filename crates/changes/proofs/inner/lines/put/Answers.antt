@@ -1,13 +1,9 @@
 -- `changes::inner::lines::put` meets its contract: the lines that are left are put from where the loop has come to.
-use native.Mathlib.Omega.{arith}
 use Rattle.changes.proofs.LineLaws.{telling_none, telling_room, telling_more, telling_all}
 use Rattle.changes.proofs.inner.lines.put.Goals as goal
 
 pub loop-i-init : goal.loop-i-init
 loop-i-init c = telling_none _ _ c.requires.listing_in_bounds
-
-pub overflow_add-i : goal.overflow_add-i
-overflow_add-i c = omega (arith, c.loop-i-test.true)
 
 pub put_line-behind-requires : goal.put_line-behind-requires
 put_line-behind-requires c =
@@ -16,9 +12,6 @@ put_line-behind-requires c =
 pub loop-i-preserved : goal.loop-i-preserved
 loop-i-preserved c =
     telling_more c.loop-i.invariant c.loop-i-test.true c.put_line-behind.ensures
-
-pub shape_of-text : goal.shape_of-text
-shape_of-text c = c.loop-i.invariant.going.long
 
 pub returns : goal.returns
 returns c = telling_all c.loop-i.invariant c.loop-i-test.false

@@ -1,16 +1,10 @@
 -- `clean::inner::look::look_over` meets its contract, rule by rule.
-use native.Mathlib.Omega.{arith}
 use Rattle.clean.proofs.LookLaws.{looked_all, looked_collinear, looked_spike}
 use Rattle.clean.proofs.inner.look.look_over.Goals as goal
 
 pub returns-then-standing-n : goal.returns-then-standing-n
 returns-then-standing-n c =
     looked_all c.args.points.now c.requires.0 c.args.rule c.requires.1 _ c.standing-standing.ensures c.if-standing-n.true
-
-pub none_reverses_after-requires : goal.none_reverses_after-requires
-none_reverses_after-requires c =
-    let x = rw c.in-Spike.is at c.standing-standing.ensures in
-    record { contour = c.requires; k_lt_n = (omega (arith, x.within, c.if-standing-n.false), x.stand) }
 
 pub returns-in-Collinear : goal.returns-in-Collinear
 returns-in-Collinear c =

@@ -1,6 +1,5 @@
 -- `clean::inner::settling::settle` meets its contract: too few points, copied, or walked.
 use mathlib.Core.Path.{◌∙◌}
-use native.Mathlib.Omega.{arith}
 use Rattle.rows.proofs.RowLaws.{placed_front}
 use Rattle.clean.proofs.OutcomeLaws.{settled_few}
 use Rattle.clean.proofs.Unchanged.{settled_untouched}
@@ -13,8 +12,3 @@ pub returns-then-standing-mark : goal.returns-then-standing-mark
 returns-then-standing-mark c =
     settled_untouched c.args.rule c.args.points.now _ c.requires.contour c.if-mark-lt3.false c.standing-standing.ensures c.if-standing-mark.true _
     (c.copy.ensures ∙ placed_front _ c.args.points.now)
-
-pub settle_from-requires : goal.settle_from-requires
-settle_from-requires c =
-    let x = c.standing-standing.ensures in
-    record { ready = (c.requires, c.if-mark-lt3.false); standing_in_bounds = (omega (arith, x.within, c.if-standing-mark.false), x.stand) }

@@ -1,5 +1,3 @@
-use Prim.Native.Nat.{◌-◌}
-use lib.ListN.{length}
 use Rattle.ring.specs.Walk.{marked}
 use Rattle.ring.proofs.Counting.{Found}
 use Rattle.clean.proofs.RowLaws.{Writing}
@@ -7,6 +5,3 @@ use Rattle.clean.proofs.inner.settling.write.Given as goal
 
 abbrev pub invariant-loop-i : goal.invariant-loop-i
 invariant-loop-i l = Writing l.points l.mark l.initial.out l.out l.kept l.i × Found marked l.mark l.marked l.i
-
-abbrev pub decreases-loop-i : goal.decreases-loop-i
-decreases-loop-i l = length l.mark - l.i

@@ -1,10 +1,6 @@
 -- `difference::inner::lines::first_other` meets its contract: where keys differ, points do.
-use native.Mathlib.Omega.{arith}
 use Rattle.difference.proofs.LineLaws.{other_is}
 use Rattle.difference.proofs.inner.lines.first_other.Goals as goal
-
-pub level-requires : goal.level-requires
-level-requires c = (omega (arith, c.requires.0.long), omega (arith, c.requires.1.long))
 
 pub returns : goal.returns
 returns c =

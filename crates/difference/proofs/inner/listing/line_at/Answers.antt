@@ -12,12 +12,6 @@ returns-then-other_ranges-k c =
     let s = c.args in
     told_first s.points.now s.ranges.now s.others.now s.other_ranges.now s.k c.if-ranges-k.false c.if-other_ranges-k.true
 
-pub contour_at-requires : goal.contour_at-requires
-contour_at-requires c = (c.requires.0, c.if-ranges-k.false)
-
-pub contour_at-requires-2 : goal.contour_at-requires-2
-contour_at-requires-2 c = (c.requires.1, c.if-other_ranges-k.false)
-
 pub of_two-requires : goal.of_two-requires
 of_two-requires c = (
   in_domain c.args.points.now c.args.ranges.now c.requires.0 c.args.k c.if-ranges-k.false c.contour_at.ensures,

@@ -1,5 +1,5 @@
 -- `drawing::inner::judging::fault` meets its contract.
-use mathlib.Core.Path.{sym, ap, ap₂, ◌∙◌}
+use mathlib.Core.Path.{sym, ap₂, ◌∙◌}
 use mathlib.Core.Bool.{Bool}
 use Prim.Native.Nat.{ℕ}
 use Rattle.replies.specs.Ladder.{first_of}
@@ -11,9 +11,6 @@ use Rattle.drawing.proofs.inner.judging.fault.Goals as goal
 -- the number of a command, where a contour is open or not
 abbrev number : Bool → Command → ℕ
 number opened k = first_of (faults opened (command k))
-
-pub returns-in-Move : goal.returns-in-Move
-returns-in-Move c = c.place_fault.ensures ∙ ap (number _) (sym c.in-Move.is)
 
 pub returns-then-opened : goal.returns-then-opened
 unfolding first_of

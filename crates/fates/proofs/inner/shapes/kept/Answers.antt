@@ -1,19 +1,22 @@
--- `fates::inner::shapes::kept` meets its contract: those passed are counted.
-use native.Mathlib.Omega.{arith}
-use Rattle.ring.proofs.Counting.{found_none, found_one, found_other, found_all}
+-- `fates::inner::shapes::kept` meets its contract.
+use Rattle.std.proofs.Common.{◌≡◌, ℕ, suc, ◌+◌, Bool, true, false, eqb, cond, List, sym, refl, ◌∙◌, rules, arith}
+use Rattle.std.specs.List.{count_by}
+use Rattle.std.proofs.iter.runs.Made.{chains}
+use Rattle.std.proofs.lemmas.List.Recursion.{is_count_by}
+use Rattle.ring.specs.Walk.{occurrences}
+use Rattle.fates.specs.Fates.{kept}
 use Rattle.fates.proofs.inner.shapes.kept.Goals as goal
 
-pub loop-i-init : goal.loop-i-init
-loop-i-init c = found_none _ _
-
-pub overflow_add-found : goal.overflow_add-found
-overflow_add-found c = omega (arith, c.loop-i.invariant.few, c.loop-i-test.true)
-
-pub loop-i-preserved-then-fates-i-eq-KEPT : goal.loop-i-preserved-then-fates-i-eq-KEPT
-loop-i-preserved-then-fates-i-eq-KEPT c = found_one _ _ c.loop-i.invariant c.loop-i-test.true c.if-fates-i-eq-KEPT.true
-
-pub loop-i-preserved : goal.loop-i-preserved
-loop-i-preserved c = found_other _ _ c.loop-i.invariant c.loop-i-test.true c.if-fates-i-eq-KEPT.false
+occurrences_counted : (x : ℕ) (row : List ℕ) → occurrences x row ≡ count_by (λ (y : ℕ). eqb y x) row
+unfolding occurrences
+occurrences_counted x = is_count_by (occurrences x) (λ (y : ℕ). eqb y x) refl (λ y row. go (eqb y x) (occurrences x row))
+  where
+    go : (b : Bool) (n : ℕ) → elim b as (λ _. ℕ) [ true ↦ suc n | false ↦ n ] ≡ cond b (1 + n) n
+    go true n = omega arith
+    go false n = refl
 
 pub returns : goal.returns
-returns c = found_all _ _ c.loop-i.invariant c.loop-i-test.false
+returns c =
+    let fates = c.args.fates.now in
+    let counted : c.count.result ≡ count_by (λ (y : ℕ). eqb y kept) fates = search (rules, chains) in
+    counted ∙ sym (occurrences_counted kept fates)

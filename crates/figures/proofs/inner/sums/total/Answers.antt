@@ -1,16 +1,16 @@
--- `figures::inner::sums::total` meets its contract. The loop's invariant: the sum and what is left of the row make up its total.
-use native.Mathlib.Omega.{arith}
-use Rattle.figures.proofs.TotalLaws.{total_more, total_done}
+-- `figures::inner::sums::total` meets its contract.
+use Rattle.std.proofs.Common.{◌≡◌, ℕ, sym, ◌∙◌, rules}
+use Rattle.std.specs.List.{sum_by}
+use Rattle.std.proofs.iter.runs.Made.{chains}
+use Rattle.std.proofs.iter.runs.Sources.{sums}
+use Rattle.figures.proofs.TotalLaws.{total_is}
 use Rattle.figures.proofs.inner.sums.total.Goals as goal
 
-pub overflow_cast-sum : goal.overflow_cast-sum
-overflow_cast-sum c = omega (arith, c.shared_slice_known-1.given c.loop-i.i)
-
-pub overflow_add-sum : goal.overflow_add-sum
-overflow_add-sum c = omega (arith, c.shared_slice_known-1.given c.loop-i.i)
-
-pub loop-i-preserved : goal.loop-i-preserved
-loop-i-preserved c = omega (arith, c.shared_slice_known-1.given c.loop-i.i, total_more c.args.row.now c.loop-i.i (omega arith))
+pub sum-requires-clause-fits : goal.sum-requires-clause-fits
+sum-requires-clause-fits c = search (rules, sums)
 
 pub returns : goal.returns
-returns c = omega (arith, total_done c.args.row.now c.loop-i.i (omega arith))
+returns c =
+    let row = c.args.row.now in
+    let summed : c.sum.result ≡ sum_by (λ (n : ℕ). n) row = search (rules, chains) in
+    summed ∙ sym (total_is row)

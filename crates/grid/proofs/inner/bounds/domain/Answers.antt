@@ -1,29 +1,13 @@
--- `grid::inner::bounds::domain` meets its contract, refusal by refusal.
-use Rattle.std.proofs.Common.{not, sym, ap, ◌∙◌, le-ltb, lt-ltb, eq-eqb, ne_eqb}
-use Rattle.grid.specs.Limits.{most}
-use Rattle.replies.proofs.LadderLaws.{first_is}
-use Rattle.replies.proofs.LadderLaws.First.{here, past, foot}
+-- `grid::inner::bounds::domain` meets its contract: a ladder behind a ladder.
+use Rattle.std.proofs.lemmas.Result.{err_from_is_err_and}
+use Rattle.std.proofs.Common.{sym, ◌∙◌}
+use Rattle.replies.proofs.RefusalLaws.{refused_so_far, asked_further}
 use Rattle.grid.proofs.inner.bounds.domain.Goals as goal
 
-pub returns-then-points-eq1 : goal.returns-then-points-eq1
-returns-then-points-eq1 c = first_is _ _ (here (eq-eqb _ _ c.if-points-eq1.true))
-
-pub returns-then-points-gt-MOST : goal.returns-then-points-gt-MOST
-unfolding most
-returns-then-points-gt-MOST c = first_is _ _ (past (ne_eqb _ _ c.if-points-eq1.false) (here (lt-ltb _ _ c.if-points-gt-MOST.true)))
-
-pub returns-then-not-all_on_grid : goal.returns-then-not-all_on_grid
-unfolding most
-returns-then-not-all_on_grid c =
-    first_is _ _
-    (past (ne_eqb _ _ c.if-points-eq1.false)
-    (past (le-ltb _ _ c.if-points-gt-MOST.false)
-    (here (ap not (sym c.all_on_grid.ensures) ∙ (ap not c.if-not-all_on_grid.true)))))
+pub returns-in_err-size : goal.returns-in_err-size
+returns-in_err-size c =
+    let p = err_from_is_err_and c.from_residual.result c.from_residual.ensures.1 in
+    rw (p.1, p.2) (refused_so_far _ _ _ c.in_err-size.ensures)
 
 pub returns : goal.returns
-unfolding most
-returns c =
-    first_is _ _
-    (past (ne_eqb _ _ c.if-points-eq1.false)
-    (past (le-ltb _ _ c.if-points-gt-MOST.false)
-    (past (ap not (sym c.all_on_grid.ensures) ∙ (ap not c.if-not-all_on_grid.false)) foot)))
+returns c = asked_further _ _ tt c.in_ok-size.ensures c.within.ensures

@@ -1,17 +1,15 @@
 -- `jobread::inner::places::begun` meets its contract.
 use native.Mathlib.Omega.{arith}
-use borrow.Author.Tests.{lt-ltb, le-ltb}
+use borrow.Author.Tests.{lt-ltb}
 use Rattle.jobread.specs.Places.{digit, begun}
 use Rattle.jobread.proofs.inner.places.begun.Goals as goal
 
-pub returns-then-d-lt10 : goal.returns-then-d-lt10
+pub returns-in-Some : goal.returns-in-Some
 unfolding begun
-returns-then-d-lt10 c =
-    let e = c.digit-d.ensures in
-    rw (e, lt-ltb (digit c.args.c) 10 (omega (arith, e, c.if-d-lt10.true)), begun)
+returns-in-Some c =
+    let e = c.in-Some.ensures in
+    rw (e.value, lt-ltb (digit c.args.c) 10 (omega (arith, e.value, e.small)), begun)
 
-pub returns : goal.returns
+pub returns-in-None : goal.returns-in-None
 unfolding begun
-returns c =
-    let e = c.digit-d.ensures in
-    rw (le-ltb (digit c.args.c) 10 (omega (arith, e, c.if-d-lt10.false)), begun)
+returns-in-None c = rw (← c.in-None.ensures.value, begun)

@@ -15,30 +15,28 @@ use Rattle.jobread.specs.inside.Rows.{lines_of}
 use Rattle.jobread.proofs.RowLaws.{taken_rows}
 use Rattle.jobread.proofs.inner.reading.number.Goals as goal
 
-pub returns-then-d-lt10 : goal.returns-then-d-lt10
+pub returns-in-Some : goal.returns-in-Some
 unfolding in_number
-returns-then-d-lt10 c =
-    let d = c.digit-d in
+returns-in-Some c =
+    let d = c.in-Some.ensures in
     let s = c.args in
-    rw (lt-ltb (digit s.c) 10 (omega (arith, d.ensures, c.if-d-lt10.true)), in_number)
+    rw (lt-ltb (digit s.c) 10 (omega (arith, d.value, d.small)), in_number)
     (ap (λ (r : Reader). state_of r s.points.now s.contours.now s.shapes.now)
-    (c.moved.ensures ∙ ap (moved s.reader) (c.number.ensures ∙ ap (λ (k : ℕ). after_digit s.below s.size k) d.ensures)))
+    (c.moved.ensures ∙ ap (moved s.reader) (c.number.ensures ∙ ap (λ (k : ℕ). after_digit s.below s.size k) d.value)))
 
 pub returns-then-size-gt-LARGEST : goal.returns-then-size-gt-LARGEST
 unfolding in_number
 returns-then-size-gt-LARGEST c =
-    let d = c.digit-d in
     let s = c.args in
-    rw (le-ltb (digit s.c) 10 (omega (arith, d.ensures, c.if-d-lt10.false)), lt-ltb largest s.size c.if-size-gt-LARGEST.true, in_number)
+    rw (le-ltb (digit s.c) 10 (omega (arith, c.in_default.ensures.value)), lt-ltb largest s.size c.if-size-gt-LARGEST.true, in_number)
     (ap (λ (r : Reader). state_of r s.points.now s.contours.now s.shapes.now) c.moved-then-size-gt-LARGEST.ensures)
 
 pub returns-then-points-n : goal.returns-then-points-n
 unfolding in_number
 returns-then-points-n c =
-    let d = c.digit-d in
     let s = c.args in
     rw (
-      le-ltb (digit s.c) 10 (omega (arith, d.ensures, c.if-d-lt10.false)),
+      le-ltb (digit s.c) 10 (omega (arith, c.in_default.ensures.value)),
       le-ltb largest s.size c.if-size-gt-LARGEST.false,
       le-leb most_numbers s.reader.numbers (omega (arith, c.if-points-n.true, c.requires.in_points)),
       in_number,
@@ -48,10 +46,9 @@ returns-then-points-n c =
 pub returns : goal.returns
 unfolding in_number
 returns c =
-    let d = c.digit-d in
     let s = c.args in
     rw (
-      le-ltb (digit s.c) 10 (omega (arith, d.ensures, c.if-d-lt10.false)),
+      le-ltb (digit s.c) 10 (omega (arith, c.in_default.ensures.value)),
       le-ltb largest s.size c.if-size-gt-LARGEST.false,
       lt-leb most_numbers s.reader.numbers (omega (arith, c.if-points-n.false, c.requires.in_points)),
       in_number,

@@ -1,11 +1,21 @@
 -- `jobread::inner::reading::step` meets its contract: by where the reader is.
-use mathlib.Core.Path.{sym, ◌∙◌, ap}
+use mathlib.Core.Path.{◌≡◌, sym, ◌∙◌, ap}
+use mathlib.Core.Logic.{◌⊎◌, inl, inr}
+use Prim.Native.Nat.{ℕ}
+use Rattle.replies.specs.declared.refusal.Refusal.{Refusal}
 use Rattle.jobread.specs.declared.Place.{Place}
 use Rattle.jobread.specs.declared.Reader.{Reader}
-use Rattle.jobread.specs.Reading.{moved, step_at, step}
+use Rattle.jobread.specs.declared.Place.TheVariants.{NoHead, NoLine, Refused}
+use Rattle.jobread.specs.Reading.{State, moved, step_at, step}
 use Rattle.jobread.specs.inside.Rows.{state_of}
 use Rattle.jobread.proofs.RowLaws.{started, same_points, word_numbers}
 use Rattle.jobread.proofs.inner.reading.step.Goals as goal
+
+-- what is damaged or refused stays so
+stays : (p : Place) (s : State) (c : ℕ) → (p ≡ NoHead) ⊎ ((p ≡ NoLine) ⊎ ((r : Refusal) × p ≡ Refused r)) → s ≡ step_at p s c
+stays p s c (inl e) = ap (λ (p : Place). step_at p s c) (sym e)
+stays p s c (inr (inl e)) = ap (λ (p : Place). step_at p s c) (sym e)
+stays p s c (inr (inr (r, e))) = ap (λ (p : Place). step_at p s c) (sym e)
 
 pub returns-in-Head : goal.returns-in-Head
 unfolding step
@@ -52,16 +62,4 @@ pub returns-in-NoHead : goal.returns-in-NoHead
 unfolding step
 returns-in-NoHead c =
     let s = c.args in
-    ap (λ (p : Place). step_at p (state_of s.reader s.points.now s.contours.now s.shapes.now) s.c) (sym c.in-NoHead.is)
-
-pub returns-in-NoLine : goal.returns-in-NoLine
-unfolding step
-returns-in-NoLine c =
-    let s = c.args in
-    ap (λ (p : Place). step_at p (state_of s.reader s.points.now s.contours.now s.shapes.now) s.c) (sym c.in-NoLine.is)
-
-pub returns-in-Refused : goal.returns-in-Refused
-unfolding step
-returns-in-Refused c =
-    let s = c.args in
-    ap (λ (p : Place). step_at p (state_of s.reader s.points.now s.contours.now s.shapes.now) s.c) (sym c.in-Refused.is)
+    stays s.reader.place (state_of s.reader s.points.now s.contours.now s.shapes.now) s.c c.in-NoHead.is

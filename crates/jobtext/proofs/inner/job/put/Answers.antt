@@ -1,54 +1,28 @@
 -- `jobtext::inner::job::put` meets its contract: the line of the edition, and the lines behind it.
-use mathlib.Core.List.{[], ◌∷◌}
+use mathlib.Core.Path.{◌∙◌}
 use native.Mathlib.Omega.{arith}
 use Rattle.setfile.specs.inside.Reading.{contained}
-use Rattle.report.proofs.PutLaws.{Going, going_none, going_room, going_more, going_all, two_words}
-use Rattle.jobtext.specs.Text.{head, lines, text}
+use Rattle.report.proofs.PutLaws.{going_two, going_room, going_more, going_all}
+use Rattle.jobtext.specs.Text.{head, lines}
 use Rattle.jobtext.proofs.inner.job.put.Goals as goal
 
--- both are to be put
-begun : (c : goal.After-number) → let s = c.args in
-    Going 0 (text s.second (contained s.bytes.now)) s.text.now 0 s.text.now (head s.second ∷ lines (contained s.bytes.now) ∷ [])
-begun c =
-    let s = c.args in
-    going_none 0 s.text.now (head s.second ∷ lines (contained s.bytes.now) ∷ []) (two_words _ _) (omega (arith, c.requires.bytes_in_bounds))
-
--- both are to be put
-begun_2 : (c : goal.After-put-arg-1) → let s = c.args in
-    Going 0 (text s.second (contained s.bytes.now)) s.text.now 0 s.text.now (head s.second ∷ lines (contained s.bytes.now) ∷ [])
-begun_2 c =
-    let s = c.args in
-    going_none 0 s.text.now (head s.second ∷ lines (contained s.bytes.now) ∷ []) (two_words _ _) (omega (arith, c.requires.bytes_in_bounds))
-
--- both are to be put
-begun_3 : (c : goal.After-slice_known-3-1) → let s = c.args in
-    Going 0 (text s.second (contained s.bytes.now)) s.text.now 0 s.text.now (head s.second ∷ lines (contained s.bytes.now) ∷ [])
-begun_3 c =
-    let s = c.args in
-    going_none 0 s.text.now (head s.second ∷ lines (contained s.bytes.now) ∷ []) (two_words _ _) (omega (arith, c.requires.bytes_in_bounds))
-
--- the lines are
-lines_due : (c : goal.After-put-arg-1) →
-    let s = c.args in
-    Going 0 (text s.second (contained s.bytes.now)) s.text.now c.put_line-behind.result c.put_line-behind.new.text (lines (contained s.bytes.now) ∷ [])
-lines_due c = going_more (begun_2 c) (rw c.number.ensures at c.put_line-behind.ensures)
-
--- the lines are
-lines_due_2 : (c : goal.After-slice_known-3-1) →
-    let s = c.args in
-    Going 0 (text s.second (contained s.bytes.now)) s.text.now c.put_line-behind.result c.put_line-behind.new.text (lines (contained s.bytes.now) ∷ [])
-lines_due_2 c = going_more (begun_3 c) (rw c.number.ensures at c.put_line-behind.ensures)
-
 pub put_line-behind-requires : goal.put_line-behind-requires
-put_line-behind-requires c = rw c.number.ensures (going_room (begun c))
+put_line-behind-requires c =
+    let s = c.args in
+    let due = going_two 0 s.text.now (head s.second) (lines (contained s.bytes.now)) (omega (arith, c.requires.bytes_in_bounds)) in
+    rw (c.from.ensures ∙ c.number.ensures) (going_room due)
 
 pub put-requires : goal.put-requires
 put-requires c =
+    let s = c.args in
+    let due = going_two 0 s.text.now (head s.second) (lines (contained s.bytes.now)) (omega (arith, c.requires.bytes_in_bounds)) in
     record {
       dumpable = record { readable = c.requires.readable; roomy = omega arith };
-      bytes_in_bounds = going_room (lines_due c);
+      bytes_in_bounds = going_room (going_more due (rw (c.from.ensures ∙ c.number.ensures) at c.put_line-behind.ensures));
     }
 
 pub returns : goal.returns
 returns c =
-    going_all (going_more (lines_due_2 c) c.put.ensures)
+    let s = c.args in
+    let due = going_two 0 s.text.now (head s.second) (lines (contained s.bytes.now)) (omega (arith, c.requires.bytes_in_bounds)) in
+    going_all (going_more (going_more due (rw (c.from.ensures ∙ c.number.ensures) at c.put_line-behind.ensures)) c.put.ensures)

@@ -1,12 +1,8 @@
 use mathlib.Core.Path.{◌≡◌}
-use Prim.Native.Nat.{◌-◌}
 use lib.ListN.{length}
 use Rattle.jobtext.proofs.LineLaws.{Lining}
 use Rattle.jobtext.proofs.inner.lines.put.Given as goal
 
-abbrev pub invariant-loop-i : goal.invariant-loop-i
-invariant-loop-i l =
-    Lining l.second l.bytes l.n l.from l.initial.text l.behind l.text l.i l.at × (length l.points ≡ length l.initial.points)
-
-abbrev pub decreases-loop-i : goal.decreases-loop-i
-decreases-loop-i l = l.n - l.i
+abbrev pub invariant-loop : goal.invariant-loop
+invariant-loop l =
+    Lining l.second l.bytes l.n l.from l.initial.text l.behind l.text l.counter l.at × (length l.points ≡ length l.initial.points)

@@ -1,51 +1,22 @@
 -- `picture::inner::drawing::draw` meets its contract: how the file was judged says which picture it has.
-use mathlib.Core.Path.{sym, ◌∙◌}
+use mathlib.Core.Path.{sym}
 use native.Mathlib.Omega.{arith}
+use Rattle.replies.proofs.RefusalLaws.{refusals_have_numbers}
 use Rattle.report.proofs.PutLaws.{put_front}
-use Rattle.report.proofs.ReportLaws.{Told, refusal_is, told_listable}
-use Rattle.picture.proofs.PictureLaws.{picture_refused, picture_drawn, told_points}
+use Rattle.picture.proofs.PictureLaws.{picture_refused, picture_drawn}
 use Rattle.picture.proofs.inner.drawing.draw.Goals as goal
 
--- the file is judged, and the room for its points
-told : (c : goal.After-put_line-arg-then-refusal-ne0-2-1) →
-    Told c.is_second-second.result c.args.bytes.now c.judge-file.result c.or_room-refusal.result
-told c =
-    record { own = c.is_second-second.ensures; judgement = c.judge-file.ensures; with_room = c.or_room-refusal.ensures }
-
--- the file is judged, and the room for its points
-told_2 : (c : goal.After-slice_known-then-refusal-ne0-1) →
-    Told c.is_second-second.result c.args.bytes.now c.judge-file.result c.or_room-refusal.result
-told_2 c =
-    record { own = c.is_second-second.ensures; judgement = c.judge-file.ensures; with_room = c.or_room-refusal.ensures }
-
--- the file is judged, and the room for its points
-told_3 : (c : goal.After-put_job-arg-1) →
-    Told c.is_second-second.result c.args.bytes.now c.judge-file.result c.or_room-refusal.result
-told_3 c =
-    record { own = c.is_second-second.ensures; judgement = c.judge-file.ensures; with_room = c.or_room-refusal.ensures }
-
--- the file is judged, and the room for its points
-told_4 : (c : goal.After-slice_known-2-1) →
-    Told c.is_second-second.result c.args.bytes.now c.judge-file.result c.or_room-refusal.result
-told_4 c =
-    record { own = c.is_second-second.ensures; judgement = c.judge-file.ensures; with_room = c.or_room-refusal.ensures }
-
-pub judge-file-requires : goal.judge-file-requires
-judge-file-requires c = c.is_second-second.ensures
+pub put_job-requires-clause-bytes_in_bounds : goal.put_job-requires-clause-bytes_in_bounds
+put_job-requires-clause-bytes_in_bounds c = rw (picture_drawn _ (sym c.in-Ok.ensures.refusal)) at c.requires
 
 pub put_line-requires : goal.put_line-requires
 put_line-requires c =
-    omega (arith, rw (picture_refused _ _ (refusal_is (told c)) c.if-refusal-ne0.true) at c.requires)
+    rw (c.from.ensures, c.number.ensures)
+    (omega (arith, rw (picture_refused _ _ c.in-Err.ensures.refusal (refusals_have_numbers _)) at c.requires))
 
-pub returns-then-refusal-ne0 : goal.returns-then-refusal-ne0
-returns-then-refusal-ne0 c =
-    rw (picture_refused _ _ (refusal_is (told_2 c)) c.if-refusal-ne0.true) (put_front c.put_line.ensures)
+pub returns-in-Ok : goal.returns-in-Ok
+returns-in-Ok c = rw (picture_drawn _ (sym c.in-Ok.ensures.refusal)) (put_front c.put_job.ensures)
 
-pub put_job-requires : goal.put_job-requires
-put_job-requires c =
-    let z = c.if-refusal-ne0.false in
-    record { second_value = ((told_3 c).own, told_listable (told_3 c) z, told_points (told_3 c) z); bytes_in_bounds = rw (picture_drawn _ (sym (refusal_is (told_3 c)) ∙ z)) at c.requires }
-
-pub returns : goal.returns
-returns c =
-    rw (picture_drawn _ (sym (refusal_is (told_4 c)) ∙ c.if-refusal-ne0.false)) (put_front c.put_job.ensures)
+pub returns-in-Err : goal.returns-in-Err
+returns-in-Err c =
+    rw (picture_refused _ _ c.in-Err.ensures.refusal (refusals_have_numbers _)) (put_front (rw (c.from.ensures, c.number.ensures) at c.put_line.ensures))

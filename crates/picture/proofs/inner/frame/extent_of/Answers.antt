@@ -14,26 +14,13 @@ pub returns-then-n-eq0 : goal.returns-then-n-eq0
 returns-then-n-eq0 c =
     (sym (widening_none c.requires c.if-n-eq0.true), (origin_on, origin_on))
 
-pub point_at-first-requires : goal.point_at-first-requires
-point_at-first-requires c =
-    omega (arith, c.requires.even, c.if-n-eq0.false)
-
 pub loop-i-init : goal.loop-i-init
 loop-i-init c =
     rw c.point_at-first.ensures (widening_first c.requires (omega (arith, c.if-n-eq0.false)))
 
-pub point_at-requires : goal.point_at-requires
-point_at-requires c = omega (arith, c.requires.even, c.loop-i-test.true)
-
 pub widened-e-requires : goal.widened-e-requires
 widened-e-requires c =
     (c.loop-i.invariant.on, rw c.point_at.ensures (at_on limit c.args.points.now c.loop-i.i c.requires.on))
-
-pub overflow_add-i : goal.overflow_add-i
-overflow_add-i c = omega (arith, c.loop-i-test.true)
-
-pub loop-i-smaller : goal.loop-i-smaller
-loop-i-smaller c = omega (arith, c.loop-i-test.true)
 
 pub loop-i-preserved : goal.loop-i-preserved
 loop-i-preserved c =
@@ -42,4 +29,4 @@ loop-i-preserved c =
 
 pub returns : goal.returns
 returns c =
-    (widening_all c.requires c.loop-i.invariant c.loop-i-test.false, c.loop-i.invariant.on)
+    (widening_all c.requires c.loop-i.invariant (omega arith), c.loop-i.invariant.on)

@@ -1,10 +1,7 @@
-use Prim.Native.Nat.{◌-◌, ◌/◌}
+use Prim.Native.Nat.{◌/◌}
 use lib.ListN.{length}
 use Rattle.picture.proofs.ExtentLaws.{Widening}
 use Rattle.picture.proofs.inner.frame.extent_of.Given as goal
 
 abbrev pub invariant-loop-i : goal.invariant-loop-i
 invariant-loop-i l = Widening l.points (length l.points / 2) l.e l.i
-
-abbrev pub decreases-loop-i : goal.decreases-loop-i
-decreases-loop-i l = length l.points / 2 - l.i

@@ -10,16 +10,15 @@ use Rattle.picture.specs.inside.Parts.{Small}
 use Rattle.picture.proofs.ExtentLaws.{apart_back, sizes_small}
 use Rattle.picture.proofs.inner.frame.sizes_of.Goals as goal
 
--- src/inner/frame.rt:100:1
 pub returns : goal.returns
 returns c =
     let k = c.requires in
     let w =
-    c.magnitude-width.ensures
+    c.unsigned_abs-width.ensures.value
     ∙ ap nat_abs (apart_back _ _ _ (x_on limit _ k.0) (x_on limit _ k.1) (ap (λ (u : Edge). u.dx) c.between-across.ensures)) in
     let h =
-    c.magnitude-height.ensures
+    c.unsigned_abs-height.ensures.value
     ∙ ap nat_abs (apart_back _ _ _ (y_on limit _ k.0) (y_on limit _ k.1) (ap (λ (u : Edge). u.dy) c.between-across.ensures)) in
     let is =
-    ap (λ (l : ℕ). record { width = c.magnitude-width.result; height = c.magnitude-height.result; letter = l }) c.letter.ensures ∙ ap₂ sizes_by w h in
+    ap (λ (l : ℕ). record { width = c.unsigned_abs-width.result; height = c.unsigned_abs-height.result; letter = l }) c.letter.ensures ∙ ap₂ sizes_by w h in
     (is, subst Small (sym is) (sizes_small c.args.e k))

@@ -1,38 +1,8 @@
 -- `picture::inner::outlines::put_outline` meets its contract: M, the coordinates and Z, or nothing.
-use mathlib.Core.List.{[], ◌∷◌}
-use Rattle.report.proofs.PutLaws.{Going, going_none, going_room, going_more, going_all}
-use Rattle.picture.specs.Picture.{coordinates, outline}
+use Rattle.report.proofs.PutLaws.{going_none, going_room, going_more, going_all}
 use Rattle.vertices.proofs.DotLaws.{nothing_put}
 use Rattle.picture.proofs.PartLaws.{outline_none, outline_words}
 use Rattle.picture.proofs.inner.outlines.put_outline.Goals as goal
-
--- the words are to be put
-going : (c : goal.After-put-arg-3-1) →
-    let s = c.args in
-    Going s.at (outline s.contour.now) s.text.now s.at s.text.now ((77 ∷ []) ∷ coordinates s.contour.now ∷ (90 ∷ []) ∷ [])
-going c =
-    going_none c.args.at c.args.text.now _ (outline_words c.args.contour.now c.if-contour-eq0.false) c.requires.contour_in_bounds
-
--- the words are to be put
-going_2 : (c : goal.After-put_coordinates-arg-1) →
-    let s = c.args in
-    Going s.at (outline s.contour.now) s.text.now s.at s.text.now ((77 ∷ []) ∷ coordinates s.contour.now ∷ (90 ∷ []) ∷ [])
-going_2 c =
-    going_none c.args.at c.args.text.now _ (outline_words c.args.contour.now c.if-contour-eq0.false) c.requires.contour_in_bounds
-
--- the words are to be put
-going_3 : (c : goal.After-put-arg-6-1) →
-    let s = c.args in
-    Going s.at (outline s.contour.now) s.text.now s.at s.text.now ((77 ∷ []) ∷ coordinates s.contour.now ∷ (90 ∷ []) ∷ [])
-going_3 c =
-    going_none c.args.at c.args.text.now _ (outline_words c.args.contour.now c.if-contour-eq0.false) c.requires.contour_in_bounds
-
--- the words are to be put
-going_4 : (c : goal.After-slice_known-4-1) →
-    let s = c.args in
-    Going s.at (outline s.contour.now) s.text.now s.at s.text.now ((77 ∷ []) ∷ coordinates s.contour.now ∷ (90 ∷ []) ∷ [])
-going_4 c =
-    going_none c.args.at c.args.text.now _ (outline_words c.args.contour.now c.if-contour-eq0.false) c.requires.contour_in_bounds
 
 pub returns-then-contour-eq0 : goal.returns-then-contour-eq0
 returns-then-contour-eq0 c =
@@ -40,16 +10,16 @@ returns-then-contour-eq0 c =
     rw (outline_none s.contour.now c.if-contour-eq0.true) (nothing_put s.at s.text.now)
 
 pub put-second-requires : goal.put-second-requires
-put-second-requires c = going_room (going c)
+put-second-requires c = going_room (going_none c.args.at c.args.text.now _ (outline_words c.args.contour.now c.if-contour-eq0.false) c.requires.contour_in_bounds)
 
-pub put_coordinates-third-requires : goal.put_coordinates-third-requires
-put_coordinates-third-requires c =
-    record { contour_value = c.requires.contour_value; contour_in_bounds = going_room (going_more (going_2 c) c.put-second.ensures) }
+pub put_coordinates-third-requires-clause-contour_in_bounds : goal.put_coordinates-third-requires-clause-contour_in_bounds
+put_coordinates-third-requires-clause-contour_in_bounds c =
+    going_room (going_more (going_none c.args.at c.args.text.now _ (outline_words c.args.contour.now c.if-contour-eq0.false) c.requires.contour_in_bounds) c.put-second.ensures)
 
 pub put-requires : goal.put-requires
 put-requires c =
-    going_room (going_more (going_more (going_3 c) c.put-second.ensures) c.put_coordinates-third.ensures)
+    going_room (going_more (going_more (going_none c.args.at c.args.text.now _ (outline_words c.args.contour.now c.if-contour-eq0.false) c.requires.contour_in_bounds) c.put-second.ensures) c.put_coordinates-third.ensures)
 
 pub returns : goal.returns
 returns c =
-    going_all (going_more (going_more (going_more (going_4 c) c.put-second.ensures) c.put_coordinates-third.ensures) c.put.ensures)
+    going_all (going_more (going_more (going_more (going_none c.args.at c.args.text.now _ (outline_words c.args.contour.now c.if-contour-eq0.false) c.requires.contour_in_bounds) c.put-second.ensures) c.put_coordinates-third.ensures) c.put.ensures)

@@ -1,66 +1,25 @@
 -- `pool::inner::adding::add_surveyed` meets its contract.
-use mathlib.Core.Path.{◌∙◌, ap}
-use native.Mathlib.Omega.{arith}
-use Rattle.pool.specs.Outcome.{leaving}
-use Rattle.pool.proofs.CallLaws.{shares_small, Asked, add_refused, add_holds, add_fits, add_done, grown_not}
+use Rattle.std.proofs.lemmas.Result.{err_from_is_err_and}
+use Rattle.std.proofs.Common.{refl, arith}
+use Rattle.replies.proofs.RefusalLaws.{refusals_have_numbers}
+use Rattle.pool.proofs.CallLaws.{shares_small, asked, add_not, add_holds, add_fits, add_done}
 use Rattle.pool.proofs.inner.adding.add_surveyed.Goals as goal
 
--- what is asked of the contour, the pool and the room
-asked : (c : goal.Then-refused-ne0) →
-    let s = c.args in
-    Asked s.points.now s.records.now s.n s.second s.contour.now s.found c.refusal-refused.result
-asked c = record {
-  survey = c.requires;
-  m = _;
-  o = _;
-  mine = c.share-mine.ensures;
-  others = c.share-others.ensures;
-  reply = c.refusal-refused.ensures;
-}
-
--- what is asked of the contour, the pool and the room
-asked_2 : (c : goal.After-append-arg-2-1) →
-    let s = c.args in
-    Asked s.points.now s.records.now s.n s.second s.contour.now s.found c.refusal-refused.result
-asked_2 c = record {
-  survey = c.requires;
-  m = _;
-  o = _;
-  mine = c.share-mine.ensures;
-  others = c.share-others.ensures;
-  reply = c.refusal-refused.ensures;
-}
-
--- what is asked of the contour, the pool and the room
-asked_3 : (c : goal.After-records-1) →
-    let s = c.args in
-    Asked s.points.now s.records.now s.n s.second s.contour.now s.found c.refusal-refused.result
-asked_3 c = record {
-  survey = c.requires;
-  m = _;
-  o = _;
-  mine = c.share-mine.ensures;
-  others = c.share-others.ensures;
-  reply = c.refusal-refused.ensures;
-}
-
-pub refusal-refused-requires : goal.refusal-refused-requires
-refusal-refused-requires c =
+pub check-requires : goal.check-requires
+check-requires c =
     λ e. let h = shares_small _ c.args.found c.requires c.args.second e in (omega (arith, h.0, c.share-mine.ensures), omega (arith, h.1, c.share-others.ensures))
 
-pub returns-then-refused-ne0 : goal.returns-then-refused-ne0
-returns-then-refused-ne0 c =
-    let s = c.args in
-    ap (leaving _ s.points.now s.records.now) (grown_not _ s.n c.if-refused-ne0.true) ∙ add_refused (asked c) s.tool c.if-refused-ne0.true
+pub returns-in_err-check : goal.returns-in_err-check
+returns-in_err-check c =
+    let p = err_from_is_err_and c.from_residual.result c.from_residual.ensures.1 in
+    rw (p.1, p.2) (add_not (asked c.requires c.share-mine.ensures c.share-others.ensures c.in_err-check.ensures) c.args.tool (refusals_have_numbers _))
 
 pub append-requires : goal.append-requires
 append-requires c =
-    let judged = asked_2 c in
-    let s = c.args in
-    record { holds = add_holds judged s.tool c.if-refused-ne0.false; contour_in_bounds = add_fits judged s.tool c.if-refused-ne0.false }
+    let judged = asked c.requires c.share-mine.ensures c.share-others.ensures c.in_ok-check.ensures in
+    record { holds = add_holds judged c.args.tool refl; contour_in_bounds = add_fits judged c.args.tool refl }
 
 pub returns : goal.returns
 returns c =
-    let s = c.args in
-    add_done (asked_3 c) s.tool c.if-refused-ne0.false _ c.append.new.points c.append.new.records
+    add_done (asked c.requires c.share-mine.ensures c.share-others.ensures c.in_ok-check.ensures) c.args.tool refl _ c.append.new.points c.append.new.records
     c.number-press.ensures c.append.ensures

@@ -1,5 +1,5 @@
 -- `pool::inner::adding::full` meets its contract.
-use native.Mathlib.Omega.{arith}
+use Rattle.std.proofs.Common.{arith}
 use Rattle.grid.specs.Limits.{most}
 use Rattle.pool.proofs.inner.adding.full.Goals as goal
 

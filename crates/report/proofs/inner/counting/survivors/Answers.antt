@@ -1,19 +1,14 @@
--- `report::inner::counting::survivors` meets its contract: those before the position are counted.
-use native.Mathlib.Omega.{arith}
-use Rattle.report.proofs.CountLaws.{counted_none, counted_more, counted_past, counted_all}
+-- `report::inner::counting::survivors` meets its contract: those that stand are the marks below 2.
+use mathlib.Core.Path.{◌≡◌, sym, ◌∙◌}
+use lib.Dec.{ltb}
+use borrow.Author.Rules.{rules}
+use Rattle.std.specs.List.{count_by}
+use Rattle.std.proofs.lemmas.List.Sums.{sum-map}
+use Rattle.std.proofs.iter.runs.Made.{chains}
+use Rattle.report.proofs.CountLaws.{survivors-count}
 use Rattle.report.proofs.inner.counting.survivors.Goals as goal
 
-pub loop-i-init : goal.loop-i-init
-loop-i-init c = counted_none _
-
-pub overflow_add-kept : goal.overflow_add-kept
-overflow_add-kept c = omega (arith, c.loop-i.invariant.low, c.loop-i-test.true, c.requires)
-
-pub loop-i-preserved-then-mark-i-lt2 : goal.loop-i-preserved-then-mark-i-lt2
-loop-i-preserved-then-mark-i-lt2 c = counted_more c.loop-i.invariant c.loop-i-test.true c.if-mark-i-lt2.true
-
-pub loop-i-preserved : goal.loop-i-preserved
-loop-i-preserved c = counted_past c.loop-i.invariant c.loop-i-test.true c.if-mark-i-lt2.false
-
 pub returns : goal.returns
-returns c = counted_all c.loop-i.invariant c.loop-i-test.false
+returns c =
+    let counted : c.sum-kept.result ≡ count_by (λ m. ltb m 2) c.args.mark.now = search (rules, chains, sum-map) in
+    c.from.ensures ∙ counted ∙ sym (survivors-count 0 c.args.mark.now)

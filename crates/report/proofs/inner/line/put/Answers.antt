@@ -1,27 +1,10 @@
 -- `report::inner::line::put` meets its contract: what is answered of the contour makes its line.
-use mathlib.Core.Path.{◌≡◌, sym}
+use mathlib.Core.Path.{sym}
 use mathlib.Core.List.{[]}
 use lib.Seq.{length-take-le}
 use Rattle.report.proofs.LineLaws.{line_is, lent_parts}
-use Rattle.report.specs.Listing.{line, rule_of}
-use Rattle.report.specs.inside.Lines.{figures}
+use Rattle.report.specs.Listing.{rule_of}
 use Rattle.report.proofs.inner.line.put.Goals as goal
-
--- the figures that the walk's answer gives make the line
-figured : (c : goal.After-put_figures-arg-1) →
-    let s = c.args in
-    figures s.k s.contour.now c.answer-cleaned.result ≡ line (rule_of s.second) s.k s.contour.now
-figured c =
-    let s = c.args in
-    line_is (rule_of s.second) s.k s.contour.now [] _ c.answer-cleaned.ensures
-
--- the figures that the walk's answer gives make the line
-figured_2 : (c : goal.After-slice_known-8-1) →
-    let s = c.args in
-    figures s.k s.contour.now c.answer-cleaned.result ≡ line (rule_of s.second) s.k s.contour.now
-figured_2 c =
-    let s = c.args in
-    line_is (rule_of s.second) s.k s.contour.now [] _ c.answer-cleaned.ensures
 
 pub slice_bounds-answer-end-2 : goal.slice_bounds-answer-end-2
 slice_bounds-answer-end-2 c =
@@ -42,8 +25,8 @@ answer-cleaned-requires c =
 
 pub put_figures-requires : goal.put_figures-requires
 put_figures-requires c =
-    record { contour = c.requires.cleanable.contour; cleaned_in_bounds = rw (figured c) c.requires.contour_in_bounds }
+    record { contour = c.requires.cleanable.contour; cleaned_in_bounds = rw (line_is (rule_of c.args.second) c.args.k c.args.contour.now [] _ c.answer-cleaned.ensures) c.requires.contour_in_bounds }
 
 pub returns : goal.returns
 returns c =
-    rw (figured_2 c) at c.put_figures.ensures
+    rw (line_is (rule_of c.args.second) c.args.k c.args.contour.now [] _ c.answer-cleaned.ensures) at c.put_figures.ensures

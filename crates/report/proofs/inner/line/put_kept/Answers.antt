@@ -3,17 +3,13 @@ use Rattle.report.proofs.LineLaws.{kept_count, kept_none}
 use Rattle.report.proofs.inner.line.put_kept.Goals as goal
 
 pub put_cell-requires : goal.put_cell-requires
-put_cell-requires c =
-    rw (kept_count c.args.cleaned c.if-cleaned-eq0.true) at c.requires
+put_cell-requires c = rw (kept_count c.args.cleaned.decisions c.args.cleaned.turns c.in-Some.is) at c.requires
 
-pub returns-then-cleaned-eq0 : goal.returns-then-cleaned-eq0
-returns-then-cleaned-eq0 c =
-    rw (kept_count c.args.cleaned c.if-cleaned-eq0.true) c.put_cell.ensures
+pub returns-in-Some : goal.returns-in-Some
+returns-in-Some c = rw (kept_count c.args.cleaned.decisions c.args.cleaned.turns c.in-Some.is) c.put_cell.ensures
 
 pub put-requires : goal.put-requires
-put-requires c =
-    rw (kept_none c.args.cleaned c.if-cleaned-eq0.false) at c.requires
+put-requires c = rw (kept_none c.args.cleaned.decisions c.args.cleaned.turns c.in-None.is) at c.requires
 
-pub returns : goal.returns
-returns c =
-    rw (kept_none c.args.cleaned c.if-cleaned-eq0.false) c.put.ensures
+pub returns-in-None : goal.returns-in-None
+returns-in-None c = rw (kept_none c.args.cleaned.decisions c.args.cleaned.turns c.in-None.is) c.put.ensures

@@ -16,9 +16,6 @@ returns-then-bytes-lt2 c =
     let f = c.args.bytes.now in
     (omega (arith, listing_promised f, promised_fewer f c.if-bytes-lt2.true), omega arith)
 
-pub promised-requires : goal.promised-requires
-promised-requires c = c.if-bytes-lt2.false
-
 pub overflow_mul-result : goal.overflow_mul-result
 overflow_mul-result c = omega (arith, (bounded c).1)
 

@@ -1,9 +1,5 @@
-use Prim.Native.Nat.{◌-◌}
 use Rattle.salvage.proofs.SiftLaws.{Sifting}
 use Rattle.salvage.proofs.inner.sifting.contours.Given as goal
 
 abbrev pub invariant-loop-i : goal.invariant-loop-i
 invariant-loop-i l = Sifting l.bytes l.n l.initial.out l.initial.list l.i l.s l.out l.list
-
-abbrev pub decreases-loop-i : goal.decreases-loop-i
-decreases-loop-i l = l.n - l.i

@@ -1,11 +1,8 @@
-use Rattle.std.proofs.Common.{◌≡◌, ◌+◌, ◌-◌, ◌*◌, ◌≤◌, ◌&&◌, drop}
-use Rattle.grid.specs.Limits.{narrow, all_on_grid}
-use Rattle.setfile.specs.inside.Bytes.{decoded}
+use Rattle.std.proofs.Common.{◌≡◌, ℕ, List, take}
+use Rattle.std.specs.List.{list_all}
+use Rattle.grid.specs.Limits.{narrow, on_grid}
+use Rattle.setfile.specs.inside.Bytes.{coordinate}
 use Rattle.setfile.proofs.inner.fields.each_on.Given as goal
 
-abbrev pub invariant-loop-i : goal.invariant-loop-i
-invariant-loop-i l =
-    (l.i ≤ l.k) × (all_on_grid narrow (decoded l.k (drop l.at l.bytes)) ≡ (l.all && all_on_grid narrow (decoded (l.k - l.i) (drop (l.at + 4 * l.i) l.bytes))))
-
-abbrev pub decreases-loop-i : goal.decreases-loop-i
-decreases-loop-i l = l.k - l.i
+abbrev pub invariant-loop-word : goal.invariant-loop-word
+invariant-loop-word l = l.all ≡ list_all (λ (w : List ℕ). on_grid narrow (coordinate w)) (take l.word-index l.words)

@@ -1,105 +1,53 @@
 -- `setfile::inner::filling::begun_shapes` meets its contract: the shape that is met is written where the next begins, and the last at the end.
-use Rattle.std.proofs.Common.{◌≡◌, ◌<◌, length, arith, length-set}
-use Rattle.setfile.specs.inside.Reading.{Whole}
+use Rattle.std.proofs.Common.{◌≡◌, arith}
 use Rattle.setfile.proofs.ContourLaws.{whole_small, whole_ends}
 use Rattle.setfile.proofs.RestLaws.{first_whole}
 use Rattle.setfile.proofs.FillLaws.{contour_there}
 use Rattle.setfile.proofs.ShapeFillLaws.{shapes_room, shapes_next, shapes_done, shapes_first}
 use Rattle.setfile.proofs.inner.filling.begun_shapes.Goals as goal
 
--- the first contour is all there
-first : (c : goal.After-shared_slice_known-1) → let s = c.args in Whole s.second s.bytes.now 16
-first c = first_whole c.requires.0 c.requires.1
-
--- the first contour is all there
-first_2 : (c : goal.After-header_at-first) → let s = c.args in Whole s.second s.bytes.now 16
-first_2 c = first_whole c.requires.0 c.requires.1
-
--- the first contour is all there
-first_3 : (c : goal.After-size-at) → let s = c.args in Whole s.second s.bytes.now 16
-first_3 c = first_whole c.requires.0 c.requires.1
-
--- and so is every other
-there : (c : goal.In-loop-i) →
-    let s = c.args in
-    Whole s.second s.bytes.now c.loop-i.at
-there c = contour_there c.loop-i.invariant.2 c.loop-i-test.true
-
--- and so is every other
-there_2 : (c : goal.After-groups-1) →
-    let s = c.args in
-    Whole s.second s.bytes.now c.loop-i.at
-there_2 c = contour_there c.loop-i.invariant.2 c.loop-i-test.true
-
--- and so is every other
-there_3 : (c : goal.After-size-at-in-loop-i) →
-    let s = c.args in
-    Whole s.second s.bytes.now c.loop-i.at
-there_3 c = contour_there c.loop-i.invariant.2 c.loop-i-test.true
-
--- the range of the shape that is met has room
-roomy : (c : goal.After-begin-arg-1) → c.loop-i.shape.number < length c.loop-i.groups
-roomy c = shapes_room _ c.loop-i.invariant.2 c.loop-i.invariant.1
-
--- the range of the shape that is met has room
-roomy_2 : (c : goal.After-loop-i) → c.loop-i.shape.number < length c.loop-i.groups
-roomy_2 c = shapes_room _ c.loop-i.invariant.2 c.loop-i.invariant.1
-
 pub header_at-first-requires : goal.header_at-first-requires
-header_at-first-requires c = ((first c).here, (first c).headed)
+header_at-first-requires c = let w = first_whole c.requires.0 c.requires.1 in (w.here, w.headed)
 
 pub size-at-requires : goal.size-at-requires
-size-at-requires c = whole_small (first_2 c) _ c.header_at-first.ensures
+size-at-requires c = whole_small (first_whole c.requires.0 c.requires.1) _ c.header_at-first.ensures
 
 pub overflow_add-at : goal.overflow_add-at
 overflow_add-at c =
-    let w = first_3 c in
+    let w = first_whole c.requires.0 c.requires.1 in
     omega (arith, whole_ends w _ c.header_at-first.ensures _ c.size-at.ensures, w.here.short)
 
 pub loop-i-init : goal.loop-i-init
 loop-i-init c =
     let s = c.args in
     let p = c.requires in
-    (p.1, omega arith, shapes_first s.second s.bytes.now s.n s.groups.now p.0 p.1 p.2 _ c.header_at-first.ensures _ c.size-at.ensures)
+    (omega arith, shapes_first s.second s.bytes.now s.n s.groups.now p.0 p.1 p.2 _ c.header_at-first.ensures _ c.size-at.ensures)
 
 pub header_at-h-requires : goal.header_at-h-requires
-header_at-h-requires c = ((there c).here, (there c).headed)
+header_at-h-requires c = let w = contour_there c.loop-i.invariant.1 c.loop-i-test.true in (w.here, w.headed)
 
 pub begin-shape-requires : goal.begin-shape-requires
-begin-shape-requires c = roomy c
+begin-shape-requires c = shapes_room _ c.loop-i.invariant.1 c.loop-i.invariant.0
 
 pub size-at-requires-in-loop-i : goal.size-at-requires-in-loop-i
-size-at-requires-in-loop-i c = whole_small (there_2 c) _ c.header_at-h.ensures
+size-at-requires-in-loop-i c = whole_small (contour_there c.loop-i.invariant.1 c.loop-i-test.true) _ c.header_at-h.ensures
 
 pub overflow_add-at-in-loop-i : goal.overflow_add-at-in-loop-i
 overflow_add-at-in-loop-i c =
-    let w = there_3 c in
+    let w = contour_there c.loop-i.invariant.1 c.loop-i-test.true in
     omega (arith, whole_ends w _ c.header_at-h.ensures _ c.size-at-in-loop-i.ensures, w.here.short)
-
-pub overflow_add-i : goal.overflow_add-i
-overflow_add-i c =
-    omega (arith, c.loop-i-test.true, c.ranges.n)
-
-pub loop-i-smaller : goal.loop-i-smaller
-loop-i-smaller c = omega (arith, c.loop-i-test.true)
 
 pub loop-i-preserved : goal.loop-i-preserved
 loop-i-preserved c =
     let l = c.loop-i in
     let e = c.begin-shape.ensures in
-    let next = shapes_next _ l.invariant.2 l.invariant.1 c.loop-i-test.true _ c.header_at-h.ensures _ c.size-at-in-loop-i.ensures _ _ e.0 e.1 in
-    (omega (arith, c.loop-i-test.true), next.0, next.1)
-
-pub offset_bounds-groups-k : goal.offset_bounds-groups-k
-offset_bounds-groups-k c = omega (arith, roomy_2 c, c.loop-i.invariant.2.ahead.long)
+    let next = shapes_next _ l.invariant.1 l.invariant.0 c.loop-i-test.true _ c.header_at-h.ensures _ c.size-at-in-loop-i.ensures _ _ e.0 e.1 in
+    next
 
 pub bounds-groups-k : goal.bounds-groups-k
-bounds-groups-k c = roomy_2 c
-
-pub shape_of-groups : goal.shape_of-groups
-shape_of-groups c = simp length-set c.loop-i.invariant.2.ahead.long
+bounds-groups-k c = shapes_room _ c.loop-i.invariant.1 c.loop-i.invariant.0
 
 pub returns : goal.returns
 returns c =
     let done : c.loop-i.i ≡ c.args.n = omega arith in
-    shapes_done _ c.loop-i.invariant.2 c.loop-i.invariant.1 done
+    shapes_done _ c.loop-i.invariant.1 c.loop-i.invariant.0 done

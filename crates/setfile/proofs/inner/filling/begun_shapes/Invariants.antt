@@ -1,4 +1,4 @@
-use Rattle.std.proofs.Common.{◌-◌, ◌≤◌}
+use Rattle.std.proofs.Common.{◌≤◌}
 use Rattle.rows.specs.Rows.{front}
 use Rattle.buffer.specs.Spans.{rows}
 use Rattle.buffer.specs.Sets.{shape_spans}
@@ -10,9 +10,6 @@ use Rattle.setfile.proofs.inner.filling.begun_shapes.Given as goal
 
 abbrev pub invariant-loop-i : goal.invariant-loop-i
 invariant-loop-i l =
-    (l.i ≤ l.n) × (l.shape.from ≤ l.i)
+    (l.shape.from ≤ l.i)
     × Filling l.second l.bytes l.n l.initial.groups (front (rows (shape_spans (shapes_of (contained l.bytes)))) l.initial.groups)
     (shapes_made l.shape.from l.i) l.i l.at l.shape.number l.groups
-
-abbrev pub decreases-loop-i : goal.decreases-loop-i
-decreases-loop-i l = l.n - l.i

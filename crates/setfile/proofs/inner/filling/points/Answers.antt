@@ -1,98 +1,49 @@
 -- `setfile::inner::filling::points` meets its contract: the rest of the file makes what is still to be written.
-use Rattle.std.proofs.Common.{◌≡◌, ◌+◌, ◌*◌, ◌≤◌, length, refl, ap, arith}
+use Rattle.std.proofs.Common.{◌≡◌, refl, ap, arith}
 use Rattle.buffer.specs.Sets.{joined}
 use Rattle.setfile.specs.declared.inner.headers.Header.{Header}
-use Rattle.setfile.specs.inside.Reading.{Whole}
 use Rattle.setfile.proofs.ContourLaws.{whole_small, whole_ends}
 use Rattle.setfile.proofs.FillLaws.{filling_all, filling_done, points_made, coming, contour_there, points_room, points_more}
 use Rattle.setfile.proofs.inner.filling.points.Goals as goal
 
--- the contour that is met is all there
-there : (c : goal.In-loop-i) →
-    let s = c.args in
-    Whole s.second s.bytes.now c.loop-i.at
-there c = contour_there c.loop-i.invariant.1 c.loop-i-test.true
-
--- the contour that is met is all there
-there_2 : (c : goal.After-put-arg-1) →
-    let s = c.args in
-    Whole s.second s.bytes.now c.loop-i.at
-there_2 c = contour_there c.loop-i.invariant.1 c.loop-i-test.true
-
--- the contour that is met is all there
-there_3 : (c : goal.After-out-1) →
-    let s = c.args in
-    Whole s.second s.bytes.now c.loop-i.at
-there_3 c = contour_there c.loop-i.invariant.1 c.loop-i-test.true
-
--- the contour that is met is all there
-there_4 : (c : goal.After-size-at) →
-    let s = c.args in
-    Whole s.second s.bytes.now c.loop-i.at
-there_4 c = contour_there c.loop-i.invariant.1 c.loop-i-test.true
-
--- the contour that is met is all there
-there_5 : (c : goal.After-struct_known-1) →
-    let s = c.args in
-    Whole s.second s.bytes.now c.loop-i.at
-there_5 c = contour_there c.loop-i.invariant.1 c.loop-i-test.true
-
--- and its points have room
-roomy : (c : goal.After-put-arg-1) → let l = c.loop-i in l.to + 2 * c.header_at-h.result.count ≤ length l.out
-roomy c =
-    omega (arith, points_room c.loop-i.invariant.1 c.loop-i-test.true, ap (λ (h : Header). h.count) c.header_at-h.ensures)
-
--- and its points have room
-roomy_2 : (c : goal.After-struct_known-1) → let l = c.loop-i in l.to + 2 * c.header_at-h.result.count ≤ length l.out
-roomy_2 c =
-    omega (arith, points_room c.loop-i.invariant.1 c.loop-i-test.true, ap (λ (h : Header). h.count) c.header_at-h.ensures)
-
-pub loop-i-init : goal.loop-i-init
-loop-i-init c =
-    (omega arith, filling_all points_made c.args.second c.args.bytes.now c.args.n c.args.out.now c.requires.0 c.requires.1)
+pub loop-init : goal.loop-init
+loop-init c =
+    filling_all points_made c.args.second c.args.bytes.now c.args.n c.args.out.now c.requires.0 c.requires.1
 
 pub header_at-h-requires : goal.header_at-h-requires
-header_at-h-requires c = ((there c).here, (there c).headed)
+header_at-h-requires c = let w = contour_there c.loop.invariant c.loop-test.true in (w.here, w.headed)
 
 pub put-requires : goal.put-requires
-put-requires c =
-    (there_2 c, c.header_at-h.ensures, (coming c.loop-i.invariant.1 c.loop-i-test.true).on, roomy c)
+put-requires c = (
+  contour_there c.loop.invariant c.loop-test.true,
+  c.header_at-h.ensures,
+  (coming c.loop.invariant c.loop-test.true).on,
+  omega (arith, points_room c.loop.invariant c.loop-test.true, ap (λ (h : Header). h.count) c.header_at-h.ensures),
+)
 
 pub size-at-requires : goal.size-at-requires
 size-at-requires c =
-    whole_small (there_3 c) _ c.header_at-h.ensures
+    whole_small (contour_there c.loop.invariant c.loop-test.true) _ c.header_at-h.ensures
 
 pub overflow_add-at : goal.overflow_add-at
 overflow_add-at c =
-    let w = there_4 c in
+    let w = contour_there c.loop.invariant c.loop-test.true in
     omega (arith, whole_ends w _ c.header_at-h.ensures _ c.size-at.ensures, w.here.short)
 
 pub overflow_mul-to : goal.overflow_mul-to
 overflow_mul-to c =
-    omega (arith, (whole_small (there_5 c) _ c.header_at-h.ensures).0)
+    omega (arith, (whole_small (contour_there c.loop.invariant c.loop-test.true) _ c.header_at-h.ensures).0)
 
 pub overflow_add-to : goal.overflow_add-to
 overflow_add-to c =
-    omega (arith, roomy_2 c, c.loop-i.invariant.1.ahead.long, c.well_formed)
+    omega (arith, points_room c.loop.invariant c.loop-test.true, ap (λ (h : Header). h.count) c.header_at-h.ensures, c.loop.invariant.ahead.long, c.well_formed)
 
-pub overflow_add-i : goal.overflow_add-i
-overflow_add-i c =
-    omega (arith, c.loop-i-test.true, c.ranges.n)
-
-pub loop-i-smaller : goal.loop-i-smaller
-loop-i-smaller c = omega (arith, c.loop-i-test.true)
-
-pub loop-i-preserved : goal.loop-i-preserved
-loop-i-preserved c = (
-  omega (arith, c.loop-i-test.true),
-  points_more c.loop-i.invariant.1 c.loop-i-test.true _ c.header_at-h.ensures _ c.size-at.ensures _ c.put.ensures,
-)
-
-pub shape_of-out : goal.shape_of-out
-shape_of-out c = c.loop-i.invariant.1.ahead.long
+pub loop-preserved : goal.loop-preserved
+loop-preserved c =
+    points_more c.loop.invariant c.loop-test.true _ c.header_at-h.ensures _ c.size-at.ensures _ c.put.ensures
 
 pub returns : goal.returns
 unfolding joined
 returns c =
-    let done : c.loop-i.i ≡ c.args.n = omega arith in
-    filling_done points_made c.loop-i.invariant.1 done refl
+    let done : c.loop.counter ≡ c.args.n = omega arith in
+    filling_done points_made c.loop.invariant done refl

@@ -1,4 +1,3 @@
-use Rattle.std.proofs.Common.{◌-◌, ◌≤◌}
 use Rattle.rows.specs.Rows.{front}
 use Rattle.buffer.specs.Sets.{joined}
 use Rattle.setfile.specs.Entries.{contours_of}
@@ -6,9 +5,6 @@ use Rattle.setfile.specs.inside.Reading.{contained}
 use Rattle.setfile.proofs.FillLaws.{Filling, points_made}
 use Rattle.setfile.proofs.inner.filling.points.Given as goal
 
-abbrev pub invariant-loop-i : goal.invariant-loop-i
-invariant-loop-i l =
-    (l.i ≤ l.n) × Filling l.second l.bytes l.n l.initial.out (front (joined (contours_of (contained l.bytes))) l.initial.out) points_made l.i l.at l.to l.out
-
-abbrev pub decreases-loop-i : goal.decreases-loop-i
-decreases-loop-i l = l.n - l.i
+abbrev pub invariant-loop : goal.invariant-loop
+invariant-loop l =
+    Filling l.second l.bytes l.n l.initial.out (front (joined (contours_of (contained l.bytes))) l.initial.out) points_made l.counter l.at l.to l.out

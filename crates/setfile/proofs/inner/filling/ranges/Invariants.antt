@@ -1,4 +1,4 @@
-use Rattle.std.proofs.Common.{◌-◌, ◌≤◌}
+use Rattle.std.proofs.Common.{◌≤◌}
 use Rattle.rows.specs.Rows.{front}
 use Rattle.buffer.specs.Spans.{rows}
 use Rattle.buffer.specs.Sets.{contour_spans}
@@ -9,8 +9,5 @@ use Rattle.setfile.proofs.inner.filling.ranges.Given as goal
 
 abbrev pub invariant-loop-i : goal.invariant-loop-i
 invariant-loop-i l =
-    (l.i ≤ l.n) × (l.start ≤ l.at)
+    (l.start ≤ l.at)
     × Filling l.second l.bytes l.n l.initial.records (front (rows (contour_spans (contours_of (contained l.bytes)))) l.initial.records) (contours_made l.start) l.i l.at l.i l.records
-
-abbrev pub decreases-loop-i : goal.decreases-loop-i
-decreases-loop-i l = l.n - l.i

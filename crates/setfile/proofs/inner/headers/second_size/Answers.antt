@@ -1,19 +1,9 @@
 -- `setfile::inner::headers::second_size` meets its contract.
-use Rattle.std.proofs.Common.{arith}
-use Rattle.setfile.proofs.HeaderLaws.{wide_steps, size_none, size_some}
+use Rattle.setfile.proofs.HeaderLaws.{size_none, size_some}
 use Rattle.setfile.proofs.inner.headers.second_size.Goals as goal
 
 pub returns-then-count-eq0 : goal.returns-then-count-eq0
 returns-then-count-eq0 c = let s = c.args in size_none s.count s.width c.if-count-eq0.true
-
-pub overflow_mul-result-2 : goal.overflow_mul-result-2
-overflow_mul-result-2 c = omega (arith, wide_steps c.args.count c.args.width c.requires.0 c.requires.1)
-
-pub overflow_add-result : goal.overflow_add-result
-overflow_add-result c = omega (arith, wide_steps c.args.count c.args.width c.requires.0 c.requires.1)
-
-pub overflow_add-result-2 : goal.overflow_add-result-2
-overflow_add-result-2 c = omega (arith, wide_steps c.args.count c.args.width c.requires.0 c.requires.1)
 
 pub returns : goal.returns
 returns c = let s = c.args in size_some s.count s.width c.if-count-eq0.false

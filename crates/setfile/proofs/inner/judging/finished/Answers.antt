@@ -1,39 +1,24 @@
 -- `setfile::inner::judging::finished` meets its contract.
-use Rattle.std.proofs.Common.{◌≡◌, sym, ap, ◌∙◌}
-use Rattle.replies.specs.Ladder.{first_of}
-use Rattle.setfile.specs.Layouts.{end_damage}
-use Rattle.setfile.specs.inside.Reading.{from_bit, on_or_refused}
+use Rattle.std.proofs.lemmas.Result.{err_from_is_err_and}
+use Rattle.replies.proofs.RefusalLaws.{refusals_have_numbers}
+use Rattle.std.proofs.Common.{sym, true, false}
+use borrow.Author.Tests.{not-true, not-false}
+use Rattle.setfile.specs.inside.Reading.{from_bit}
 use Rattle.setfile.proofs.JudgeLaws.{left_over, all_met}
 use Rattle.setfile.proofs.inner.judging.finished.Goals as goal
 
-pub end_fault-wrong-requires : goal.end_fault-wrong-requires
-end_fault-wrong-requires c = let p = c.requires in (p.here.short, p.here.within)
-
-pub returns-then-wrong-ne0 : goal.returns-then-wrong-ne0
-returns-then-wrong-ne0 c =
+pub returns-in_err-end_fault : goal.returns-in_err-end_fault
+returns-in_err-end_fault c =
     let s = c.args in
-    c.refused.ensures ∙ left_over s.second s.m s.n (from_bit s.bytes.now s.m.at) _ c.end_fault-wrong.ensures c.if-wrong-ne0.true
+    let p = err_from_is_err_and c.from_residual.result c.from_residual.ensures.1 in
+    rw (p.1, p.2) (left_over s.second s.m s.n (from_bit s.bytes.now s.m.at) _ c.in_err-end_fault.ensures (refusals_have_numbers _))
 
--- nothing stands behind the last contour
-ended : (c : goal.Then-m) →
+pub returns-then-not-m : goal.returns-then-not-m
+returns-then-not-m c =
     let s = c.args in
-    0 ≡ end_damage (from_bit s.bytes.now s.m.at)
-ended c = sym c.if-wrong-ne0.false ∙ c.end_fault-wrong.ensures
+    all_met s.second s.m s.n (from_bit s.bytes.now s.m.at) c.in_ok-end_fault.ensures false (sym (not-true _ c.if-not-m.true))
 
--- nothing stands behind the last contour
-ended_2 : (c : goal.Else-m) →
+pub returns : goal.returns
+returns c =
     let s = c.args in
-    0 ≡ end_damage (from_bit s.bytes.now s.m.at)
-ended_2 c = sym c.if-wrong-ne0.false ∙ c.end_fault-wrong.ensures
-
-pub returns-then-m : goal.returns-then-m
-unfolding first_of
-returns-then-m c =
-    let s = c.args in
-    all_met s.second s.m s.n (from_bit s.bytes.now s.m.at) (ended c) 0 (sym (ap on_or_refused c.if-m.true))
-
-pub returns-else-m : goal.returns-else-m
-unfolding first_of
-returns-else-m c =
-    let s = c.args in
-    all_met s.second s.m s.n (from_bit s.bytes.now s.m.at) (ended_2 c) 3 (sym (ap on_or_refused c.if-m.false))
+    all_met s.second s.m s.n (from_bit s.bytes.now s.m.at) c.in_ok-end_fault.ensures true (sym (not-false _ c.if-not-m.false))

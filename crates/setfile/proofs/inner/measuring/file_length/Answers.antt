@@ -15,59 +15,32 @@ use Rattle.setfile.proofs.inner.measuring.file_length.Goals as goal
 abbrev part : List ℤ → List (List ℕ) → ℕ → List ℤ
 part p cs k = contour p (span (get_or cs k []))
 
--- a contour that can be counted
-countable : (c : goal.After-named-contour) → let s = c.args in Countable (part s.points.now s.contours.now c.loop-k.k)
-countable c = (c.requires.0 _ c.loop-k-test.true).1
+narrow : {w : ℕ} (l : List ℤ) → w ≡ contour_width l → w ≤ 32
+narrow l e = rw e (width_within_32 (differences l))
 
--- a contour that can be counted
-countable_2 : (c : goal.After-width-width) → let s = c.args in Countable (part s.points.now s.contours.now c.loop-k.k)
-countable_2 c = (c.requires.0 _ c.loop-k-test.true).1
+-- the bits of a contour, as the code counts them: no more than those of 32,767 points of 64
+module _ {named c : List ℤ} (e : named ≡ c) where
+  sized : {w n : ℕ} → w ≡ contour_width named → n ≡ 22 + body_size (length named / 2) w → n ≡ written_size c
+  sized g h = h ∙ ap₂ (λ (n w : ℕ). 22 + body_size n w) (ap (λ (l : List ℤ). length l / 2) e) (g ∙ ap contour_width e)
 
--- a contour that can be counted
-countable_3 : (c : goal.After-second_size-bits) → let s = c.args in Countable (part s.points.now s.contours.now c.loop-k.k)
-countable_3 c = (c.requires.0 _ c.loop-k-test.true).1
-
-width_is : (c : goal.After-second_size-bits) → let s = c.args in
-    c.width-width.result ≡ contour_width (part s.points.now s.contours.now c.loop-k.k)
-width_is c = c.width-width.ensures ∙ ap contour_width (same_numbers c.named-contour.ensures)
-
-narrow : (c : goal.After-width-width) → c.width-width.result ≤ 32
-narrow c = rw c.width-width.ensures (width_within_32 (differences c.named-contour.result.now))
-
-sized : (c : goal.After-second_size-bits) → let s = c.args in
-    c.second_size-bits.result ≡ written_size (part s.points.now s.contours.now c.loop-k.k)
-sized c =
-    c.second_size-bits.ensures
-    ∙ ap₂ (λ (n w : ℕ). 22 + body_size n w) (ap (λ (l : List ℤ). length l / 2) (same_numbers c.named-contour.ensures)) (width_is c)
-
--- no contour has more bits than 32,767 points of 64
-short : (c : goal.After-second_size-bits) → c.second_size-bits.result ≤ 2097110
-short c =
-    let s = c.args in
-    rw (sized c) (omega (arith, (countable_3 c).short, size_within (part s.points.now s.contours.now c.loop-k.k)))
+  short : {w n : ℕ} → Countable c → w ≡ contour_width named → n ≡ 22 + body_size (length named / 2) w → n ≤ 2097110
+  short few g h = rw (sized g h) (omega (arith, few.short, size_within c))
 
 pub loop-k-init : goal.loop-k-init
-loop-k-init c = (omega arith, omega arith, refl, λ j l. absurd (omega arith), refl)
-
-pub named-contour-requires : goal.named-contour-requires
-named-contour-requires c = (c.requires.0 _ c.loop-k-test.true).0
+loop-k-init c = (omega arith, refl, λ j l. absurd (omega arith), refl)
 
 pub width-width-requires : goal.width-width-requires
-width-width-requires c = let n = countable c in rw (same_numbers c.named-contour.ensures) (n.even, n.on)
+width-width-requires c = let n = (c.requires.0 _ c.loop-k-test.true).1 in rw (same_numbers c.named-contour.ensures) (n.even, n.on)
 
 pub overflow_cast-widths : goal.overflow_cast-widths
-overflow_cast-widths c = Fits-of_lt (omega (arith, narrow c))
-
-pub bounds-widths-k : goal.bounds-widths-k
-bounds-widths-k c =
-    omega (arith, c.loop-k.invariant.4, c.requires.2, c.loop-k-test.true)
+overflow_cast-widths c = Fits-of_lt (omega (arith, narrow _ c.width-width.ensures))
 
 pub second_size-bits-requires : goal.second_size-bits-requires
-second_size-bits-requires c = (rw (same_numbers c.named-contour.ensures) (countable_2 c).short, omega (arith, narrow c))
+second_size-bits-requires c = (rw (same_numbers c.named-contour.ensures) (c.requires.0 _ c.loop-k-test.true).1.short, omega (arith, narrow _ c.width-width.ensures))
 
 pub overflow_add-bits : goal.overflow_add-bits
 overflow_add-bits c =
-    omega (arith, short c, c.loop-k.invariant.1, c.requires.1, c.loop-k-test.true)
+    omega (arith, short (same_numbers c.named-contour.ensures) (c.requires.0 _ c.loop-k-test.true).1 c.width-width.ensures c.second_size-bits.ensures, c.loop-k.invariant.0, c.requires.1, c.loop-k-test.true)
 
 pub loop-k-preserved : goal.loop-k-preserved
 loop-k-preserved c =
@@ -75,22 +48,15 @@ loop-k-preserved c =
     let h = c.loop-k-test.true in
     let p = c.args.points.now in
     let cs = c.args.contours.now in (
-      omega (arith, h),
-      omega (arith, short c, v.1),
-      omega (arith, v.2, sized c, size_more p cs c.loop-k.k h (part p cs c.loop-k.k) refl),
-      widths_more (λ (j : ℕ). contour_width (part p cs j)) c.loop-k.widths c.loop-k.k c.width-width.result (omega (arith, v.4, c.requires.2, h)) v.3 (width_is c),
-      simp length-set v.4,
+      omega (arith, short (same_numbers c.named-contour.ensures) (c.requires.0 _ c.loop-k-test.true).1 c.width-width.ensures c.second_size-bits.ensures, v.0),
+      omega (arith, v.1, sized (same_numbers c.named-contour.ensures) c.width-width.ensures c.second_size-bits.ensures, size_more p cs c.loop-k.k h (part p cs c.loop-k.k) refl),
+      widths_more (λ (j : ℕ). contour_width (part p cs j)) c.loop-k.widths c.loop-k.k c.width-width.result (omega (arith, v.3, c.requires.2, h)) v.2 (c.width-width.ensures ∙ ap contour_width (same_numbers c.named-contour.ensures)),
+      simp length-set v.3,
     )
-
-pub overflow_add-result : goal.overflow_add-result
-overflow_add-result c = omega (arith, c.requires.1)
-
-pub shape_of-widths : goal.shape_of-widths
-shape_of-widths c = c.loop-k.invariant.4
 
 pub returns : goal.returns
 returns c =
     let l = c.loop-k in (
-      omega (arith, l.invariant.2, size_done c.args.points.now c.args.contours.now l.k (omega arith)),
-      record { all = omega (arith, l.invariant.4, c.requires.2); is = λ j h. l.invariant.3 j (omega arith) },
+      omega (arith, l.invariant.1, size_done c.args.points.now c.args.contours.now l.k (omega arith)),
+      record { all = omega (arith, l.invariant.3, c.requires.2); is = λ j h. l.invariant.2 j (omega arith) },
     )

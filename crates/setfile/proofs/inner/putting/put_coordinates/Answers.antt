@@ -1,27 +1,22 @@
 -- `setfile::inner::putting::put_coordinates` meets its contract: what is left is written behind what is written.
-use Rattle.std.proofs.Common.{rules, arith}
+use Rattle.std.proofs.Common.{rules, arith, ◌∙◌}
+use Rattle.bits.proofs.WordLaws.{spelled-length}
 use Rattle.setfile.proofs.WriteLaws.{none_written, part_room, part_written, all_written}
 use Rattle.setfile.proofs.CodedLaws.{next_coordinate, no_coordinate}
 use Rattle.setfile.proofs.inner.putting.put_coordinates.Goals as goal
 
-pub loop-i-init : goal.loop-i-init
-loop-i-init c = none_written _ _ _ c.requires
+pub loop-x-init : goal.loop-x-init
+loop-x-init c = none_written _ _ _ c.requires
 
-pub put_quad-behind-requires : goal.put_quad-behind-requires
-put_quad-behind-requires c =
-    part_room c.loop-i.invariant
-    (next_coordinate c.args.contour.now c.loop-i.i c.bits_32.ensures (search rules)
-    c.loop-i-test.true)
+pub spell-requires : goal.spell-requires
+spell-requires c =
+    let next = next_coordinate c.args.contour.now c.loop-x.x-index (c.from.ensures ∙ c.cast_unsigned.ensures) (search rules) c.loop-x-test.true in
+    omega (arith, part_room c.loop-x.invariant next, spelled-length 4 c.from.result)
 
-pub loop-i-preserved : goal.loop-i-preserved
-loop-i-preserved c =
-    part_written c.loop-i.invariant
-    (next_coordinate c.args.contour.now c.loop-i.i c.bits_32.ensures (search rules)
-    c.loop-i-test.true)
-    c.put_quad-behind.ensures
-
-pub shape_of-bytes : goal.shape_of-bytes
-shape_of-bytes c = c.loop-i.invariant.long
+pub loop-x-preserved : goal.loop-x-preserved
+loop-x-preserved c =
+    let next = next_coordinate c.args.contour.now c.loop-x.x-index (c.from.ensures ∙ c.cast_unsigned.ensures) (search rules) c.loop-x-test.true in
+    part_written c.loop-x.invariant next (record { is = c.spell.ensures; behind = omega (arith, spelled-length 4 c.from.result) })
 
 pub returns : goal.returns
-returns c = all_written c.loop-i.invariant (no_coordinate c.args.contour.now c.loop-i.i (omega arith))
+returns c = all_written c.loop-x.invariant (no_coordinate c.args.contour.now c.loop-x.x-index (omega arith))

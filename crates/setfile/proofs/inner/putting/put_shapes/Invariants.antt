@@ -1,12 +1,10 @@
-use Rattle.std.proofs.Common.{◌-◌, ◌≤◌, length, drop}
+use Rattle.std.proofs.Common.{◌≤◌, drop}
 use Rattle.setfile.specs.inside.Writing.{most_kept, shapes_bits}
 use Rattle.setfile.proofs.WriteLaws.{Inking}
+use Rattle.std.specs.Option.{is_some}
 use Rattle.setfile.proofs.inner.putting.put_shapes.Given as goal
 
-abbrev pub invariant-loop-i : goal.invariant-loop-i
-invariant-loop-i l =
-    Inking l.initial.behind (shapes_bits l.second l.points l.contours l.shapes) l.initial.bytes l.behind (shapes_bits l.second l.points l.contours (drop l.i l.shapes)) l.bytes
-    × (l.behind.width ≤ most_kept l.second)
-
-abbrev pub decreases-loop-i : goal.decreases-loop-i
-decreases-loop-i l = length l.shapes - l.i
+abbrev pub invariant-loop-from : goal.invariant-loop-from
+invariant-loop-from l =
+    Inking l.initial.behind (shapes_bits (is_some l.widths) l.points l.contours l.shapes) l.initial.bytes l.behind (shapes_bits (is_some l.widths) l.points l.contours (drop l.from-index l.shapes)) l.bytes
+    × (l.behind.width ≤ most_kept (is_some l.widths))

@@ -1,24 +1,22 @@
 -- `sets::inner::containing::has` meets its contract.
-use Rattle.std.proofs.Common.{sym, ◌∙◌, arith}
+use Rattle.std.proofs.Common.{◌<◌, length, sym, ◌∙◌, arith, eq-eqb, ap, not}
+use Rattle.std.proofs.lemmas.Bool.{eqb-true, eqb-false}
 use Rattle.sets.proofs.ContainsLaws.{nothing_there, outside_first, later_decide}
 use Rattle.sets.proofs.inner.containing.has.Goals as goal
 
-pub returns-then-ranges-eq0 : goal.returns-then-ranges-eq0
-returns-then-ranges-eq0 c = let s = c.args in nothing_there s.p s.points.now s.ranges.now (omega (arith, c.if-ranges-eq0.true))
-
-pub location-requires : goal.location-requires
-location-requires c = (c.requires, omega (arith, c.if-ranges-eq0.false))
-
-pub returns-then-location-eq-OUTSIDE : goal.returns-then-location-eq-OUTSIDE
-returns-then-location-eq-OUTSIDE c =
+pub returns-then-is_empty : goal.returns-then-is_empty
+returns-then-is_empty c =
     let s = c.args in
-    outside_first s.p s.points.now s.ranges.now (omega (arith, c.if-ranges-eq0.false)) (sym c.location.ensures ∙ c.if-location-eq-OUTSIDE.true)
+    nothing_there s.p s.points.now s.ranges.now (omega (arith, eqb-true (length s.ranges.now) 0 (sym c.is_empty.ensures ∙ c.if-is_empty.true)))
 
-pub inside_no_later-requires : goal.inside_no_later-requires
-inside_no_later-requires c = c.requires
-
-pub returns : goal.returns
-returns c =
+pub returns-then-location-ne-OUTSIDE : goal.returns-then-location-ne-OUTSIDE
+returns-then-location-ne-OUTSIDE c =
     let s = c.args in
-    c.inside_no_later.ensures
-    ∙ later_decide s.p s.points.now s.ranges.now (omega (arith, c.if-ranges-eq0.false)) (λ e. c.if-location-eq-OUTSIDE.false (c.location.ensures ∙ e))
+    let some : 0 < length s.ranges.now = omega (arith, eqb-false (length s.ranges.now) 0 (sym c.is_empty.ensures ∙ c.if-is_empty.false)) in
+    c.inside_no_later.ensures ∙ later_decide s.p s.points.now s.ranges.now some (λ e. c.if-location-ne-OUTSIDE.true (c.location.ensures ∙ e))
+
+pub returns-else-location-ne-OUTSIDE : goal.returns-else-location-ne-OUTSIDE
+returns-else-location-ne-OUTSIDE c =
+    let s = c.args in
+    let some : 0 < length s.ranges.now = omega (arith, eqb-false (length s.ranges.now) 0 (sym c.is_empty.ensures ∙ c.if-is_empty.false)) in
+    ap not (eq-eqb _ 0 c.if-location-ne-OUTSIDE.false) ∙ outside_first s.p s.points.now s.ranges.now some (sym c.location.ensures ∙ c.if-location-ne-OUTSIDE.false)

@@ -2,9 +2,7 @@
 use Rattle.std.proofs.Common.{List, ℤ, ap, ◌∙◌}
 use Rattle.replies.specs.Ladder.{first_of}
 use Rattle.grid.specs.Limits.{limit}
-use Rattle.grid.specs.Points.{points}
 use Rattle.grid.specs.Domain.{domain}
-use Rattle.path.specs.Locate.{location}
 use Rattle.buffer.proofs.PartLaws.{same_numbers}
 use Rattle.sets.proofs.PartLaws.{part_named, part_in_domain}
 use Rattle.sets.proofs.inner.containing.location.Goals as goal
@@ -18,6 +16,3 @@ location-requires c = (
       ∙ part_in_domain c.args.points.now c.args.ranges.now c.args.k c.requires.0.taken c.requires.1,
   c.requires.0.on_grid,
 )
-
-pub returns : goal.returns
-returns c = c.location.ensures ∙ ap (λ (row : List ℤ). location c.args.p (points row)) (same_numbers c.named.ensures)

@@ -1,10 +1,7 @@
 -- `sets::inner::contour::behind` meets its contract: the contour stays behind what is written, or all is as it was.
 use Rattle.std.proofs.Common.{arith}
-use Rattle.sets.proofs.BehindLaws.{cleanable_behind, notable, behind_is}
+use Rattle.sets.proofs.BehindLaws.{notable, behind_is}
 use Rattle.sets.proofs.inner.contour.behind.Goals as goal
-
-pub one-cleaned-requires : goal.one-cleaned-requires
-one-cleaned-requires c = cleanable_behind _ _ _ _ _ _ _ c.requires
 
 pub note-requires : goal.note-requires
 note-requires c =

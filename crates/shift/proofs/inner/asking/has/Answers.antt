@@ -1,57 +1,46 @@
 -- `shift::inner::asking::has` meets its contract.
-use borrow.Author.Rules.{rules}
-use mathlib.Core.Path.{sym, ◌∙◌, ap}
-use Prim.Native.Nat.{◌<◌}
-use native.Mathlib.Omega.{arith}
-use lib.ListN.{length}
+use Rattle.std.proofs.Common.{◌≡◌, ℕ, ◌<◌, ◌≤◌, List, [], length, take, get_or, sym, ◌∙◌, ap, arith, length-take-le, get_or-take}
+use Rattle.grid.specs.Points.{points}
+use Rattle.path.specs.Locate.{location}
+use Rattle.sifting.specs.inside.Sifting.{lying}
 use Rattle.shift.specs.inside.Asking.{ruled_by}
-use Rattle.shift.proofs.AskingLaws.{deciding_all, deciding_past, deciding_out, deciding_more, deciding_none}
+use Rattle.shift.proofs.AskingLaws.{deciding_past, deciding_out, deciding_more, deciding_none}
 use Rattle.shift.proofs.inner.asking.has.Goals as goal
+use Rattle.shift.proofs.inner.asking.has.Goals.{then-own-press+else-rules_out, else-own-press}
 
-pub loop-i-init : goal.loop-i-init
-loop-i-init c = (c.requires, λ fit. deciding_all _ _ _ _ _ fit)
-
-pub offset_bounds-records-i : goal.offset_bounds-records-i
-offset_bounds-records-i c = let k : c.loop-i.i < length c.args.records.now = omega (arith, c.requires.there) in search rules
-
-pub bounds-records-i : goal.bounds-records-i
-bounds-records-i c = omega (arith, c.requires.there)
-
-pub loop-i-preserved-then-records-i : goal.loop-i-preserved-then-records-i
-loop-i-preserved-then-records-i c =
-    let a = c.args in
-    (c.requires, λ fit. deciding_past a.points.now a.records.now a.n a.press a.p fit (c.loop-i.invariant.1 fit) c.loop-i-test.true c.if-records-i.true)
-
-pub offset_bounds-records-i-else-records-i : goal.offset_bounds-records-i-else-records-i
-offset_bounds-records-i-else-records-i c = let k : c.loop-i.i < length c.args.records.now = omega (arith, c.requires.there, c.loop-i-test.true) in search rules
-
-pub bounds-records-i-else-records-i : goal.bounds-records-i-else-records-i
-bounds-records-i-else-records-i c = omega (arith, c.requires.there, c.loop-i-test.true)
-
-pub offset_bounds-records-i-else-records-i-2 : goal.offset_bounds-records-i-else-records-i-2
-offset_bounds-records-i-else-records-i-2 c = let k : c.loop-i.i < length c.args.records.now = omega (arith, c.requires.there, c.loop-i-test.true) in search rules
-
-pub bounds-records-i-else-records-i-2 : goal.bounds-records-i-else-records-i-2
-bounds-records-i-else-records-i-2 c = omega (arith, c.requires.there, c.loop-i-test.true)
-
-pub location-requires : goal.location-requires
-location-requires c = (c.requires.lies _ c.loop-i-test.true, c.requires.on_grid)
+-- a record among the first n
+among : (records : List (List ℕ)) (n i : ℕ) → n ≤ length records → i < length (take n records) → (i < n) × (get_or (take n records) i [] ≡ get_or records i [])
+among records n i fit h =
+    let l : i < n = omega (arith, length-take-le n records fit) in
+    (l, get_or-take n records i [] l)
 
 pub returns-then-rules_out : goal.returns-then-rules_out
 returns-then-rules_out c =
     let a = c.args in
-    deciding_out a.points.now a.records.now a.n a.press a.p c.requires.there (c.loop-i.invariant.1 c.requires.there) c.loop-i-test.true c.if-records-i.false
-    (ap (ruled_by c.loop-i.met) (sym c.location.ensures) ∙ sym c.rules_out.ensures ∙ c.if-rules_out.true)
+    let k = among a.records.now a.n c.loop-start.start-index c.requires.there c.loop-start-test.true in
+    deciding_out a.points.now a.records.now a.n a.press a.p c.requires.there (c.loop-start.invariant c.requires.there) k.0
+    (sym (ap (λ (r : List ℕ). get_or r 3 0) k.1) ∙ c.if-own-press.true)
+    (ap (ruled_by c.loop-start.met) (sym (c.location.ensures ∙ ap (λ (r : List ℕ). location a.p (points (lying a.points.now (get_or r 0 0) (get_or r 1 0)))) k.1))
+    ∙ sym c.rules_out.ensures ∙ c.if-rules_out.true)
 
-pub loop-i-preserved : goal.loop-i-preserved
-loop-i-preserved c =
-    let a = c.args in (
-      c.requires,
-      λ fit. deciding_more a.points.now a.records.now a.n a.press a.p fit (c.loop-i.invariant.1 fit) c.loop-i-test.true c.if-records-i.false
-          (ap (ruled_by c.loop-i.met) (sym c.location.ensures) ∙ sym c.rules_out.ensures ∙ c.if-rules_out.false),
-    )
+pub loop-start-preserved : goal.loop-start-preserved
+loop-start-preserved c =
+    let a = c.args in
+    let there = c.requires.there in
+    let k = among a.records.now a.n c.loop-start.start-index there c.loop-start-test.true in
+    let so_far = c.loop-start.invariant in
+    elim c.if-own-press.branch [
+      | then-own-press+else-rules_out w ↦ λ fit. rw w.met-is
+          (deciding_more a.points.now a.records.now a.n a.press a.p fit (so_far fit) k.0
+          (sym (ap (λ (r : List ℕ). get_or r 3 0) k.1) ∙ w.if-own-press.true)
+          (ap (ruled_by c.loop-start.met) (sym (w.location.ensures ∙ ap (λ (r : List ℕ). location a.p (points (lying a.points.now (get_or r 0 0) (get_or r 1 0)))) k.1))
+          ∙ sym w.rules_out.ensures ∙ w.if-rules_out.false))
+      | else-own-press w ↦ λ fit. rw w.met-is
+          (deciding_past a.points.now a.records.now a.n a.press a.p fit (so_far fit) k.0 (λ e. w.if-own-press.false (ap (λ (r : List ℕ). get_or r 3 0) k.1 ∙ e)))
+    ]
 
 pub returns : goal.returns
 returns c =
     let a = c.args in
-    deciding_none a.points.now a.records.now a.n a.press a.p c.requires.there (c.loop-i.invariant.1 c.requires.there) c.loop-i-test.false
+    deciding_none a.points.now a.records.now a.n a.press a.p c.requires.there (c.loop-start.invariant c.requires.there)
+    (omega (arith, c.loop-start-test.false, length-take-le a.n a.records.now c.requires.there))

@@ -1,24 +1,17 @@
 -- `shift::inner::doing::add` meets its contract.
-use mathlib.Core.Path.{refl, sym, ◌∙◌, ap}
+use mathlib.Core.Path.{refl}
 use native.Mathlib.Omega.{arith}
-use Rattle.pool.specs.Calls.Call.{add}
+use Rattle.std.proofs.lemmas.Result.{err_from_is_err_and}
 use Rattle.pool.specs.Rows.{lent}
-use Rattle.pool.specs.Outcome.{leaving}
-use Rattle.pool.proofs.CallLaws.{grown_not, grown_one}
-use Rattle.shift.specs.Steps.Request.{adds}
-use Rattle.shift.proofs.DoingLaws.{n_there, found_small, did_refused, did_add}
-use Rattle.shift.proofs.Theorems.{the_pool_stays_in_the_domain}
+use Rattle.shift.proofs.DoingLaws.{n_there, found_small, did_not_add, did_add}
 use borrow.Author.Rules.{rules}
 use Rattle.shift.proofs.inner.doing.add.Goals as goal
 
-pub returns-then-reply-ne0 : goal.returns-then-reply-ne0
-returns-then-reply-ne0 c =
+pub returns-in_err-add_surveyed : goal.returns-in_err-add_surveyed
+returns-in_err-add_surveyed c =
     let a = c.args in
-    let r = c.add_surveyed-reply in
-    let rows = lent a.points.now a.records.now a.n in
-    did_refused rows a.found c.requires a.second (add 0 a.contour.now) (omega arith) (adds a.second a.contour.now) refl refl _ _
-    (ap (leaving r.result r.new.points r.new.records) (sym (grown_not r.result a.n c.if-reply-ne0.true)) ∙ r.ensures) refl c.if-reply-ne0.true refl
-    (the_pool_stays_in_the_domain (adds a.second a.contour.now) _ c.requires.in_domain)
+    let p = err_from_is_err_and c.from_residual.result c.from_residual.ensures.1 in
+    rw (p.1, p.2) (did_not_add (lent a.points.now a.records.now a.n) a.found c.requires a.second a.contour.now _ _ a.n _ c.in_err-add_surveyed.ensures)
 
 pub overflow_add-result : goal.overflow_add-result
 overflow_add-result c = let a = c.args in let k = n_there a.points.now a.records.now a.n a.found c.requires in search rules
@@ -29,6 +22,4 @@ more-requires c = let a = c.args in let k = found_small (lent a.points.now a.rec
 pub returns : goal.returns
 returns c =
     let a = c.args in
-    let r = c.add_surveyed-reply in
-    did_add (lent a.points.now a.records.now a.n) a.found c.requires a.second a.contour.now _ r.result _ _
-    (ap (leaving r.result r.new.points r.new.records) (sym (grown_one r.result a.n c.if-reply-ne0.false)) ∙ r.ensures) c.if-reply-ne0.false c.more.ensures
+    did_add (lent a.points.now a.records.now a.n) a.found c.requires a.second a.contour.now _ 0 _ _ c.in_ok-add_surveyed.ensures refl c.more.ensures

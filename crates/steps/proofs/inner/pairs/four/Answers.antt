@@ -6,91 +6,28 @@ use mathlib.Core.List.{List}
 use Prim.Native.Nat.{ℕ, ◌+◌, ◌*◌, ◌^◌, ◌<◌}
 use lib.ListN.{length, drop}
 use lib.IntN.{ℤ, pos}
+use lib.Signed.{mag}
 use mir.Syntax.{w64}
 use mir.Val.{to_z, of_z}
 use mir.Facts.{to_z-of_z, Fits-of_lt}
-use Rattle.integers.specs.Bound.{In}
-use Rattle.integers.proofs.Bound.{in_eq}
 use Rattle.bits.specs.Signs.{fits, all_fit}
 use Rattle.steps.specs.Steps.{differences}
 use Rattle.steps.specs.inside.Asked.{step, joined}
 use Rattle.steps.proofs.WriteLaws.{fit_point, first_fits, second_fits}
-use Rattle.steps.proofs.PairLaws.{middle, middle_below, scale_in, up, up_below, up_turned, rising, raised_is, word_fits, word_turned}
+use Rattle.steps.proofs.PairLaws.{middle, middle_below, up, up_below, up_turned, rising, raised_is, word_fits, word_turned}
 use borrow.Author.Rules.{sfits_of}
 use Rattle.steps.proofs.inner.pairs.four.Goals as goal
 
-scale_is : (c : goal.After-halves-halves) → to_z w64 (of_z w64 c.scale-scale.result) ≡ pos (2 ^ c.args.width)
-scale_is c = to_z-of_z {w = w64} (sfits_of c.scale-scale.type_inv) ∙ c.scale-scale.ensures
+-- a point as one number, as it was computed by the scale
+point_is : (l : List ℤ) (w k : ℕ) {s r : ℤ} → mag s < 2 ^ 63 → s ≡ pos (2 ^ w) → mag r < 2 ^ 63 → r ≡ joined (to_z w64 (of_z w64 s)) l k → to_z w64 (of_z w64 r) ≡ joined (pos (2 ^ w)) l k
+point_is l w k p d q e =
+    to_z-of_z {w = w64} (sfits_of q) ∙ e ∙ ap (λ (z : ℤ). joined z l k) (to_z-of_z {w = w64} (sfits_of p) ∙ d)
 
-scale_is_2 : (c : goal.After-joined-between) → to_z w64 (of_z w64 c.scale-scale.result) ≡ pos (2 ^ c.args.width)
-scale_is_2 c = to_z-of_z {w = w64} (sfits_of c.scale-scale.type_inv) ∙ c.scale-scale.ensures
-
-scale_is_3 : (c : goal.After-joined-last) → to_z w64 (of_z w64 c.scale-scale.result) ≡ pos (2 ^ c.args.width)
-scale_is_3 c = to_z-of_z {w = w64} (sfits_of c.scale-scale.type_inv) ∙ c.scale-scale.ensures
-
-scale_is_4 : (c : goal.After-raised-first) → to_z w64 (of_z w64 c.scale-scale.result) ≡ pos (2 ^ c.args.width)
-scale_is_4 c = to_z-of_z {w = w64} (sfits_of c.scale-scale.type_inv) ∙ c.scale-scale.ensures
-
-scale_is_5 : (c : goal.After-raised-second) → to_z w64 (of_z w64 c.scale-scale.result) ≡ pos (2 ^ c.args.width)
-scale_is_5 c = to_z-of_z {w = w64} (sfits_of c.scale-scale.type_inv) ∙ c.scale-scale.ensures
-
-scale_small : (c : goal.After-halves-halves) → In 32768 (to_z w64 (of_z w64 c.scale-scale.result))
-scale_small c = in_eq (scale_is c) (scale_in c.args.width c.requires.2)
-
-scale_small_2 : (c : goal.After-joined-between) → In 32768 (to_z w64 (of_z w64 c.scale-scale.result))
-scale_small_2 c = in_eq (scale_is_2 c) (scale_in c.args.width c.requires.2)
-
--- the three points, as numbers
-from_is : (c : goal.After-joined-last) → let s = c.args in to_z w64 (of_z w64 s.from) ≡ joined (pos (2 ^ s.width)) s.contour.now s.k
-from_is c = to_z-of_z c.ranges.from ∙ c.requires.4
-
--- the three points, as numbers
-from_is_2 : (c : goal.After-raised-second) → let s = c.args in to_z w64 (of_z w64 s.from) ≡ joined (pos (2 ^ s.width)) s.contour.now s.k
-from_is_2 c = to_z-of_z c.ranges.from ∙ c.requires.4
-
-between_is : (c : goal.After-joined-last) → let s = c.args in
-    to_z w64 (of_z w64 c.joined-between.result) ≡ joined (pos (2 ^ s.width)) s.contour.now (s.k + 2)
-between_is c =
-    let s = c.args in
-    to_z-of_z {w = w64} (sfits_of c.joined-between.type_inv) ∙ c.joined-between.ensures ∙ ap (λ (z : ℤ). joined z s.contour.now (s.k + 2)) (scale_is_3 c)
-
-between_is_2 : (c : goal.After-raised-first) → let s = c.args in
-    to_z w64 (of_z w64 c.joined-between.result) ≡ joined (pos (2 ^ s.width)) s.contour.now (s.k + 2)
-between_is_2 c =
-    let s = c.args in
-    to_z-of_z {w = w64} (sfits_of c.joined-between.type_inv) ∙ c.joined-between.ensures ∙ ap (λ (z : ℤ). joined z s.contour.now (s.k + 2)) (scale_is_4 c)
-
-between_is_3 : (c : goal.After-raised-second) → let s = c.args in
-    to_z w64 (of_z w64 c.joined-between.result) ≡ joined (pos (2 ^ s.width)) s.contour.now (s.k + 2)
-between_is_3 c =
-    let s = c.args in
-    to_z-of_z {w = w64} (sfits_of c.joined-between.type_inv) ∙ c.joined-between.ensures ∙ ap (λ (z : ℤ). joined z s.contour.now (s.k + 2)) (scale_is_5 c)
-
-last_is : (c : goal.After-raised-second) → let s = c.args in
-    to_z w64 (of_z w64 c.joined-last.result) ≡ joined (pos (2 ^ s.width)) s.contour.now (s.k + 4)
-last_is c =
-    let s = c.args in
-    to_z-of_z {w = w64} (sfits_of c.joined-last.type_inv) ∙ c.joined-last.ensures ∙ ap (λ (z : ℤ). joined z s.contour.now (s.k + 4)) (scale_is_5 c)
-
-last_is_2 : (c : goal.After-raised-first) → let s = c.args in
-    to_z w64 (of_z w64 c.joined-last.result) ≡ joined (pos (2 ^ s.width)) s.contour.now (s.k + 4)
-last_is_2 c =
-    let s = c.args in
-    to_z-of_z {w = w64} (sfits_of c.joined-last.type_inv) ∙ c.joined-last.ensures ∙ ap (λ (z : ℤ). joined z s.contour.now (s.k + 4)) (scale_is_4 c)
-
-last_too : (c : goal.After-raised-first) → let s = c.args in
-    to_z w64 (of_z w64 c.joined-last.result) ≡ joined (pos (2 ^ s.width)) s.contour.now (s.k + 2 + 2)
-last_too c =
-    let s = c.args in
-    let e : s.k + 4 ≡ s.k + 2 + 2 = omega arith in
-    last_is_2 c ∙ ap (λ (i : ℕ). joined (pos (2 ^ s.width)) s.contour.now i) e
-
-last_too_2 : (c : goal.After-raised-second) → let s = c.args in
-    to_z w64 (of_z w64 c.joined-last.result) ≡ joined (pos (2 ^ s.width)) s.contour.now (s.k + 2 + 2)
-last_too_2 c =
-    let s = c.args in
-    let e : s.k + 4 ≡ s.k + 2 + 2 = omega arith in
-    last_is c ∙ ap (λ (i : ℕ). joined (pos (2 ^ s.width)) s.contour.now i) e
+-- two points behind the first
+behind_is : (l : List ℤ) (w k : ℕ) {r : ℤ} → r ≡ joined (pos (2 ^ w)) l (k + 4) → r ≡ joined (pos (2 ^ w)) l (k + 2 + 2)
+behind_is l w k e =
+    let n : k + 4 ≡ k + 2 + 2 = omega arith in
+    e ∙ ap (λ (i : ℕ). joined (pos (2 ^ w)) l i) n
 
 -- the four differences fit
 module _ (l : List ℤ) (w k : ℕ) (some : 0 < w) (long : k + 5 < length l) (f : all_fit w (differences (drop k l)) ≡ true) where
@@ -113,26 +50,20 @@ module _ (l : List ℤ) (w k : ℕ) (some : 0 < w) (long : k + 5 < length l) (f 
 first_is : (c : goal.After-raised-second) →
     c.raised-first.result ≡ up c.args.contour.now c.args.width c.args.k c.requires.2 (fits_0 c.args.contour.now c.args.width c.args.k c.requires.2.some c.requires.0 c.requires.3) (fits_1 c.args.contour.now c.args.width c.args.k c.requires.2.some c.requires.0 c.requires.3)
 first_is c =
-    raised_is c.args.contour.now c.args.width c.args.k c.requires.2 (fits_0 c.args.contour.now c.args.width c.args.k c.requires.2.some c.requires.0 c.requires.3) (fits_1 c.args.contour.now c.args.width c.args.k c.requires.2.some c.requires.0 c.requires.3) _ _ (from_is_2 c) (between_is_3 c) _ _ c.halves-halves.ensures c.raised-first.ensures
+    raised_is c.args.contour.now c.args.width c.args.k c.requires.2 (fits_0 c.args.contour.now c.args.width c.args.k c.requires.2.some c.requires.0 c.requires.3) (fits_1 c.args.contour.now c.args.width c.args.k c.requires.2.some c.requires.0 c.requires.3) _ _ (to_z-of_z c.ranges.from ∙ c.requires.4) (point_is c.args.contour.now c.args.width (c.args.k + 2) c.scale-scale.type_inv c.scale-scale.ensures c.joined-between.type_inv c.joined-between.ensures) _ _ c.halves-halves.ensures c.raised-first.ensures
 
 second_is : (c : goal.After-raised-second) →
     c.raised-second.result ≡ up c.args.contour.now c.args.width (c.args.k + 2) c.requires.2 (fits-2 c.args.contour.now c.args.width c.args.k c.requires.2.some c.requires.0 c.requires.3) (fits-3 c.args.contour.now c.args.width c.args.k c.requires.2.some c.requires.0 c.requires.3)
 second_is c =
-    raised_is c.args.contour.now c.args.width (c.args.k + 2) c.requires.2 (fits-2 c.args.contour.now c.args.width c.args.k c.requires.2.some c.requires.0 c.requires.3) (fits-3 c.args.contour.now c.args.width c.args.k c.requires.2.some c.requires.0 c.requires.3) _ _ (between_is_3 c) (last_too_2 c) _ _ c.halves-halves.ensures c.raised-second.ensures
-
-pub joined-between-requires : goal.joined-between-requires
-joined-between-requires c = (omega arith, c.requires.1, scale_small c)
-
-pub joined-last-requires : goal.joined-last-requires
-joined-last-requires c = (omega arith, c.requires.1, scale_small_2 c)
+    raised_is c.args.contour.now c.args.width (c.args.k + 2) c.requires.2 (fits-2 c.args.contour.now c.args.width c.args.k c.requires.2.some c.requires.0 c.requires.3) (fits-3 c.args.contour.now c.args.width c.args.k c.requires.2.some c.requires.0 c.requires.3) _ _ (point_is c.args.contour.now c.args.width (c.args.k + 2) c.scale-scale.type_inv c.scale-scale.ensures c.joined-between.type_inv c.joined-between.ensures) (behind_is c.args.contour.now c.args.width c.args.k (point_is c.args.contour.now c.args.width (c.args.k + 4) c.scale-scale.type_inv c.scale-scale.ensures c.joined-last.type_inv c.joined-last.ensures)) _ _ c.halves-halves.ensures c.raised-second.ensures
 
 pub raised-first-requires : goal.raised-first-requires
 raised-first-requires c =
-    rising c.args.contour.now c.args.width c.args.k c.requires.2 (fits_0 c.args.contour.now c.args.width c.args.k c.requires.2.some c.requires.0 c.requires.3) (fits_1 c.args.contour.now c.args.width c.args.k c.requires.2.some c.requires.0 c.requires.3) c.requires.1 _ _ (from_is c) (between_is c) _ c.halves-halves.ensures
+    rising c.args.contour.now c.args.width c.args.k c.requires.2 (fits_0 c.args.contour.now c.args.width c.args.k c.requires.2.some c.requires.0 c.requires.3) (fits_1 c.args.contour.now c.args.width c.args.k c.requires.2.some c.requires.0 c.requires.3) c.requires.1 _ _ (to_z-of_z c.ranges.from ∙ c.requires.4) (point_is c.args.contour.now c.args.width (c.args.k + 2) c.scale-scale.type_inv c.scale-scale.ensures c.joined-between.type_inv c.joined-between.ensures) _ c.halves-halves.ensures
 
 pub raised-second-requires : goal.raised-second-requires
 raised-second-requires c =
-    rising c.args.contour.now c.args.width (c.args.k + 2) c.requires.2 (fits-2 c.args.contour.now c.args.width c.args.k c.requires.2.some c.requires.0 c.requires.3) (fits-3 c.args.contour.now c.args.width c.args.k c.requires.2.some c.requires.0 c.requires.3) c.requires.1 _ _ (between_is_2 c) (last_too c) _ c.halves-halves.ensures
+    rising c.args.contour.now c.args.width (c.args.k + 2) c.requires.2 (fits-2 c.args.contour.now c.args.width c.args.k c.requires.2.some c.requires.0 c.requires.3) (fits-3 c.args.contour.now c.args.width c.args.k c.requires.2.some c.requires.0 c.requires.3) c.requires.1 _ _ (point_is c.args.contour.now c.args.width (c.args.k + 2) c.scale-scale.type_inv c.scale-scale.ensures c.joined-between.type_inv c.joined-between.ensures) (behind_is c.args.contour.now c.args.width c.args.k (point_is c.args.contour.now c.args.width (c.args.k + 4) c.scale-scale.type_inv c.scale-scale.ensures c.joined-last.type_inv c.joined-last.ensures)) _ c.halves-halves.ensures
 
 pub overflow_add-turned : goal.overflow_add-turned
 overflow_add-turned c =
@@ -151,5 +82,5 @@ returns c =
     let below-too = up_below c.args.contour.now w (c.args.k + 2) c.requires.2 (fits-2 c.args.contour.now c.args.width c.args.k c.requires.2.some c.requires.0 c.requires.3) (fits-3 c.args.contour.now c.args.width c.args.k c.requires.2.some c.requires.0 c.requires.3) in (
       rw (first_is c, second_is c, c.halves-halves.ensures) (word_turned w c.requires.2 _ _ below below-too
           ∙ ap₂ (λ (a b : ℕ). a * 2 ^ (2 * w) + b) (up_turned c.args.contour.now w c.args.k c.requires.2 (fits_0 c.args.contour.now c.args.width c.args.k c.requires.2.some c.requires.0 c.requires.3) (fits_1 c.args.contour.now c.args.width c.args.k c.requires.2.some c.requires.0 c.requires.3)) (up_turned c.args.contour.now w (c.args.k + 2) c.requires.2 (fits-2 c.args.contour.now c.args.width c.args.k c.requires.2.some c.requires.0 c.requires.3) (fits-3 c.args.contour.now c.args.width c.args.k c.requires.2.some c.requires.0 c.requires.3))),
-      last_is c,
+      point_is c.args.contour.now w (c.args.k + 4) c.scale-scale.type_inv c.scale-scale.ensures c.joined-last.type_inv c.joined-last.ensures,
     )

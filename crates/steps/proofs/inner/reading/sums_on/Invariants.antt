@@ -1,5 +1,4 @@
 use mathlib.Core.Path.{◌≡◌}
-use Prim.Native.Nat.{◌-◌, ◌≤◌}
 use lib.ListN.{drop}
 use Rattle.bits.specs.Bits.{bits}
 use Rattle.bits.specs.Signs.{numbers}
@@ -10,8 +9,4 @@ use Rattle.steps.proofs.inner.reading.sums_on.Given as goal
 
 abbrev pub invariant-loop-i : goal.invariant-loop-i
 invariant-loop-i l =
-    (l.i ≤ l.k)
-    × (all_on_grid limit (sums l.x l.y (numbers l.width l.k (drop l.at (bits l.bytes)))) ≡ all_on_grid limit (sums l.a l.b (rest l.bytes l.at l.width l.k l.i)))
-
-abbrev pub decreases-loop-i : goal.decreases-loop-i
-decreases-loop-i l = l.k - l.i
+    all_on_grid limit (sums l.x l.y (numbers l.width l.k (drop l.at (bits l.bytes)))) ≡ all_on_grid limit (sums l.a l.b (rest l.bytes l.at l.width l.k l.i))

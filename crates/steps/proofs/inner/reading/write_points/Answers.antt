@@ -1,31 +1,21 @@
 -- `steps::inner::reading::write_points` meets its contract: those that are still to be written are the rest of all.
 use borrow.Author.Rules.{sfits_of}
 use mathlib.Core.Path.{◌≡◌, sym, ◌∙◌, ap, ap₂}
-use mathlib.Core.Bool.{true}
 use mathlib.Core.List.{List}
 use Prim.Native.Nat.{ℕ, ◌+◌, ◌*◌, ◌%◌, ◌^◌, ◌<◌, ◌≤◌}
 use native.Mathlib.Omega.{arith}
 use lib.ListN.{length, drop, get_or}
 use lib.IntN.{ℤ, pos, ◌+ℤ◌}
 use mir.Syntax.{w32}
-use mir.Val.{SFits, to_z, of_z}
+use mir.Val.{to_z, of_z}
 use mir.Facts.{to_z-of_z}
 use Rattle.rows.specs.Rows.{placed}
 use Rattle.rows.proofs.RowLaws.{copied_more, copied_all}
-use Rattle.bits.specs.Bits.{bits}
-use Rattle.bits.specs.Signs.{signed, numbers}
+use Rattle.bits.specs.Signs.{signed}
 use Rattle.bits.specs.inside.Words.{leading}
-use Rattle.bits.proofs.SignLaws.{numbers-length}
-use Rattle.grid.specs.Limits.{limit, on_grid, all_on_grid}
-use Rattle.grid.proofs.LimitLaws.{all_on_grid_at}
 use Rattle.steps.specs.Steps.{sums}
-use Rattle.steps.proofs.StepLaws.{sums-length}
-use Rattle.steps.proofs.ReadLaws.{difference, step_near, both_there, first_leading, second_leading, rest, next_is, next_behind}
+use Rattle.steps.proofs.ReadLaws.{difference, first_leading, second_leading, rest, next_is, next_behind, asked, asked_are, asked_long, asked_on}
 use Rattle.steps.proofs.inner.reading.write_points.Goals as goal
-
--- the numbers that are asked for, by the bits of x and y
-abbrev all : List ℕ → ℕ → ℕ → ℕ → ℕ → ℕ → List ℤ
-all f at w n x y = sums (to_z w32 x) (to_z w32 y) (numbers w (2 * n) (drop at (bits f)))
 
 -- the next point
 module _ (f : List ℕ) (at w n : ℕ) (row : List ℤ) (a b : ℤ) (k : ℕ) (more : k + 1 < 2 * n) (is : drop k row ≡ sums a b (rest f at w (2 * n) k)) where
@@ -47,62 +37,34 @@ module _ (f : List ℕ) (at w n : ℕ) (row : List ℤ) (a b : ℤ) (k : ℕ) (m
   behind_v : drop (k + 1 + 1) row ≡ sums u v (rest f at w (2 * n) (k + 1 + 1))
   behind_v = next_behind f at w (2 * n) b u (k + 1) more row behind_u
 
--- what is asked for, by the numbers as they were passed
-asked_are : (f : List ℕ) (at w n : ℕ) {x y : ℤ} → SFits w32 x → SFits w32 y → all f at w n (of_z w32 x) (of_z w32 y) ≡ sums x y (numbers w (2 * n) (drop at (bits f)))
-asked_are f at w n p q = ap₂ (λ (x y : ℤ). sums x y (numbers w (2 * n) (drop at (bits f)))) (to_z-of_z p) (to_z-of_z q)
-
-asked_long : (f : List ℕ) (at w n x y : ℕ) → length (all f at w n x y) ≡ 2 * n
-asked_long f at w n x y = sums-length _ _ (numbers w (2 * n) (drop at (bits f))) ∙ numbers-length w (2 * n) (drop at (bits f))
-
-asked_on : (f : List ℕ) (at w n : ℕ) {x y : ℤ} → SFits w32 x → SFits w32 y → all_on_grid limit (sums x y (numbers w (2 * n) (drop at (bits f)))) ≡ true → (i : ℕ) →
-    on_grid limit (get_or (all f at w n (of_z w32 x) (of_z w32 y)) i (pos 0)) ≡ true
-asked_on f at w n {x} {y} p q on i =
-    all_on_grid_at limit (all f at w n (of_z w32 x) (of_z w32 y)) i (ap (all_on_grid limit) (asked_are f at w n p q) ∙ on)
-
-near : (c : goal.In-loop-i) → c.args.at + c.args.width * (2 * c.loop-i.i) ≤ 524288
-near c = step_near c.requires.0.there (omega (arith, c.loop-i-test.true))
-
 -- the numbers of the point, as they are asked for
-abbrev row : goal.After-ahead-first → List ℤ
-row c = let s = c.args in all s.bytes.now s.at s.width s.n (of_z w32 s.x) (of_z w32 s.y)
-
-abbrev row_2 : goal.After-moved-a → List ℤ
-row_2 c = let s = c.args in all s.bytes.now s.at s.width s.n (of_z w32 s.x) (of_z w32 s.y)
-
-abbrev row_3 : goal.After-moved-b → List ℤ
-row_3 c = let s = c.args in all s.bytes.now s.at s.width s.n (of_z w32 s.x) (of_z w32 s.y)
-
 u_is : (c : goal.After-ahead-first) → let s = c.args in let l = c.loop-i in
-    to_z w32 l.a-bits +ℤ signed s.width (leading c.ahead-first.result s.width) ≡ get_or (row c) (2 * l.i) (pos 0)
+    to_z w32 l.a-bits +ℤ signed s.width (leading c.ahead-first.result s.width) ≡ get_or (asked s.bytes.now s.at s.width (2 * s.n) (of_z w32 s.x) (of_z w32 s.y)) (2 * l.i) (pos 0)
 u_is c =
     let s = c.args in
     let l = c.loop-i in
     ap (λ (z : ℤ). to_z w32 l.a-bits +ℤ z) (first_leading s.width c.ahead-first.ensures)
-    ∙ sym (u_asked s.bytes.now s.at s.width s.n (row c) (to_z w32 l.a-bits) (to_z w32 l.b-bits) (2 * l.i) (omega (arith, c.loop-i-test.true)) l.invariant.1)
+    ∙ sym (u_asked s.bytes.now s.at s.width s.n _ (to_z w32 l.a-bits) (to_z w32 l.b-bits) (2 * l.i) (omega (arith, c.loop-i-test.true)) l.invariant.1)
 
 v_is : (c : goal.After-moved-a) → let s = c.args in let l = c.loop-i in
-    to_z w32 l.b-bits +ℤ signed s.width (leading (c.ahead-first.result * 2 ^ s.width % 2 ^ 64) s.width) ≡ get_or (row_2 c) (2 * l.i + 1) (pos 0)
+    to_z w32 l.b-bits +ℤ signed s.width (leading (c.ahead-first.result * 2 ^ s.width % 2 ^ 64) s.width) ≡ get_or (asked s.bytes.now s.at s.width (2 * s.n) (of_z w32 s.x) (of_z w32 s.y)) (2 * l.i + 1) (pos 0)
 v_is c =
     let s = c.args in
     let l = c.loop-i in
     ap (λ (z : ℤ). to_z w32 l.b-bits +ℤ z) (second_leading s.at s.width (2 * l.i) c.ahead-first.ensures)
-    ∙ sym (v_asked s.bytes.now s.at s.width s.n (row_2 c) (to_z w32 l.a-bits) (to_z w32 l.b-bits) (2 * l.i) (omega (arith, c.loop-i-test.true)) l.invariant.1)
-
-pub ahead-first-requires : goal.ahead-first-requires
-ahead-first-requires c =
-    (both_there c.args.n c.loop-i.i c.requires.0.there c.loop-i-test.true c.requires.1, omega (arith, c.requires.0.behind), omega (arith, near c))
+    ∙ sym (v_asked s.bytes.now s.at s.width s.n _ (to_z w32 l.a-bits) (to_z w32 l.b-bits) (2 * l.i) (omega (arith, c.loop-i-test.true)) l.invariant.1)
 
 pub moved-a-requires : goal.moved-a-requires
 moved-a-requires c =
     let s = c.args in
     let p = c.requires.0 in
-    (p.there.width, rw (u_is c) (asked_on s.bytes.now s.at s.width s.n c.ranges.x c.ranges.y p.on (2 * c.loop-i.i)))
+    (p.there.width, rw (u_is c) (asked_on s.bytes.now s.at s.width (2 * s.n) c.ranges.x c.ranges.y p.on (2 * c.loop-i.i)))
 
 pub moved-b-requires : goal.moved-b-requires
 moved-b-requires c =
     let s = c.args in
     let p = c.requires.0 in
-    (p.there.width, rw (v_is c) (asked_on s.bytes.now s.at s.width s.n c.ranges.x c.ranges.y p.on (2 * c.loop-i.i + 1)))
+    (p.there.width, rw (v_is c) (asked_on s.bytes.now s.at s.width (2 * s.n) c.ranges.x c.ranges.y p.on (2 * c.loop-i.i + 1)))
 
 p_is : (c : goal.After-moved-b) → let s = c.args in let l = c.loop-i in
     to_z w32 (of_z w32 c.moved-a.result) ≡ to_z w32 l.a-bits +ℤ difference s.bytes.now (s.at + s.width * (2 * l.i)) s.width
@@ -121,25 +83,23 @@ loop-i-preserved c =
     let s = c.args in
     let l = c.loop-i in
     let m : 2 * l.i + 1 < 2 * s.n = omega (arith, c.loop-i-test.true) in
+    let row : List ℤ = asked s.bytes.now s.at s.width (2 * s.n) (of_z w32 s.x) (of_z w32 s.y) in
     let e : 2 * (l.i + 1) ≡ 2 * l.i + 1 + 1 = omega arith in
-    let long : length (row_3 c) ≡ 2 * s.n = asked_long s.bytes.now s.at s.width s.n (of_z w32 s.x) (of_z w32 s.y) in
-    let fits : s.to + length (row_3 c) ≤ length s.out.now = omega (arith, c.requires.0.room) in
+    let long : length row ≡ 2 * s.n = asked_long s.bytes.now s.at s.width (2 * s.n) (of_z w32 s.x) (of_z w32 s.y) in
+    let fits : s.to + length row ≤ length s.out.now = omega (arith, c.requires.0.room) in
     let a = to_z w32 l.a-bits in
     let b = to_z w32 l.b-bits in
-    let one = copied_more s.out.now s.to (row_3 c) l.invariant.0 (pos 0) _ fits (omega (arith, m)) (p_is c ∙ sym (u_asked s.bytes.now s.at s.width s.n (row_3 c) a b (2 * l.i) m l.invariant.1)) in
-    let two = copied_more s.out.now s.to (row_3 c) one (pos 0) _ fits (omega (arith, m)) (q_is c ∙ sym (v_asked s.bytes.now s.at s.width s.n (row_3 c) a b (2 * l.i) m l.invariant.1)) in (
+    let one = copied_more s.out.now s.to row l.invariant.0 (pos 0) _ fits (omega (arith, m)) (p_is c ∙ sym (u_asked s.bytes.now s.at s.width s.n row a b (2 * l.i) m l.invariant.1)) in
+    let two = copied_more s.out.now s.to row one (pos 0) _ fits (omega (arith, m)) (q_is c ∙ sym (v_asked s.bytes.now s.at s.width s.n row a b (2 * l.i) m l.invariant.1)) in (
       rw e two,
-      rw e (behind_v s.bytes.now s.at s.width s.n (row_3 c) a b (2 * l.i) m l.invariant.1 ∙ ap₂ (λ (x y : ℤ). sums x y (rest s.bytes.now s.at s.width (2 * s.n) (2 * l.i + 1 + 1))) (sym (p_is c)) (sym (q_is c))),
+      rw e (behind_v s.bytes.now s.at s.width s.n row a b (2 * l.i) m l.invariant.1 ∙ ap₂ (λ (x y : ℤ). sums x y (rest s.bytes.now s.at s.width (2 * s.n) (2 * l.i + 1 + 1))) (sym (p_is c)) (sym (q_is c))),
       omega (arith, m),
     )
-
-pub shape_of-out : goal.shape_of-out
-shape_of-out c = c.loop-i.invariant.0.long
 
 pub returns : goal.returns
 returns c =
     let s = c.args in
     let l = c.loop-i in
-    let row : List ℤ = all s.bytes.now s.at s.width s.n (of_z w32 s.x) (of_z w32 s.y) in
-    let long : length row ≡ 2 * s.n = asked_long s.bytes.now s.at s.width s.n (of_z w32 s.x) (of_z w32 s.y) in
-    copied_all s.out.now s.to row l.invariant.0 (omega (arith, l.invariant.2)) ∙ ap (λ (m : List ℤ). placed s.to m s.out.now) (asked_are s.bytes.now s.at s.width s.n c.ranges.x c.ranges.y)
+    let row : List ℤ = asked s.bytes.now s.at s.width (2 * s.n) (of_z w32 s.x) (of_z w32 s.y) in
+    let long : length row ≡ 2 * s.n = asked_long s.bytes.now s.at s.width (2 * s.n) (of_z w32 s.x) (of_z w32 s.y) in
+    copied_all s.out.now s.to row l.invariant.0 (omega (arith, l.invariant.2)) ∙ ap (λ (m : List ℤ). placed s.to m s.out.now) (asked_are s.bytes.now s.at s.width (2 * s.n) c.ranges.x c.ranges.y)

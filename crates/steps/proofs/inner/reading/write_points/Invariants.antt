@@ -1,5 +1,5 @@
 use mathlib.Core.Path.{◌≡◌}
-use Prim.Native.Nat.{◌-◌, ◌*◌, ◌≤◌}
+use Prim.Native.Nat.{◌*◌, ◌≤◌}
 use lib.ListN.{drop}
 use Rattle.bits.specs.Bits.{bits}
 use Rattle.bits.specs.Signs.{numbers}
@@ -13,6 +13,3 @@ invariant-loop-i l =
     Copied l.initial.out l.to (sums l.x l.y (numbers l.width (2 * l.n) (drop l.at (bits l.bytes)))) l.out (2 * l.i)
     × (drop (2 * l.i) (sums l.x l.y (numbers l.width (2 * l.n) (drop l.at (bits l.bytes)))) ≡ sums l.a l.b (rest l.bytes l.at l.width (2 * l.n) (2 * l.i)))
     × (l.i ≤ l.n)
-
-abbrev pub decreases-loop-i : goal.decreases-loop-i
-decreases-loop-i l = l.n - l.i

@@ -1,11 +1,10 @@
 -- `steps::inner::reading::write_sums` meets its contract: those that are still to be written are the rest of all.
 use borrow.Author.Rules.{sfits_of}
-use mathlib.Core.Path.{◌≡◌, sym, ◌∙◌, ap, ap₂}
-use mathlib.Core.Bool.{true}
+use mathlib.Core.Path.{◌≡◌, sym, ◌∙◌, ap}
 use mathlib.Core.List.{List}
-use Prim.Native.Nat.{ℕ, ◌+◌, ◌*◌}
+use Prim.Native.Nat.{◌+◌, ◌*◌}
 use native.Mathlib.Omega.{arith}
-use lib.ListN.{length, drop, get_or}
+use lib.ListN.{length, get_or}
 use lib.IntN.{ℤ, pos, ◌+ℤ◌}
 use mir.Syntax.{w32, w64}
 use mir.Val.{SFits, to_z, of_z}
@@ -14,63 +13,32 @@ use Rattle.integers.specs.Bound.{In}
 use Rattle.integers.proofs.Bound.{in_fits, in_eq}
 use Rattle.rows.specs.Rows.{placed}
 use Rattle.rows.proofs.RowLaws.{copied_none, copied_more, copied_all}
-use Rattle.bits.specs.Bits.{bits}
-use Rattle.bits.specs.Signs.{numbers}
-use Rattle.bits.proofs.SignLaws.{numbers-length}
-use Rattle.grid.specs.Limits.{limit, all_on_grid}
-use Rattle.grid.proofs.LimitLaws.{on_grid_in, all_on_grid_at}
+use Rattle.grid.specs.Limits.{limit}
+use Rattle.grid.proofs.LimitLaws.{on_grid_in}
 use Rattle.steps.specs.Steps.{sums}
-use Rattle.steps.proofs.StepLaws.{sums-length}
-use Rattle.steps.proofs.ReadLaws.{difference, step_there, step_near, rest, rest_all, next_is, next_behind}
+use Rattle.steps.proofs.ReadLaws.{difference, step_there, step_near, rest, rest_all, next_is, next_behind, asked, asked_are, asked_long, asked_on}
 use Rattle.steps.proofs.inner.reading.write_sums.Goals as goal
-
--- the numbers that are asked for, by the bits of x and y
-abbrev all : List ℕ → ℕ → ℕ → ℕ → ℕ → ℕ → List ℤ
-all f at w k x y = sums (to_z w32 x) (to_z w32 y) (numbers w k (drop at (bits f)))
-
-abbrev asked : goal.After-shared_slice_known-1 → List ℤ
-asked c = let s = c.args in all s.bytes.now s.at s.width s.k (of_z w32 s.x) (of_z w32 s.y)
-
-abbrev asked_2 : goal.After-next-u → List ℤ
-asked_2 c = let s = c.args in all s.bytes.now s.at s.width s.k (of_z w32 s.x) (of_z w32 s.y)
-
-abbrev asked_3 : goal.After-loop-i → List ℤ
-asked_3 c = let s = c.args in all s.bytes.now s.at s.width s.k (of_z w32 s.x) (of_z w32 s.y)
-
-asked_are : (c : goal.After-loop-i) → asked_3 c ≡ sums c.args.x c.args.y (numbers c.args.width c.args.k (drop c.args.at (bits c.args.bytes.now)))
-asked_are c = let s = c.args in ap₂ (λ (x y : ℤ). sums x y (numbers s.width s.k (drop s.at (bits s.bytes.now)))) (to_z-of_z c.ranges.x) (to_z-of_z c.ranges.y)
-
-asked_are_2 : (c : goal.After-next-u) → asked_2 c ≡ sums c.args.x c.args.y (numbers c.args.width c.args.k (drop c.args.at (bits c.args.bytes.now)))
-asked_are_2 c = let s = c.args in ap₂ (λ (x y : ℤ). sums x y (numbers s.width s.k (drop s.at (bits s.bytes.now)))) (to_z-of_z c.ranges.x) (to_z-of_z c.ranges.y)
-
-asked_long : (c : goal.After-next-u) → length (asked_2 c) ≡ c.args.k
-asked_long c = let s = c.args in sums-length _ _ (numbers s.width s.k (drop s.at (bits s.bytes.now))) ∙ numbers-length s.width s.k (drop s.at (bits s.bytes.now))
-
-asked_long_2 : (c : goal.After-loop-i) → length (asked_3 c) ≡ c.args.k
-asked_long_2 c = let s = c.args in sums-length _ _ (numbers s.width s.k (drop s.at (bits s.bytes.now))) ∙ numbers-length s.width s.k (drop s.at (bits s.bytes.now))
-
-asked_on : (c : goal.After-next-u) → all_on_grid limit (asked_2 c) ≡ true
-asked_on c = ap (all_on_grid limit) (asked_are_2 c) ∙ c.requires.1
 
 -- the next of them
 u_is : (c : goal.After-next-u) → let s = c.args in let l = c.loop-i in
     to_z w64 (of_z w64 c.next-u.result) ≡ to_z w32 l.a-bits +ℤ difference s.bytes.now (s.at + s.width * l.i) s.width
 u_is c = to_z-of_z {w = w64} (sfits_of c.next-u.type_inv) ∙ c.next-u.ensures
 
-u_asked : (c : goal.After-next-u) → to_z w64 (of_z w64 c.next-u.result) ≡ get_or (asked_2 c) c.loop-i.i (pos 0)
+u_asked : (c : goal.After-next-u) → let s = c.args in to_z w64 (of_z w64 c.next-u.result) ≡ get_or (asked s.bytes.now s.at s.width s.k (of_z w32 s.x) (of_z w32 s.y)) c.loop-i.i (pos 0)
 u_asked c =
     let s = c.args in
     let l = c.loop-i in
-    u_is c ∙ sym (next_is s.bytes.now s.at s.width s.k (to_z w32 l.a-bits) (to_z w32 l.b-bits) l.i c.loop-i-test.true (asked_2 c) l.invariant.1)
+    u_is c ∙ sym (next_is s.bytes.now s.at s.width s.k (to_z w32 l.a-bits) (to_z w32 l.b-bits) l.i c.loop-i-test.true _ l.invariant.1)
 
 u_on : (c : goal.After-next-u) → In limit (to_z w64 (of_z w64 c.next-u.result))
 u_on c =
-    in_eq (u_asked c) (on_grid_in limit _ (all_on_grid_at limit (asked_2 c) c.loop-i.i (asked_on c)))
+    let s = c.args in
+    in_eq (u_asked c) (on_grid_in limit _ (asked_on s.bytes.now s.at s.width s.k c.ranges.x c.ranges.y c.requires.1 c.loop-i.i))
 
 pub loop-i-init : goal.loop-i-init
 loop-i-init c =
     let s = c.args in
-    (copied_none s.out.now s.to (asked c), ap (sums (to_z w32 (of_z w32 s.x)) (to_z w32 (of_z w32 s.y))) (sym (rest_all s.bytes.now s.at s.width s.k)))
+    (copied_none s.out.now s.to (asked s.bytes.now s.at s.width s.k (of_z w32 s.x) (of_z w32 s.y)), ap (sums (to_z w32 (of_z w32 s.x)) (to_z w32 (of_z w32 s.y))) (sym (rest_all s.bytes.now s.at s.width s.k)))
 
 pub overflow_mul-width : goal.overflow_mul-width
 overflow_mul-width c = omega (arith, step_near c.requires.0 c.loop-i-test.true)
@@ -102,10 +70,11 @@ pub loop-i-preserved : goal.loop-i-preserved
 loop-i-preserved c =
     let s = c.args in
     let l = c.loop-i in
-    let long : length (asked_2 c) ≡ s.k = asked_long c in
+    let row : List ℤ = asked s.bytes.now s.at s.width s.k (of_z w32 s.x) (of_z w32 s.y) in
+    let long : length row ≡ s.k = asked_long s.bytes.now s.at s.width s.k (of_z w32 s.x) (of_z w32 s.y) in
     let back = to_z-of_z (u_fits c) in (
-      copied_more s.out.now s.to (asked_2 c) l.invariant.0 (pos 0) _ (omega (arith, c.requires.2)) (omega arith) (back ∙ u_asked c),
-      next_behind s.bytes.now s.at s.width s.k (to_z w32 l.a-bits) (to_z w32 l.b-bits) l.i c.loop-i-test.true (asked_2 c) l.invariant.1
+      copied_more s.out.now s.to row l.invariant.0 (pos 0) _ (omega (arith, c.requires.2)) (omega arith) (back ∙ u_asked c),
+      next_behind s.bytes.now s.at s.width s.k (to_z w32 l.a-bits) (to_z w32 l.b-bits) l.i c.loop-i-test.true row l.invariant.1
           ∙ ap (λ (z : ℤ). sums (to_z w32 l.b-bits) z (rest s.bytes.now s.at s.width s.k (l.i + 1))) (sym (back ∙ u_is c)),
     )
 
@@ -116,5 +85,6 @@ pub returns : goal.returns
 returns c =
     let s = c.args in
     let l = c.loop-i in
-    let long : length (asked_3 c) ≡ s.k = asked_long_2 c in
-    copied_all s.out.now s.to (asked_3 c) l.invariant.0 (omega (arith, l.invariant.0.within)) ∙ ap (λ (m : List ℤ). placed s.to m s.out.now) (asked_are c)
+    let row : List ℤ = asked s.bytes.now s.at s.width s.k (of_z w32 s.x) (of_z w32 s.y) in
+    let long : length row ≡ s.k = asked_long s.bytes.now s.at s.width s.k (of_z w32 s.x) (of_z w32 s.y) in
+    copied_all s.out.now s.to row l.invariant.0 (omega (arith, l.invariant.0.within)) ∙ ap (λ (m : List ℤ). placed s.to m s.out.now) (asked_are s.bytes.now s.at s.width s.k c.ranges.x c.ranges.y)

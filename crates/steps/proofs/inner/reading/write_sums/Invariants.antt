@@ -1,5 +1,4 @@
 use mathlib.Core.Path.{◌≡◌}
-use Prim.Native.Nat.{◌-◌}
 use lib.ListN.{drop}
 use Rattle.bits.specs.Bits.{bits}
 use Rattle.bits.specs.Signs.{numbers}
@@ -12,6 +11,3 @@ abbrev pub invariant-loop-i : goal.invariant-loop-i
 invariant-loop-i l =
     Copied l.initial.out l.to (sums l.x l.y (numbers l.width l.k (drop l.at (bits l.bytes)))) l.out l.i
     × (drop l.i (sums l.x l.y (numbers l.width l.k (drop l.at (bits l.bytes)))) ≡ sums l.a l.b (rest l.bytes l.at l.width l.k l.i))
-
-abbrev pub decreases-loop-i : goal.decreases-loop-i
-decreases-loop-i l = l.k - l.i

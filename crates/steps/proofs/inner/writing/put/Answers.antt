@@ -1,36 +1,27 @@
 -- `steps::inner::writing::put` meets its contract: the differences stand behind the first point.
-use Prim.Native.Nat.{◌≤◌}
-use native.Mathlib.Omega.{arith}
-use lib.ListN.{length}
+use mathlib.Core.Path.{sym, ◌∙◌}
+use Rattle.std.proofs.Common.{eqb-true}
 use Rattle.bits.proofs.PenLaws.{wrote_none}
-use Rattle.steps.proofs.WriteLaws.{body_none, first_room, steps_fitting, body_wrote}
+use Rattle.steps.proofs.WriteLaws.{body_none, writable_some, first_room, steps_fitting, body_wrote}
 use Rattle.steps.proofs.inner.writing.put.Goals as goal
 
--- a contour that has points has two coordinates
-some : (c : goal.After-put_first-arg-1) → 2 ≤ length c.args.contour.now
-some c = omega (arith, c.if-contour-eq0.false, c.requires.even)
-
--- a contour that has points has two coordinates
-some_2 : (c : goal.After-put_following-arg-1) → 2 ≤ length c.args.contour.now
-some_2 c = omega (arith, c.if-contour-eq0.false, c.requires.even)
-
--- a contour that has points has two coordinates
-some_3 : (c : goal.After-slice_known-3-1) → 2 ≤ length c.args.contour.now
-some_3 c = omega (arith, c.if-contour-eq0.false, c.requires.even)
-
-pub returns-then-contour-eq0 : goal.returns-then-contour-eq0
-returns-then-contour-eq0 c =
-    (rw (body_none c.args.contour.now c.if-contour-eq0.true) (wrote_none c.args.pen c.args.bytes.now c.requires.ready.small), c.requires.ready.few)
+pub returns-then-is_empty : goal.returns-then-is_empty
+returns-then-is_empty c =
+    let none = eqb-true _ 0 (sym c.is_empty.ensures ∙ c.if-is_empty.true) in
+    (rw (body_none c.args.contour.now none) (wrote_none c.args.pen c.args.bytes.now c.requires.ready.small), c.requires.ready.few)
 
 pub put_first-first-requires : goal.put_first-first-requires
 put_first-first-requires c =
     let pre = c.requires in
-    (pre.ready, some c, first_room pre (some c))
+    let some = writable_some pre (sym c.is_empty.ensures ∙ c.if-is_empty.false) in
+    (pre.ready, some, first_room pre some)
 
 pub put_following-requires : goal.put_following-requires
 put_following-requires c =
-    steps_fitting c.requires (some_2 c) c.put_first-first.ensures.0 c.put_first-first.ensures.1
+    let some = writable_some c.requires (sym c.is_empty.ensures ∙ c.if-is_empty.false) in
+    steps_fitting c.requires some c.put_first-first.ensures.0 c.put_first-first.ensures.1
 
 pub returns : goal.returns
 returns c =
-    (body_wrote c.requires (some_3 c) c.put_first-first.ensures.0 c.put_following.ensures.0, c.put_following.ensures.1)
+    let some = writable_some c.requires (sym c.is_empty.ensures ∙ c.if-is_empty.false) in
+    (body_wrote c.requires some c.put_first-first.ensures.0 c.put_following.ensures.0, c.put_following.ensures.1)

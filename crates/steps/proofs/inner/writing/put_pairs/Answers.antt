@@ -1,14 +1,12 @@
 -- `steps::inner::writing::put_pairs` meets its contract: the points that are left fit behind those that are written.
-use borrow.Author.Rules.{sfits_of}
-use mathlib.Core.Path.{◌≡◌, refl, sym, ◌∙◌, ap, subst}
+use mathlib.Core.Path.{◌≡◌, sym, ◌∙◌, ap, subst}
 use mathlib.Core.List.{List}
-use Prim.Native.Nat.{ℕ, ◌+◌, ◌-◌, ◌*◌, ◌^◌, ◌≤◌}
+use Prim.Native.Nat.{ℕ, ◌+◌, ◌-◌, ◌*◌, ◌/◌, ◌^◌, ◌≤◌, ◌<◌}
 use native.Mathlib.Omega.{arith}
 use mir.Syntax.{w64}
 use mir.Val.{to_z, of_z}
-use mir.Facts.{to_z-of_z}
 use Rattle.integers.specs.Bound.{In}
-use Rattle.integers.proofs.Bound.{in_eq, back}
+use Rattle.integers.proofs.Bound.{back}
 use Rattle.bits.specs.declared.inner.pens.Pen.{Pen}
 use Rattle.bits.specs.Signs.{fields}
 use Rattle.grid.specs.Limits.{limit}
@@ -18,7 +16,7 @@ use lib.Seq.{take_all}
 use lib.IntN.{ℤ, pos}
 use Rattle.bits.specs.inside.Pens.{Wrote}
 use Rattle.steps.specs.inside.Asked.{Fitting, Narrow, joined}
-use Rattle.steps.proofs.WriteLaws.{room_left, writing_none, pair_below, pair_room, writing_pair, writing_same, rest_fitting, writing_rest}
+use Rattle.steps.proofs.WriteLaws.{pair_below, pair_room, writing_pair, writing_same, rest_fitting, writing_rest}
 use Rattle.steps.proofs.PairLaws.{scale_in, joined_in}
 use Rattle.steps.proofs.inner.writing.put_pairs.Goals as goal
 
@@ -33,70 +31,49 @@ module _ (row : List ℕ) (l : List ℤ) (w : ℕ) (p : Pen) (fit : Fitting row 
 fitting : {row : List ℕ} {l : List ℤ} {w : ℕ} {p q : Pen} → q ≡ p → Fitting row p l w → Fitting row q l w
 fitting {row} {l} {w} e f = subst (λ (r : Pen). Fitting row r l w) (sym e) f
 
-scale_is : (c : goal.After-scale) → to_z w64 (of_z w64 c.scale.result) ≡ pos (2 ^ c.args.width)
-scale_is c = to_z-of_z {w = w64} (sfits_of c.scale.type_inv) ∙ c.scale.ensures
-
-scale_is_2 : (c : goal.After-joined-from) → to_z w64 (of_z w64 c.scale.result) ≡ pos (2 ^ c.args.width)
-scale_is_2 c = to_z-of_z {w = w64} (sfits_of c.scale.type_inv) ∙ c.scale.ensures
-
 -- the part from a position on
 behind : (c : List ℤ) (k : ℕ) → take (length c - k) (drop k c) ≡ drop k c
 behind c k = take_all (length c - k) (drop k c) (omega (arith, length-drop k c))
 
-pub joined-from-requires : goal.joined-from-requires
-joined-from-requires c = (omega (arith, c.requires.2), c.requires.0.on, in_eq (scale_is c) (scale_in c.args.width (narrow c.args.bytes.now c.args.contour.now c.args.width c.args.pen c.requires.0 c.requires.1)))
-
-pub loop-k-init : goal.loop-k-init
-loop-k-init c = (
-  writing_none (fitting c.broaden-b.ensures.1 c.requires.0),
-  c.broaden-b.ensures.0,
-  refl,
-  c.requires.2,
-  to_z-of_z {w = w64} (sfits_of c.joined-from.type_inv) ∙ c.joined-from.ensures ∙ ap (λ (z : ℤ). joined z c.args.contour.now 0) (scale_is_2 c),
-)
-
-pub four-next-requires : goal.four-next-requires
-four-next-requires c =
-    let l = c.loop-k in
-    (c.loop-k-test.true, c.requires.0.on, narrow c.args.bytes.now c.args.contour.now c.args.width c.args.pen c.requires.0 c.requires.1, l.invariant.0.fit, l.invariant.4)
-
 pub sweep-b-requires : goal.sweep-b-requires
 sweep-b-requires c =
-    let l = c.loop-k in
-    let h = c.loop-k-test.true in (
+    let s = c.args in
+    let l = c.loop-i in
+    let h : 4 * l.i + 5 < length s.contour.now = omega arith in
+    let n = narrow s.bytes.now s.contour.now s.width s.pen c.requires.0 c.requires.1 in (
       l.invariant.1,
-      record { some = omega (arith, (narrow c.args.bytes.now c.args.contour.now c.args.width c.args.pen c.requires.0 c.requires.1).some); within_60 = omega (arith, (narrow c.args.bytes.now c.args.contour.now c.args.width c.args.pen c.requires.0 c.requires.1).few); room = pair_room l.invariant.0 h (narrow c.args.bytes.now c.args.contour.now c.args.width c.args.pen c.requires.0 c.requires.1).some (fitting c.broaden-b.ensures.1 c.requires.0).room },
-      rw c.four-next.ensures.0 (pair_below l.invariant.0 h (narrow c.args.bytes.now c.args.contour.now c.args.width c.args.pen c.requires.0 c.requires.1).some),
+      record { some = omega (arith, n.some); within_60 = omega (arith, n.few); room = pair_room l.invariant.0 h n.some (fitting c.broaden-b.ensures.1 c.requires.0).room },
+      rw c.four-next.ensures.0 (pair_below l.invariant.0 h n.some),
     )
 
-pub loop-k-preserved : goal.loop-k-preserved
+pub loop-i-preserved : goal.loop-i-preserved
 unfolding limit
-loop-k-preserved c =
-    let l = c.loop-k in
-    let h = c.loop-k-test.true in (
-      writing_pair l.invariant.0 h (narrow c.args.bytes.now c.args.contour.now c.args.width c.args.pen c.requires.0 c.requires.1).some c.four-next.ensures.0 c.sweep-b.ensures.0,
+loop-i-preserved c =
+    let s = c.args in
+    let l = c.loop-i in
+    let h : 4 * l.i + 5 < length s.contour.now = omega arith in
+    let e : 4 * l.i + 4 ≡ 4 * (l.i + 1) = omega arith in
+    let n = narrow s.bytes.now s.contour.now s.width s.pen c.requires.0 c.requires.1 in
+    rw (← e) (
+      writing_pair l.invariant.0 h n.some c.four-next.ensures.0 c.sweep-b.ensures.0,
       c.sweep-b.ensures.1,
-      omega (arith, l.invariant.2),
-      omega (arith, h),
-      ap (λ (z : ℤ). to_z w64 (of_z w64 z)) c.four-next.ensures.1 ∙ back w64 (near c.args.bytes.now c.args.contour.now c.args.width c.args.pen c.requires.0 c.requires.1 (l.k + 4)) tt,
+      ap (λ (z : ℤ). to_z w64 (of_z w64 z)) c.four-next.ensures.1 ∙ back w64 (near s.bytes.now s.contour.now s.width s.pen c.requires.0 c.requires.1 (4 * l.i + 4)) tt,
     )
-
-pub narrow-p-requires : goal.narrow-p-requires
-narrow-p-requires c =
-    let l = c.loop-k in
-    (l.invariant.1, omega (arith, room_left l.invariant.0 (fitting c.broaden-b.ensures.1 c.requires.0).room))
 
 pub put_steps-requires : goal.put_steps-requires
 put_steps-requires c =
     let s = c.args in
-    let l = c.loop-k in
-    rw (behind s.contour.now l.k) (rest_fitting (writing_same l.invariant.0 c.narrow-p.ensures.0) (fitting c.broaden-b.ensures.1 c.requires.0) l.invariant.2 (omega (arith, l.invariant.3)) c.narrow-p.ensures.1)
+    let l = c.loop-i in
+    let e : 4 * ((length s.contour.now - 2) / 4) ≡ 4 * l.i = omega arith in
+    rw (e, behind s.contour.now (4 * l.i))
+    (rest_fitting (writing_same l.invariant.0 c.narrow-p.ensures.0) (fitting c.broaden-b.ensures.1 c.requires.0) (omega arith) (omega arith) c.narrow-p.ensures.1)
 
 pub returns : goal.returns
 returns c =
     let s = c.args in
-    let l = c.loop-k in
-    let rest = rw (behind s.contour.now l.k) at c.put_steps.ensures.0 in (
+    let l = c.loop-i in
+    let e : 4 * ((length s.contour.now - 2) / 4) ≡ 4 * l.i = omega arith in
+    let rest = rw (e, behind s.contour.now (4 * l.i)) at c.put_steps.ensures.0 in (
       subst (λ (p : Pen). Wrote p (fields s.width (differences s.contour.now)) s.bytes.now c.put_steps.result c.put_steps.new.bytes) c.broaden-b.ensures.1
           (writing_rest (writing_same l.invariant.0 c.narrow-p.ensures.0) rest),
       c.put_steps.ensures.1,

@@ -1,18 +1,14 @@
 -- `tidy::inner::tidying::write` meets its contract: what was cleaned stands in front of the rows, and is written.
-use mathlib.Core.Path.{◌≡◌, sym, ◌∙◌, ap}
+use mathlib.Core.Path.{sym}
 use mathlib.Core.List.{List}
-use Prim.Native.Nat.{ℕ, ◌*◌}
+use Prim.Native.Nat.{ℕ}
 use native.Mathlib.Omega.{arith}
-use lib.ListN.{take, replicate, length-replicate}
+use lib.ListN.{replicate, length-replicate}
 use lib.Seq.{length-take-le}
 use lib.IntN.{ℤ, pos}
-use Rattle.buffer.specs.Spans.{spans}
-use Rattle.buffer.specs.Sets.{shapes}
-use Rattle.sets.specs.Fates.{shapes_fate}
-use Rattle.jobpack.specs.Packing.{Packed, written, set_packed, outcome}
-use Rattle.tidy.specs.Words.{refusal, file}
 use Rattle.tidy.proofs.SetLaws.{Roomy, HasCleaned, cleanable, no_scratch, points_in, contours_in, shapes_in, points_are, contours_are, shapes_are}
 use Rattle.tidy.proofs.inner.tidying.write.Goals as goal
+use Rattle.tidy.proofs.inner.tidying.write.Goals.{After-sweep_shapes-total}
 
 -- the rows as they are lent to the cleaning
 abbrev no_points : List ℤ
@@ -26,70 +22,37 @@ roomy =
     let n = length-replicate 4095 (replicate {A = ℕ} 2 0) in
     record { numbers = omega (arith, length-replicate {A = ℤ} 16384 (pos 0)); contours = omega (arith, n); shapes = omega (arith, n) }
 
-cleaned : (c : goal.After-struct_known-1) →
+cleaned : (c : After-sweep_shapes-total) →
     let s = c.args in
     HasCleaned s.points.now s.contours.now s.shapes.now s.rule no_points no_ranges no_ranges c.sweep_shapes-total.result
     c.sweep_shapes-total.new.out c.sweep_shapes-total.new.records c.sweep_shapes-total.new.groups
 cleaned c = record { set = c.requires.tidiable; has = roomy; is = c.sweep_shapes-total.ensures.groups_after }
 
-cleaned_2 : (c : goal.After-kept-3-1) →
-    let s = c.args in
-    HasCleaned s.points.now s.contours.now s.shapes.now s.rule no_points no_ranges no_ranges c.sweep_shapes-total.result
-    c.sweep_shapes-total.new.out c.sweep_shapes-total.new.records c.sweep_shapes-total.new.groups
-cleaned_2 c = record { set = c.requires.tidiable; has = roomy; is = c.sweep_shapes-total.ensures.groups_after }
-
-cleaned_3 : (c : goal.After-ranges-3-1) →
-    let s = c.args in
-    HasCleaned s.points.now s.contours.now s.shapes.now s.rule no_points no_ranges no_ranges c.sweep_shapes-total.result
-    c.sweep_shapes-total.new.out c.sweep_shapes-total.new.records c.sweep_shapes-total.new.groups
-cleaned_3 c = record { set = c.requires.tidiable; has = roomy; is = c.sweep_shapes-total.ensures.groups_after }
-
-cleaned_4 : (c : goal.After-groups-3-1) →
-    let s = c.args in
-    HasCleaned s.points.now s.contours.now s.shapes.now s.rule no_points no_ranges no_ranges c.sweep_shapes-total.result
-    c.sweep_shapes-total.new.out c.sweep_shapes-total.new.records c.sweep_shapes-total.new.groups
-cleaned_4 c = record { set = c.requires.tidiable; has = roomy; is = c.sweep_shapes-total.ensures.groups_after }
-
-cleaned_5 : (c : goal.After-slice_known-4-1) →
-    let s = c.args in
-    HasCleaned s.points.now s.contours.now s.shapes.now s.rule no_points no_ranges no_ranges c.sweep_shapes-total.result
-    c.sweep_shapes-total.new.out c.sweep_shapes-total.new.records c.sweep_shapes-total.new.groups
-cleaned_5 c = record { set = c.requires.tidiable; has = roomy; is = c.sweep_shapes-total.ensures.groups_after }
-
 pub sweep_shapes-total-requires : goal.sweep_shapes-total-requires
 sweep_shapes-total-requires c = cleanable c.requires.tidiable roomy no_scratch
 
 pub overflow_mul-n : goal.overflow_mul-n
-overflow_mul-n c = omega (arith, points_in (cleaned c), c.sweep_shapes-total.auto.out, length-replicate {A = ℤ} 16384 (pos 0))
+overflow_mul-n c = omega (arith, points_in (cleaned (goal.at.overflow_mul-n c).After-sweep_shapes-total), c.sweep_shapes-total.auto.out, length-replicate {A = ℤ} 16384 (pos 0))
 
 pub slice_bounds-kept-end : goal.slice_bounds-kept-end
-slice_bounds-kept-end c = points_in (cleaned c)
+slice_bounds-kept-end c = points_in (cleaned (goal.at.slice_bounds-kept-end c).After-sweep_shapes-total)
 
-pub slice_bounds-write-end : goal.slice_bounds-write-end
-slice_bounds-write-end c = sym (length-take-le _ _ (points_in (cleaned_2 c)))
+pub slice_bounds-written-end : goal.slice_bounds-written-end
+slice_bounds-written-end c = sym (length-take-le _ _ (points_in (cleaned (goal.at.slice_bounds-written-end c).After-sweep_shapes-total)))
 
 pub slice_bounds-ranges-end : goal.slice_bounds-ranges-end
-slice_bounds-ranges-end c = contours_in (cleaned_2 c)
+slice_bounds-ranges-end c = contours_in (cleaned (goal.at.slice_bounds-ranges-end c).After-sweep_shapes-total)
 
-pub slice_bounds-write-end-2 : goal.slice_bounds-write-end-2
-slice_bounds-write-end-2 c = sym (length-take-le _ _ (contours_in (cleaned_3 c)))
+pub slice_bounds-written-end-2 : goal.slice_bounds-written-end-2
+slice_bounds-written-end-2 c = sym (length-take-le _ _ (contours_in (cleaned (goal.at.slice_bounds-written-end-2 c).After-sweep_shapes-total)))
 
 pub slice_bounds-groups-end : goal.slice_bounds-groups-end
-slice_bounds-groups-end c = shapes_in (cleaned_3 c)
+slice_bounds-groups-end c = shapes_in (cleaned (goal.at.slice_bounds-groups-end c).After-sweep_shapes-total)
 
-pub slice_bounds-write-end-3 : goal.slice_bounds-write-end-3
-slice_bounds-write-end-3 c = sym (length-take-le _ _ (shapes_in (cleaned_4 c)))
-
--- the set that is written is that of the cleaned shapes
-same : (c : goal.After-slice_known-4-1) →
-    let s = c.args in
-    let w = c.sweep_shapes-total in
-    let ds = (shapes_fate s.rule (shapes s.points.now (spans s.contours.now) (spans s.shapes.now))).shapes in
-    set_packed s.second (take (2 * w.result.progress.points) w.new.out) (take w.result.progress.contours w.new.records) (take w.result.shapes w.new.groups)
-    ≡ written (refusal s.second ds) (file s.second ds)
-same c = rw (points_are (cleaned_5 c), contours_are (cleaned_5 c), shapes_are (cleaned_5 c))
+pub slice_bounds-written-end-3 : goal.slice_bounds-written-end-3
+slice_bounds-written-end-3 c = sym (length-take-le _ _ (shapes_in (cleaned (goal.at.slice_bounds-written-end-3 c).After-sweep_shapes-total)))
 
 pub returns : goal.returns
 returns c =
-    let s = c.args in
-    c.write.ensures ∙ ap (λ (q : Packed). outcome q s.out.now s.text.now) (same c)
+    let done = cleaned (goal.at.returns c).After-sweep_shapes-total in
+    rw (points_are done, contours_are done, shapes_are done) at c.written.ensures

@@ -1,12 +1,5 @@
-use mathlib.Core.Path.{◌≡◌}
-use Prim.Native.Nat.{◌-◌}
-use lib.ListN.{length}
 use Rattle.vertices.proofs.SettleLaws.{Settling}
 use Rattle.vertices.proofs.inner.settling.settle_all.Given as goal
 
 abbrev pub invariant-loop-i : goal.invariant-loop-i
-invariant-loop-i l =
-    Settling l.second l.bytes l.n l.points l.initial.mark l.mark l.i l.at l.start × (length l.next ≡ length l.initial.next) × (length l.prev ≡ length l.initial.prev)
-
-abbrev pub decreases-loop-i : goal.decreases-loop-i
-decreases-loop-i l = l.n - l.i
+invariant-loop-i l = Settling l.second l.bytes l.n l.points l.initial.mark l.mark l.i l.at l.start

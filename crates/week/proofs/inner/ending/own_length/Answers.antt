@@ -1,79 +1,59 @@
 -- `week::inner::ending::own_length` meets its contract.
 use mathlib.Core.Path.{◌≡◌, sym, ◌∙◌, ap, ap₂}
 use mathlib.Core.Bool.{Bool}
+use mathlib.Core.List.{List}
 use Prim.Native.Nat.{ℕ, ◌*◌, ◌≤◌}
 use native.Mathlib.Omega.{arith}
 use lib.ListN.{length}
 use Rattle.replies.specs.Ladder.{first_of}
-use Rattle.setfile.specs.inside.Reading.{from_bit, At}
+use Rattle.replies.proofs.RefusalLaws.{told_by}
+use Rattle.setfile.specs.Editions.{is_second}
+use Rattle.setfile.specs.Layouts.{promised}
+use Rattle.setfile.specs.inside.Reading.{from_bit}
 use Rattle.setfile.proofs.FaultLaws.{either_long}
 use Rattle.setfile.proofs.JudgeLaws.{at_contours}
 use Rattle.setfile.proofs.ContourLaws.{from-length}
-use Rattle.week.specs.Files.{head_refusals, bit_behind, whole_bytes}
-use Rattle.week.proofs.EndLaws.{not_told, told, ends_within}
+use Rattle.week.specs.Files.{head_refusals, bit_behind, whole_bytes, own_length}
+use Rattle.week.proofs.EndLaws.{none_is, some_is, none_back, some_back, not_told, told, ends_within, filled_bytes}
 use Rattle.week.proofs.inner.ending.own_length.Goals as goal
 
-pub returns-then-either_refused-ne0 : goal.returns-then-either_refused-ne0
-returns-then-either_refused-ne0 c =
-    let s = c.args in
-    record { value = not_told s.bytes.now _ c.either_refused.ensures c.if-either_refused-ne0.true; upper_bound = omega arith }
+module _ (f : List ℕ) (e : first_of (head_refusals f) ≡ 0) (s : Bool) (g : s ≡ is_second f) where
+  -- the length that is told ends the last contour
+  ended : (n : ℕ) → n ≡ promised f → (b : ℕ) → b ≡ bit_behind s n 16 (from_bit f 16) → whole_bytes b ≡ own_length f
+  ended n h b is =
+      ap whole_bytes (is ∙ ap₂ (λ (t : Bool) (k : ℕ). bit_behind t k 16 (from_bit f 16)) g h) ∙ told f 0 (sym e) (omega arith)
 
--- the head is not refused
-headed : (c : goal.After-is_second-second) → first_of (head_refusals c.args.bytes.now) ≡ 0
-headed c = sym c.either_refused.ensures ∙ c.if-either_refused-ne0.false
+  -- which lies within the file
+  within : (n b : ℕ) → b ≡ bit_behind s n 16 (from_bit f 16) → b ≤ 8 * length f
+  within n b is = omega (arith, is, ends_within s n 16 (from_bit f 16), from-length f 16 (at_contours s f g e).within)
 
--- the head is not refused
-headed_2 : (c : goal.After-promised-n) → first_of (head_refusals c.args.bytes.now) ≡ 0
-headed_2 c = sym c.either_refused.ensures ∙ c.if-either_refused-ne0.false
-
--- the head is not refused
-headed_3 : (c : goal.After-bit_behind) → first_of (head_refusals c.args.bytes.now) ≡ 0
-headed_3 c = sym c.either_refused.ensures ∙ c.if-either_refused-ne0.false
+pub returns-then-is_err-clause-value : goal.returns-then-is_err-clause-value
+returns-then-is_err-clause-value c =
+    none_is _ (not_told c.args.bytes.now _ c.check_either.ensures ((told_by _).0 (sym c.is_err.ensures.value ∙ c.if-is_err.true)))
 
 pub promised-n-requires : goal.promised-n-requires
-promised-n-requires c = either_long c.args.bytes.now (headed c)
-
--- behind the head
-begins : (c : goal.After-promised-n) →
-    let s = c.args in
-    At c.is_second-second.result s.bytes.now 16
-begins c =
-    let s = c.args in
-    at_contours c.is_second-second.result s.bytes.now c.is_second-second.ensures (headed_2 c)
-
--- behind the head
-begins_2 : (c : goal.After-bit_behind) →
-    let s = c.args in
-    At c.is_second-second.result s.bytes.now 16
-begins_2 c =
-    let s = c.args in
-    at_contours c.is_second-second.result s.bytes.now c.is_second-second.ensures (headed_3 c)
+promised-n-requires c = either_long c.args.bytes.now (sym c.check_either.ensures ∙ (told_by _).1 (sym c.is_err.ensures.value ∙ c.if-is_err.false))
 
 pub bit_behind-requires : goal.bit_behind-requires
-bit_behind-requires c = begins c
+bit_behind-requires c =
+    at_contours c.is_second-second.result c.args.bytes.now c.is_second-second.ensures (sym c.check_either.ensures ∙ (told_by _).1 (sym c.is_err.ensures.value ∙ c.if-is_err.false))
 
--- the bit that is answered lies within the file
-within : (c : goal.After-bit_behind) →
-    let s = c.args in
-    c.bit_behind.result ≤ 8 * length s.bytes.now
-within c =
-    let s = c.args in
-    let b = c.is_second-second.result in
-    let a = begins_2 c in
-    omega (arith, c.bit_behind.ensures, ends_within b c.promised-n.result 16 (from_bit s.bytes.now 16), from-length s.bytes.now 16 a.within)
+pub returns-in_err-behind-clause-value : goal.returns-in_err-behind-clause-value
+returns-in_err-behind-clause-value c =
+    let clear = sym c.check_either.ensures ∙ (told_by _).1 (sym c.is_err.ensures.value ∙ c.if-is_err.false) in
+    c.from_residual.ensures
+    ∙ none_is _ (ended c.args.bytes.now clear c.is_second-second.result c.is_second-second.ensures c.promised-n.result c.promised-n.ensures 0 (sym (none_back _ c.in_err-behind.ensures)))
 
-pub overflow_add-result : goal.overflow_add-result
-overflow_add-result c = omega (arith, within c, (begins_2 c).short)
+pub returns-clause-value : goal.returns-clause-value
+returns-clause-value c =
+    let clear = sym c.check_either.ensures ∙ (told_by _).1 (sym c.is_err.ensures.value ∙ c.if-is_err.false) in
+    let some = some_back _ _ c.in_ok-behind.ensures in
+    let is = c.div_ceil.ensures ∙ filled_bytes c.in_ok-behind.behind in
+    some_is c.div_ceil.result _ (is ∙ ended c.args.bytes.now clear c.is_second-second.result c.is_second-second.ensures c.promised-n.result c.promised-n.ensures c.in_ok-behind.behind some.0)
+    (λ z. some.1 (omega (arith, is)))
 
-pub returns : goal.returns
-returns c =
-    let s = c.args in
-    let f = s.bytes.now in
-    record {
-      value =
-          ap whole_bytes
-          (c.bit_behind.ensures
-          ∙ ap₂ (λ (b : Bool) (n : ℕ). bit_behind b n 16 (from_bit f 16)) c.is_second-second.ensures c.promised-n.ensures)
-          ∙ told f _ c.either_refused.ensures c.if-either_refused-ne0.false;
-      upper_bound = omega (arith, within c);
-    }
+pub returns-clause-upper_bound : goal.returns-clause-upper_bound
+returns-clause-upper_bound c =
+    let clear = sym c.check_either.ensures ∙ (told_by _).1 (sym c.is_err.ensures.value ∙ c.if-is_err.false) in
+    let some = some_back _ _ c.in_ok-behind.ensures in
+    omega (arith, c.div_ceil.ensures, within c.args.bytes.now clear c.is_second-second.result c.is_second-second.ensures c.promised-n.result c.in_ok-behind.behind some.0)

@@ -4,49 +4,30 @@ use Rattle.report.proofs.PutLaws.{Going, going_none, going_room, going_more, goi
 use Rattle.week.specs.Table.{said}
 use Rattle.week.proofs.TableLaws.{said_words, said_joined, said-length}
 use Rattle.week.proofs.inner.saying.put.Goals as goal
+use Rattle.week.proofs.inner.saying.put.Goals.{Start}
 
 -- all of it is to be put
-begun : (c : goal.After-put-arg-2-1) → let s = c.args in
+begun : (c : Start) → let s = c.args in
     Going 0 (said s.week) s.text.now 0 s.text.now (said_words s.week)
 begun c = let s = c.args in going_none 0 s.text.now (said_words s.week) (said_joined s.week) (omega (arith, said-length s.week, c.requires.in_bounds))
 
--- all of it is to be put
-begun_2 : (c : goal.After-struct_known-1) → let s = c.args in
-    Going 0 (said s.week) s.text.now 0 s.text.now (said_words s.week)
-begun_2 c = let s = c.args in going_none 0 s.text.now (said_words s.week) (said_joined s.week) (omega (arith, said-length s.week, c.requires.in_bounds))
-
--- all of it is to be put
-begun_3 : (c : goal.After-put_if-arg-3-1) → let s = c.args in
-    Going 0 (said s.week) s.text.now 0 s.text.now (said_words s.week)
-begun_3 c = let s = c.args in going_none 0 s.text.now (said_words s.week) (said_joined s.week) (omega (arith, said-length s.week, c.requires.in_bounds))
-
--- all of it is to be put
-begun_4 : (c : goal.After-put_if-arg-6-1) → let s = c.args in
-    Going 0 (said s.week) s.text.now 0 s.text.now (said_words s.week)
-begun_4 c = let s = c.args in going_none 0 s.text.now (said_words s.week) (said_joined s.week) (omega (arith, said-length s.week, c.requires.in_bounds))
-
--- all of it is to be put
-begun_5 : (c : goal.After-slice_known-5-1) → let s = c.args in
-    Going 0 (said s.week) s.text.now 0 s.text.now (said_words s.week)
-begun_5 c = let s = c.args in going_none 0 s.text.now (said_words s.week) (said_joined s.week) (omega (arith, said-length s.week, c.requires.in_bounds))
-
 pub put-second-requires : goal.put-second-requires
 put-second-requires c =
-    let room = going_room (begun c) in
+    let room = going_room (begun (goal.at.put-second-requires c).Start) in
     record { f_value = c.requires.figures_value; f_in_bounds = omega (arith, room) }
 
 pub put_line-third-requires : goal.put_line-third-requires
 put_line-third-requires c =
-    going_room (going_more (begun_2 c) c.put-second.ensures)
+    rw c.from.ensures (going_room (going_more (begun (goal.at.put_line-third-requires c).Start) c.put-second.ensures))
 
 pub put_if-fourth-requires : goal.put_if-fourth-requires
 put_if-fourth-requires c =
-    going_room (going_more (going_more (begun_3 c) c.put-second.ensures) c.put_line-third.ensures)
+    going_room (going_more (going_more (begun (goal.at.put_if-fourth-requires c).Start) c.put-second.ensures) (rw c.from.ensures at c.put_line-third.ensures))
 
 pub put_if-requires : goal.put_if-requires
 put_if-requires c =
-    going_room (going_more (going_more (going_more (begun_4 c) c.put-second.ensures) c.put_line-third.ensures) c.put_if-fourth.ensures)
+    going_room (going_more (going_more (going_more (begun (goal.at.put_if-requires c).Start) c.put-second.ensures) (rw c.from.ensures at c.put_line-third.ensures)) c.put_if-fourth.ensures)
 
 pub returns : goal.returns
 returns c =
-    going_all (going_more (going_more (going_more (going_more (begun_5 c) c.put-second.ensures) c.put_line-third.ensures) c.put_if-fourth.ensures) c.put_if.ensures)
+    going_all (going_more (going_more (going_more (going_more (begun (goal.at.returns c).Start) c.put-second.ensures) (rw c.from.ensures at c.put_line-third.ensures)) c.put_if-fourth.ensures) c.put_if.ensures)

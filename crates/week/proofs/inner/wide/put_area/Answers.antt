@@ -1,13 +1,10 @@
 -- `week::inner::wide::put_area` meets its contract: by the sign of its high part.
 use mathlib.Core.Path.{◌≡◌, sym, ◌∙◌, ap}
-use mathlib.Core.Bool.{Bool, true, false}
 use mathlib.Core.List.{◌++◌}
 use Prim.Native.Nat.{ℕ, ◌+◌, ◌-◌, ◌*◌, ◌^◌}
 use native.Mathlib.Omega.{arith}
 use lib.IntN.{ℤ, pos, nat_abs}
 use lib.Signed.{lt_z}
-use mir.Syntax.{w64}
-use mir.Val.{to_z, of_z}
 use mir.Facts.{to_z-of_z}
 use lib.ListN.{length}
 use Rattle.report.specs.Text.{dash}
@@ -15,86 +12,39 @@ use Rattle.figures.specs.Halves.{whole}
 use Rattle.week.specs.Table.{long_decimal, long_signed}
 use Rattle.week.proofs.AreaLaws.{area_above, area_below, below_some}
 use Rattle.week.proofs.inner.wide.put_area.Goals as goal
-
--- its size
-sized : (c : goal.After-put_below-arg-1) → c.magnitude-size.result ≡ nat_abs c.args.high
-sized c = c.magnitude-size.ensures ∙ ap nat_abs (to_z-of_z c.ranges.high)
-
--- its size
-sized_2 : (c : goal.After-put_wide-arg-1) → c.magnitude-size.result ≡ nat_abs c.args.high
-sized_2 c = c.magnitude-size.ensures ∙ ap nat_abs (to_z-of_z c.ranges.high)
-
--- its size
-sized_3 : (c : goal.After-slice_known-then-high-lt0-1) → c.magnitude-size.result ≡ nat_abs c.args.high
-sized_3 c = c.magnitude-size.ensures ∙ ap nat_abs (to_z-of_z c.ranges.high)
-
--- its size
-sized_4 : (c : goal.After-slice_known-2-1) → c.magnitude-size.result ≡ nat_abs c.args.high
-sized_4 c = c.magnitude-size.ensures ∙ ap nat_abs (to_z-of_z c.ranges.high)
-
--- its sign
-sign : (c : goal.After-put_below-arg-1) (b : Bool) → lt_z (to_z w64 (of_z w64 c.args.high)) (pos 0) ≡ b → lt_z c.args.high (pos 0) ≡ b
-sign c b e = ap (λ (z : ℤ). lt_z z (pos 0)) (sym (to_z-of_z c.ranges.high)) ∙ e
-
--- its sign
-sign_2 : (c : goal.After-slice_known-then-high-lt0-1) (b : Bool) → lt_z (to_z w64 (of_z w64 c.args.high)) (pos 0) ≡ b → lt_z c.args.high (pos 0) ≡ b
-sign_2 c b e = ap (λ (z : ℤ). lt_z z (pos 0)) (sym (to_z-of_z c.ranges.high)) ∙ e
-
--- its sign
-sign_3 : (c : goal.After-put_wide-arg-1) (b : Bool) → lt_z (to_z w64 (of_z w64 c.args.high)) (pos 0) ≡ b → lt_z c.args.high (pos 0) ≡ b
-sign_3 c b e = ap (λ (z : ℤ). lt_z z (pos 0)) (sym (to_z-of_z c.ranges.high)) ∙ e
-
--- its sign
-sign_4 : (c : goal.After-slice_known-2-1) (b : Bool) → lt_z (to_z w64 (of_z w64 c.args.high)) (pos 0) ≡ b → lt_z c.args.high (pos 0) ≡ b
-sign_4 c b e = ap (λ (z : ℤ). lt_z z (pos 0)) (sym (to_z-of_z c.ranges.high)) ∙ e
+use Rattle.week.proofs.inner.wide.put_area.Goals.{Then-high-lt0, Else-high-lt0}
 
 -- the words of an area below 0, and of another
-below : (c : goal.After-put_below-arg-1) →
-    let s = c.args in
-    long_signed (whole s.high s.low) ≡ dash ++ long_decimal (c.magnitude-size.result * 2 ^ 32 - s.low)
+below : (c : Then-high-lt0) → long_signed (whole c.args.high c.args.low) ≡ dash ++ long_decimal (c.unsigned_abs-size.result * 2 ^ 32 - c.args.low)
 below c =
     let s = c.args in
-    area_below s.low c.ranges.low.fits s.high (sign c true c.if-high-lt0.true)
-    ∙ ap (λ (n : ℕ). dash ++ long_decimal (n * 2 ^ 32 - s.low)) (sym (sized c))
+    area_below s.low c.ranges.low.fits s.high (ap (λ (z : ℤ). lt_z z (pos 0)) (sym (to_z-of_z c.ranges.high)) ∙ c.if-high-lt0.true)
+    ∙ ap (λ (n : ℕ). dash ++ long_decimal (n * 2 ^ 32 - s.low)) (sym (c.unsigned_abs-size.ensures.value ∙ ap nat_abs (to_z-of_z c.ranges.high)))
 
--- the words of an area below 0, and of another
-below_2 : (c : goal.After-slice_known-then-high-lt0-1) →
-    let s = c.args in
-    long_signed (whole s.high s.low) ≡ dash ++ long_decimal (c.magnitude-size.result * 2 ^ 32 - s.low)
-below_2 c =
-    let s = c.args in
-    area_below s.low c.ranges.low.fits s.high (sign_2 c true c.if-high-lt0.true)
-    ∙ ap (λ (n : ℕ). dash ++ long_decimal (n * 2 ^ 32 - s.low)) (sym (sized_3 c))
-
-above : (c : goal.After-put_wide-arg-1) →
-    let s = c.args in
-    long_signed (whole s.high s.low) ≡ long_decimal (c.magnitude-size.result * 2 ^ 32 + s.low)
+above : (c : Else-high-lt0) → long_signed (whole c.args.high c.args.low) ≡ long_decimal (c.unsigned_abs-size.result * 2 ^ 32 + c.args.low)
 above c =
     let s = c.args in
-    area_above s.low c.ranges.low.fits s.high (sign_3 c false c.if-high-lt0.false)
-    ∙ ap (λ (n : ℕ). long_decimal (n * 2 ^ 32 + s.low)) (sym (sized_2 c))
-
-above_2 : (c : goal.After-slice_known-2-1) →
-    let s = c.args in
-    long_signed (whole s.high s.low) ≡ long_decimal (c.magnitude-size.result * 2 ^ 32 + s.low)
-above_2 c =
-    let s = c.args in
-    area_above s.low c.ranges.low.fits s.high (sign_4 c false c.if-high-lt0.false)
-    ∙ ap (λ (n : ℕ). long_decimal (n * 2 ^ 32 + s.low)) (sym (sized_4 c))
+    area_above s.low c.ranges.low.fits s.high (ap (λ (z : ℤ). lt_z z (pos 0)) (sym (to_z-of_z c.ranges.high)) ∙ c.if-high-lt0.false)
+    ∙ ap (λ (n : ℕ). long_decimal (n * 2 ^ 32 + s.low)) (sym (c.unsigned_abs-size.ensures.value ∙ ap nat_abs (to_z-of_z c.ranges.high)))
 
 pub put_below-requires : goal.put_below-requires
 put_below-requires c =
-    let p = below_some c.args.high (sign c true c.if-high-lt0.true) in
-    record { high_nonzero = (omega (arith, p, sized c), omega (arith, sized c, c.requires.fact.abs)); low_in_bounds = omega (arith, c.requires.low_in_bounds, ap length (below c)) }
+    let p = below_some c.args.high (ap (λ (z : ℤ). lt_z z (pos 0)) (sym (to_z-of_z c.ranges.high)) ∙ c.if-high-lt0.true) in
+    let e = c.unsigned_abs-size.ensures.value ∙ ap nat_abs (to_z-of_z c.ranges.high) in
+    record {
+      high_nonzero = (omega (arith, p, e), omega (arith, e, c.requires.fact.abs));
+      low_in_bounds = omega (arith, c.requires.low_in_bounds, ap length (below (goal.at.put_below-requires c).Then-high-lt0));
+    }
 
 pub returns-then-high-lt0 : goal.returns-then-high-lt0
 returns-then-high-lt0 c =
-    rw (below_2 c) c.put_below.ensures
+    rw (below (goal.at.returns-then-high-lt0 c).Then-high-lt0) c.put_below.ensures
 
 pub put_wide-requires : goal.put_wide-requires
 put_wide-requires c =
-    record { high_bound = omega (arith, sized_2 c, c.requires.fact.abs); low_in_bounds = rw (sym (above c)) c.requires.low_in_bounds }
+    let e = c.unsigned_abs-size.ensures.value ∙ ap nat_abs (to_z-of_z c.ranges.high) in
+    record { high_bound = omega (arith, e, c.requires.fact.abs); low_in_bounds = rw (sym (above (goal.at.put_wide-requires c).Else-high-lt0)) c.requires.low_in_bounds }
 
 pub returns : goal.returns
 returns c =
-    rw (above_2 c) c.put_wide.ensures
+    rw (above (goal.at.returns c).Else-high-lt0) c.put_wide.ensures

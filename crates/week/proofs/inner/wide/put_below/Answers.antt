@@ -1,6 +1,6 @@
 -- `week::inner::wide::put_below` meets its contract: a dash, and the size of the number.
-use mathlib.Core.Path.{◌≡◌, sym}
-use Prim.Native.Nat.{◌+◌, ◌-◌, ◌*◌, ◌^◌}
+use mathlib.Core.Path.{sym}
+use Prim.Native.Nat.{◌-◌, ◌*◌, ◌^◌}
 use native.Mathlib.Omega.{arith}
 use lib.ListN.{length-append}
 use Rattle.report.specs.Text.{dash}
@@ -26,28 +26,12 @@ returns-then-low-eq0 c =
     let e = none_lacking s.high s.low c.if-low-eq0.true in
     both_put c.put-behind.ensures (long_decimal (s.high * 2 ^ 32 - s.low)) c.requires.low_in_bounds (rw (sym e) c.put_wide.ensures)
 
--- what the low lacks
-lacking : (c : goal.After-put_wide-arg-2-1) →
-    let s = c.args in
-    (s.high - 1) * 2 ^ 32 + (4294967295 - s.low + 1) ≡ s.high * 2 ^ 32 - s.low
-lacking c =
-    let s = c.args in
-    some_lacking s.high s.low c.requires.high_nonzero.0 c.if-low-eq0.false c.ranges.low.fits
-
--- what the low lacks
-lacking_2 : (c : goal.After-slice_known-3-1) →
-    let s = c.args in
-    (s.high - 1) * 2 ^ 32 + (4294967295 - s.low + 1) ≡ s.high * 2 ^ 32 - s.low
-lacking_2 c =
-    let s = c.args in
-    some_lacking s.high s.low c.requires.high_nonzero.0 c.if-low-eq0.false c.ranges.low.fits
-
 pub put_wide-requires-2 : goal.put_wide-requires-2
 put_wide-requires-2 c =
     let s = c.args in
-    record { high_bound = omega (arith, c.requires.high_nonzero); low_in_bounds = rw (lacking c) (room_behind c.put-behind.ensures (long_decimal (s.high * 2 ^ 32 - s.low)) c.requires.low_in_bounds) }
+    record { high_bound = omega (arith, c.requires.high_nonzero); low_in_bounds = rw (some_lacking s.high s.low _ c.requires.high_nonzero.0 c.if-low-eq0.false c.ranges.low.fits c.wrapping_neg.type_inv c.wrapping_neg.ensures) (room_behind c.put-behind.ensures (long_decimal (s.high * 2 ^ 32 - s.low)) c.requires.low_in_bounds) }
 
 pub returns : goal.returns
 returns c =
     let s = c.args in
-    both_put c.put-behind.ensures (long_decimal (s.high * 2 ^ 32 - s.low)) c.requires.low_in_bounds (rw (sym (lacking_2 c)) c.put_wide-2.ensures)
+    both_put c.put-behind.ensures (long_decimal (s.high * 2 ^ 32 - s.low)) c.requires.low_in_bounds (rw (sym (some_lacking s.high s.low _ c.requires.high_nonzero.0 c.if-low-eq0.false c.ranges.low.fits c.wrapping_neg.type_inv c.wrapping_neg.ensures)) c.put_wide-2.ensures)

@@ -1,8 +1,0 @@
-use Rattle.std.proofs.Common.{◌≡◌, ◌-◌, length}
-use Rattle.cases.proofs.records.read_up_to.Given as goal
-
-abbrev pub invariant-loop : goal.invariant-loop
-invariant-loop l = length l.row ≡ length l.initial.row
-
-abbrev pub decreases-loop : goal.decreases-loop
-decreases-loop l = l.stop - l.counter
