@@ -6,8 +6,8 @@ use mir.Val.{bool_byte}
 use Rattle.grid.specs.Limits.{all_on_grid}
 use Rattle.grid.proofs.LimitLaws.{on_joined}
 use Rattle.replies.specs.Ladder.{first_of}
-use Rattle.grid.specs.Domain.{count, off}
-use Rattle.replies.proofs.LadderLaws.{Clear, clear, first_is, found}
+use Rattle.grid.specs.Domain.{count}
+use Rattle.replies.proofs.LadderLaws.{Clear, clear, first_is}
 use Rattle.replies.proofs.LadderLaws.First.{here, past, foot}
 use Rattle.buffer.specs.Sets.{joined}
 use Rattle.setfile.specs.declared.inner.headers.Header.{Header}

@@ -8,3 +8,4 @@ pub mod headers;
 pub mod judging;
 pub mod measuring;
 pub mod putting;
+pub mod writing;

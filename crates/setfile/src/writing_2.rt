@@ -4,7 +4,7 @@ ghost use Rattle.setfile.specs.Writing.{written_as, leaving};
 ghost use Rattle.setfile.specs.Writing2.{outcome};
 
 use crate::inner::measuring;
-use crate::writing::{check_set, put_in_room};
+use crate::inner::writing::{check_set, put_in_room};
 use crate::{MOST_BYTES, MOST_CONTOURS};
 use replies::Refusal;
 

@@ -1,8 +1,8 @@
--- `setfile::writing::put_in_room` meets its contract: no room, or the file in front of the row.
+-- `setfile::inner::writing::put_in_room` meets its contract: no room, or the file in front of the row.
 use Rattle.std.specs.Option.{is_some}
 use Rattle.setfile.specs.inside.Writing.{file_with}
 use Rattle.setfile.proofs.OutcomeLaws.{no_room, put_there}
-use Rattle.setfile.proofs.writing.put_in_room.Goals as goal
+use Rattle.setfile.proofs.inner.writing.put_in_room.Goals as goal
 
 pub returns-then-bytes-length : goal.returns-then-bytes-length
 returns-then-bytes-length c =

@@ -1,9 +1,9 @@
--- `setfile::writing::check_set` meets its contract, refusal by refusal.
+-- `setfile::inner::writing::check_set` meets its contract, refusal by refusal.
 use Rattle.std.proofs.lemmas.Result.{err_from_is_err_and}
 use Rattle.replies.proofs.RefusalLaws.{refusals_have_numbers}
 use Rattle.std.proofs.Common.{refl}
 use Rattle.setfile.proofs.RefusedLaws.{refused_set, refused_carry, refused_none}
-use Rattle.setfile.proofs.writing.check_set.Goals as goal
+use Rattle.setfile.proofs.inner.writing.check_set.Goals as goal
 
 pub returns-in_err-shapes : goal.returns-in_err-shapes
 returns-in_err-shapes c =
