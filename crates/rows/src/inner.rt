@@ -7,5 +7,7 @@ pub fn copy<T: Copy>(from: &[T], out: &mut [T], at: usize)
     requires { at + length from.now ≤ length out.old }
     ensures { out.new ≡ placed at from.now out.old }
 {
-    out[at..at + from.len()].copy_from_slice(from);
+    for i in 0..from.len() {
+        out[at + i] = from[i];
+    }
 }

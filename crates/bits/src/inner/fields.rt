@@ -37,7 +37,7 @@ pub fn number(bytes: &[u8], at: usize, width: usize) -> u64
 {
     if bytes.len() < 8 {
         let mut filled = [0u8; 8];
-        filled[..bytes.len()].copy_from_slice(bytes);
+        rows::inner::copy(bytes, &mut filled, 0);
         return long_number(&filled, at, width);
     }
     long_number(bytes, at, width)

@@ -8,8 +8,9 @@ pub fn numbers(row: &mut [i32], at: usize, gap: usize, n: usize)
     requires { at + gap + n ≤ length row.old }
     ensures { row.new ≡ placed at (take n (drop (at + gap) row.old)) row.old }
 {
-    let from = at + gap;
-    row.copy_within(from..from + n, at);
+    for i in 0..n {
+        row[at + i] = row[at + gap + i];
+    }
 }
 
 // Moves n records down by one, to position `at`; their contours move down by d points.

@@ -66,7 +66,7 @@ fn sift(bytes: &[u8], s: Sifted, i: usize, out: &mut [u8], list: &mut [[usize; 2
         };
     }
     let to = s.to + (2 + 8 * n);
-    out[s.to..to].copy_from_slice(&bytes[at..behind]);
+    rows::inner::copy(&bytes[at..behind], out, s.to);
     Sifted {
         at: behind,
         to,

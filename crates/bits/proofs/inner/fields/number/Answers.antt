@@ -7,4 +7,4 @@ use Rattle.bits.proofs.inner.fields.number.Goals as goal
 pub returns-then-bytes-lt8 : goal.returns-then-bytes-lt8
 returns-then-bytes-lt8 c =
     let s = c.args in
-    c.long_number.ensures ∙ ap value (rw c.copy_from_slice.ensures.after (in_front s.bytes.now _ s.at s.width c.requires.room))
+    c.long_number.ensures ∙ ap value (rw c.copy.ensures (in_front s.bytes.now _ s.at s.width c.requires.room))
