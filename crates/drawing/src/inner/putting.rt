@@ -1,5 +1,5 @@
 // Kinds and floats, written to their rows.
-ghost use Rattle.std.specs.Prelude.{◌≡◌, map, ◌+◌, ◌*◌, ◌%◌, ◌≤◌, length, take, drop};
+ghost use Rattle.std.specs.Prelude.{◌≡◌, map, ◌+◌, ◌*◌, ◌%◌, ◌≤◌, length, take, drop, replicate};
 ghost use Rattle.rows.specs.Rows.{front, placed};
 ghost use Rattle.buffer.specs.Spans.{spans};
 ghost use Rattle.millimetres.specs.Scale.{millimetres};
@@ -42,6 +42,16 @@ pub fn filled(ranges: &[[usize; 2]]) -> usize
     ranges.iter().filter(|r| r[0] < r[1]).count()
 }
 
+// Writes n Lines from `at` on. Most contours have few, for which this takes less than `fill`.
+fn lines(kinds: &mut [u8], at: usize, n: usize)
+    requires { at + n ≤ length kinds.old }
+    ensures { kinds.new ≡ placed at (replicate n 1) kinds.old }
+{
+    for i in 0..n {
+        kinds[at + i] = command::LINE;
+    }
+}
+
 // Writes the kinds of a contour of n points from `at` on, and answers the place behind them.
 fn contour(kinds: &mut [u8], at: usize, n: usize) -> usize
     requires { at + length (contour_kinds n) ≤ length kinds.old }
@@ -52,7 +62,7 @@ fn contour(kinds: &mut [u8], at: usize, n: usize) -> usize
         return at;
     }
     kinds[at] = command::MOVE;
-    kinds[at + 1..at + n].fill(command::LINE);
+    lines(kinds, at + 1, n - 1);
     kinds[at + n] = command::CLOSE;
     at + n + 1
 }
