@@ -1,6 +1,7 @@
 -- What C and Rust call hands on.
 use Rattle.ukmerelt.proofs as ukmerelt
-use Rattle.promises.specs.Exports.{NoExportTraps, EveryExportHandsOn}
+use Rattle.promises.specs.Exports.{NoExportTraps, EveryExportHandsOn, EveryExportEqualsTheRules}
+use Rattle.promises.proofs.Calls.{follows}
 
 pub no_export_traps : NoExportTraps
 no_export_traps = record {
@@ -92,4 +93,50 @@ every_export_hands_on = record {
   ukm_pool_contours = λ κs a x e h. h;
   ukm_pool_held = λ κs a x e h. h;
   ukm_pool_free = λ κs a x e h. h;
+}
+
+pub every_export_equals_the_rules : EveryExportEqualsTheRules
+every_export_equals_the_rules = record {
+  ukm_area_two = follows (λ κs a x e h. h);
+  ukm_area = follows (λ κs a x e h. h);
+  ukm_is_convex = follows (λ κs a x e h. h);
+  ukm_is_clockwise = follows (λ κs a x e h. h);
+  ukm_contains = follows (λ κs a x e h. h);
+  ukm_locate = follows (λ κs a x e h. h);
+  ukm_is_simple = follows (λ κs a x e h. h);
+  ukm_has_no_spikes = follows (λ κs a x e h. h);
+  ukm_simplified = follows (λ κs a x e h. h);
+  ukm_despiked = follows (λ κs a x e h. h);
+  ukm_set_is_simple = follows (λ κs a x e h. h);
+  ukm_set_has_no_spikes = follows (λ κs a x e h. h);
+  ukm_set_area_two = follows (λ κs a x e h. h);
+  ukm_set_area = follows (λ κs a x e h. h);
+  ukm_in_shape = follows (λ κs a x e h. h);
+  ukm_shapes_is_simple = follows (λ κs a x e h. h);
+  ukm_shapes_has_no_spikes = follows (λ κs a x e h. h);
+  ukm_shapes_area_two = follows (λ κs a x e h. h);
+  ukm_shapes_area = follows (λ κs a x e h. h);
+  ukm_simplified_shape = follows (λ κs a x e h. h);
+  ukm_despiked_shape = follows (λ κs a x e h. h);
+  ukm_simplified_shapes = follows (λ κs a x e h. h);
+  ukm_despiked_shapes = follows (λ κs a x e h. h);
+  ukm_simplified_fates = follows (λ κs a x e h. h);
+  ukm_despiked_fates = follows (λ κs a x e h. h);
+  ukm_pack_contour = follows (λ κs a x e h. h);
+  ukm_pack_shape = follows (λ κs a x e h. h);
+  ukm_pack_shapes = follows (λ κs a x e h. h);
+  ukm_add_contour = follows (λ κs a x e h. h);
+  ukm_add_shape = follows (λ κs a x e h. h);
+  ukm_read_set = follows (λ κs a x e h. h);
+  ukm_write_set = follows (λ κs a x e h. h);
+  ukm_write_set_2 = follows (λ κs a x e h. h);
+  ukm_salvage = follows (λ κs a x e h. h);
+  ukm_import_mm = follows (λ κs a x e h. h);
+  ukm_export_mm = follows (λ κs a x e h. h);
+  ukm_compare_sets = follows (λ κs a x e h. h);
+  ukm_pool_add = follows (λ κs a x e h. h);
+  ukm_pool_remove = follows (λ κs a x e h. h);
+  ukm_pool_contours = follows (λ κs a x e h. h);
+  ukm_pool_held = follows (λ κs a x e h. h);
+  ukm_pool_free = follows (λ κs a x e h. h);
 }

@@ -1,4 +1,32 @@
 -- What `ukmerelt_c` exports for C and Rust, which is held to these functions in turn (its proofs/Exports). Each hands its arguments on to one of the library, and allows no outcome that that one does not; so what the demands say of that one holds of it too.
+use Rattle.std.specs.Prelude.{[]}
+use Rattle.replies.proofs.OneOutcome.{three, four, five, six, eight}
+use Rattle.area.specs.Answers as Areas
+use Rattle.path.specs.Convex.{convex}
+use Rattle.path.specs.Clockwise.{clockwise}
+use Rattle.path.specs.Contains.{contains}
+use Rattle.path.specs.Locate.{located}
+use Rattle.ring.specs.declared.Rule.TheVariants.{Collinear, Spike}
+use Rattle.clean.specs.Verdicts as Verdicts
+use Rattle.clean.specs.Outcome as Cleaning
+use Rattle.buffer.specs.Answers as Packing
+use Rattle.buffer.specs.Contours as Contours
+use Rattle.buffer.specs.Shapes as Shapes
+use Rattle.sets.specs.Verdicts as SetVerdicts
+use Rattle.sets.specs.Area as SetAreas
+use Rattle.sets.specs.Contains.{in_shape}
+use Rattle.sets.specs.Outcome as SetCleaning
+use Rattle.fates.specs.Outcome as Fates
+use Rattle.setfile.specs.Reading as Reading
+use Rattle.setfile.specs.Writing as Writing
+use Rattle.setfile.specs.Writing2 as Writing2
+use Rattle.salvage.specs.Outcome as Salvage
+use Rattle.drawing.specs.Importing as Importing
+use Rattle.drawing.specs.Exporting as Exporting
+use Rattle.difference.specs.Outcome as Comparing
+use Rattle.pool.specs.Calls.Call.{add, remove}
+use Rattle.pool.specs.Rows.{lent}
+use Rattle.pool.specs.Outcome as Pool
 use Rattle.area.proofs as area
 use Rattle.path.proofs as path
 use Rattle.clean.proofs as clean
@@ -11,7 +39,7 @@ use Rattle.drawing.proofs as drawing
 use Rattle.difference.proofs as difference
 use Rattle.pool.proofs as pool
 use Rattle.ukmerelt.proofs as ukmerelt
-use Rattle.promises.specs.Calls.{NeverTraps, HandsOnAs, numbers, verdicts, areas, locations, counts, packings, readings, cleanings, set_cleanings, writings, salvagings, drawings, comparisons}
+use Rattle.promises.specs.Calls.{NeverTraps, HandsOnAs, Follows, Answers, of_contour, of_set, of_shapes, contour_lent, shape_lent, shapes_lent, fates_lent, numbers, verdicts, areas, locations, counts, packings, readings, cleanings, set_cleanings, writings, salvagings, drawings, comparisons}
 
 -- each never traps
 pub record NoExportTraps : Type 2 where
@@ -102,3 +130,85 @@ pub record EveryExportHandsOn : Type 0 where
   pub ukm_pool_contours : HandsOnAs ukmerelt.pools.ukm_pool_contours.Reads.Learnt counts.told pool.contours_count.Reads.Learnt
   pub ukm_pool_held : HandsOnAs ukmerelt.pools.ukm_pool_held.Reads.Learnt counts.told pool.held.Reads.Learnt
   pub ukm_pool_free : HandsOnAs ukmerelt.pools.ukm_pool_free.Reads.Learnt counts.told pool.free.Reads.Learnt
+
+-- and what C gets, what it is answered and what is left in the rows that it lent, is what the rule of that function says, the same that the second demand says of it: no other outcome is allowed
+pub record EveryExportEqualsTheRules : Type 0 where
+  pub ukm_area_two : Answers ukmerelt.contours.ukm_area_two.Reads.Learnt (of_contour Areas.doubled)
+  pub ukm_area : Answers ukmerelt.contours.ukm_area.Reads.Learnt (of_contour Areas.half)
+  pub ukm_is_convex : Answers ukmerelt.contours.ukm_is_convex.Reads.Learnt (of_contour convex)
+  pub ukm_is_clockwise : Answers ukmerelt.contours.ukm_is_clockwise.Reads.Learnt (of_contour clockwise)
+  pub ukm_contains : Answers ukmerelt.contours.ukm_contains.Reads.Learnt λ a. three a λ points x y. contains points.now x y
+  pub ukm_locate : Answers ukmerelt.contours.ukm_locate.Reads.Learnt λ a. three a λ points x y. located points.now x y
+  pub ukm_is_simple : Answers ukmerelt.contours.ukm_is_simple.Reads.Learnt (of_contour Verdicts.simple)
+  pub ukm_has_no_spikes : Answers ukmerelt.contours.ukm_has_no_spikes.Reads.Learnt (of_contour Verdicts.spike_free)
+  pub ukm_simplified : Follows ukmerelt.contours.ukm_simplified.Reads.Learnt
+      (λ x e. Cleaning.leaving x (contour_lent e)) (λ a. of_contour (Cleaning.outcome Collinear) a (contour_lent a))
+  pub ukm_despiked : Follows ukmerelt.contours.ukm_despiked.Reads.Learnt
+      (λ x e. Cleaning.leaving x (contour_lent e)) (λ a. of_contour (Cleaning.outcome Spike) a (contour_lent a))
+  pub ukm_set_is_simple : Answers ukmerelt.contour_sets.ukm_set_is_simple.Reads.Learnt (of_set SetVerdicts.simple)
+  pub ukm_set_has_no_spikes : Answers ukmerelt.contour_sets.ukm_set_has_no_spikes.Reads.Learnt (of_set SetVerdicts.spike_free)
+  pub ukm_set_area_two : Answers ukmerelt.contour_sets.ukm_set_area_two.Reads.Learnt (of_set SetAreas.doubled)
+  pub ukm_set_area : Answers ukmerelt.contour_sets.ukm_set_area.Reads.Learnt (of_set SetAreas.half)
+  pub ukm_in_shape : Answers ukmerelt.contour_sets.ukm_in_shape.Reads.Learnt λ a. four a λ points ranges x y. in_shape points.now ranges.now x y
+  pub ukm_shapes_is_simple : Answers ukmerelt.shape_sets.ukm_shapes_is_simple.Reads.Learnt (of_shapes SetVerdicts.shapes_simple)
+  pub ukm_shapes_has_no_spikes : Answers ukmerelt.shape_sets.ukm_shapes_has_no_spikes.Reads.Learnt (of_shapes SetVerdicts.shapes_spike_free)
+  pub ukm_shapes_area_two : Answers ukmerelt.shape_sets.ukm_shapes_area_two.Reads.Learnt (of_shapes SetAreas.shapes_doubled)
+  pub ukm_shapes_area : Answers ukmerelt.shape_sets.ukm_shapes_area.Reads.Learnt (of_shapes SetAreas.shapes_half)
+  pub ukm_simplified_shape : Follows ukmerelt.shapes.ukm_simplified_shape.Reads.Learnt
+      (λ x e. SetCleaning.leaving x (shape_lent e)) (λ a. of_set (SetCleaning.shape_outcome Collinear) a (shape_lent a))
+  pub ukm_despiked_shape : Follows ukmerelt.shapes.ukm_despiked_shape.Reads.Learnt
+      (λ x e. SetCleaning.leaving x (shape_lent e)) (λ a. of_set (SetCleaning.shape_outcome Spike) a (shape_lent a))
+  pub ukm_simplified_shapes : Follows ukmerelt.shapes.ukm_simplified_shapes.Reads.Learnt
+      (λ x e. SetCleaning.leaving x (shapes_lent e)) (λ a. of_shapes (SetCleaning.shapes_outcome Collinear) a (shapes_lent a))
+  pub ukm_despiked_shapes : Follows ukmerelt.shapes.ukm_despiked_shapes.Reads.Learnt
+      (λ x e. SetCleaning.leaving x (shapes_lent e)) (λ a. of_shapes (SetCleaning.shapes_outcome Spike) a (shapes_lent a))
+  pub ukm_simplified_fates : Follows ukmerelt.telling.ukm_simplified_fates.Reads.Learnt
+      (λ x e. Fates.leaving x (fates_lent e)) (λ a. of_shapes (Fates.fates_outcome Collinear) a (fates_lent a))
+  pub ukm_despiked_fates : Follows ukmerelt.telling.ukm_despiked_fates.Reads.Learnt
+      (λ x e. Fates.leaving x (fates_lent e)) (λ a. of_shapes (Fates.fates_outcome Spike) a (fates_lent a))
+  pub ukm_pack_contour : Follows ukmerelt.packing.ukm_pack_contour.Reads.Learnt
+      (λ x e. four e λ contour out records groups. Packing.leaving x out.now records.now groups.now)
+      (λ a. four a λ contour out records groups. Shapes.with_contour contour.now out.now records.now groups.now)
+  pub ukm_pack_shape : Follows ukmerelt.packing.ukm_pack_shape.Reads.Learnt
+      (λ x e. five e λ points ranges out records groups. Packing.leaving x out.now records.now groups.now)
+      (λ a. five a λ points ranges out records groups. Shapes.with_shape points.now ranges.now out.now records.now groups.now)
+  pub ukm_pack_shapes : Follows ukmerelt.packing.ukm_pack_shapes.Reads.Learnt
+      (λ x e. six e λ points contours shapes out records groups. Packing.leaving x out.now records.now groups.now)
+      (λ a. six a λ points contours shapes out records groups. Shapes.with_shapes points.now contours.now shapes.now out.now records.now groups.now)
+  pub ukm_add_contour : Follows ukmerelt.packing.ukm_add_contour.Reads.Learnt
+      (λ x e. five e λ points ranges contour out records. Packing.leaving x out.now records.now [])
+      (λ a. five a λ points ranges contour out records. Contours.with_one_more points.now ranges.now contour.now out.now records.now)
+  pub ukm_add_shape : Follows ukmerelt.packing.ukm_add_shape.Reads.Learnt
+      (λ x e. eight e λ points contours shapes more ranges out records groups. Packing.leaving x out.now records.now groups.now)
+      (λ a. eight a λ points contours shapes more ranges out records groups.
+      Shapes.with_one_more points.now contours.now shapes.now more.now ranges.now out.now records.now groups.now)
+  pub ukm_read_set : Follows ukmerelt.files.ukm_read_set.Reads.Learnt
+      (λ x e. four e λ bytes out records groups. Reading.leaving x out.now records.now groups.now)
+      (λ a. four a λ bytes out records groups. Reading.outcome bytes.now out.now records.now groups.now)
+  pub ukm_write_set : Follows ukmerelt.files.ukm_write_set.Reads.Learnt
+      (λ x e. four e λ points contours shapes bytes. Writing.leaving x.reply x.bytes bytes.now)
+      (λ a. four a λ points contours shapes bytes. Writing.outcome points.now contours.now shapes.now bytes.now)
+  pub ukm_write_set_2 : Follows ukmerelt.files.ukm_write_set_2.Reads.Learnt
+      (λ x e. four e λ points contours shapes bytes. Writing.leaving x.reply x.bytes bytes.now)
+      (λ a. four a λ points contours shapes bytes. Writing2.outcome points.now contours.now shapes.now bytes.now)
+  pub ukm_salvage : Follows ukmerelt.files.ukm_salvage.Reads.Learnt
+      (λ x e. three e λ bytes out dropped. Salvage.leaving x out.now dropped.now)
+      (λ a. three a λ bytes out dropped. Salvage.outcome bytes.now out.now dropped.now)
+  pub ukm_import_mm : Follows ukmerelt.drawings.ukm_import_mm.Reads.Learnt
+      (λ x e. four e λ kinds floats points ranges. Packing.leaving x points.now ranges.now [])
+      (λ a. four a λ kinds floats points ranges. Importing.outcome kinds.now floats.now points.now ranges.now)
+  pub ukm_export_mm : Follows ukmerelt.drawings.ukm_export_mm.Reads.Learnt
+      (λ x e. four e λ points ranges kinds floats. Exporting.leaving x kinds.now floats.now)
+      (λ a. four a λ points ranges kinds floats. Exporting.outcome points.now ranges.now kinds.now floats.now)
+  pub ukm_compare_sets : Follows ukmerelt.comparing.ukm_compare_sets.Reads.Learnt
+      (λ x e. five e λ points ranges others other-ranges listing. Comparing.leaving x listing.now)
+      (λ a. five a λ points ranges others other-ranges listing. Comparing.outcome points.now ranges.now others.now other-ranges.now listing.now)
+  pub ukm_pool_add : Follows ukmerelt.pools.ukm_pool_add.Reads.Learnt
+      (λ x e. three e λ points records contours. Pool.leaving x points.now records.now contours.now)
+      (λ a. five a λ points records contours second contour. Pool.called (Pool.number second) (add 0 contour.now) (lent points.now records.now contours.now))
+  pub ukm_pool_remove : Follows ukmerelt.pools.ukm_pool_remove.Reads.Learnt
+      (λ x e. three e λ points records contours. Pool.leaving x points.now records.now contours.now)
+      (λ a. four a λ points records contours second. Pool.called (Pool.number second) remove (lent points.now records.now contours.now))
+  pub ukm_pool_contours : Answers ukmerelt.pools.ukm_pool_contours.Reads.Learnt λ a. four a λ points records contours second. Pool.contours_count (Pool.number second) (lent points.now records.now contours)
+  pub ukm_pool_held : Answers ukmerelt.pools.ukm_pool_held.Reads.Learnt λ a. four a λ points records contours second. Pool.held_count (Pool.number second) (lent points.now records.now contours)
+  pub ukm_pool_free : Answers ukmerelt.pools.ukm_pool_free.Reads.Learnt λ a. three a λ points records contours. Pool.free_count (lent points.now records.now contours)
