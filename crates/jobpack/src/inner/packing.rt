@@ -42,9 +42,10 @@ fn by_place(
                 words,
             )
         }
-        Place::Word(..) | Place::Space | Place::Dash | Place::Number(..) | Place::NoLine => {
+        Place::Word(..) | Place::Space | Place::Dash | Place::Number(..) => {
             writing::damaged(k + 2, out, words)
         }
+        Place::NoLine => writing::damaged(k + 2, out, words),
         Place::Refused(refusal) => writing::refused(refusal, out, words),
     }
 }
