@@ -11,7 +11,7 @@ use Rattle.replies.specs.Refusals.{number}
 use Rattle.replies.proofs.RefusalLaws.{refusals_have_numbers}
 use Rattle.grid.specs.Domain.{count, domain, Contour}
 use Rattle.grid.proofs.DomainLaws.{in_domain}
-use Rattle.replies.proofs.LadderLaws.{first_is, onward, clear, cleared}
+use Rattle.replies.proofs.LadderLaws.{first_is, stopped, onward, clear, cleared}
 use Rattle.replies.proofs.LadderLaws.First.{here, past, foot}
 use Rattle.area.specs.declared.answer.Area.{Area}
 use Rattle.area.specs.Answers.{answer, answered, empty, refusals, doubled, half}
@@ -21,6 +21,10 @@ answer_refused zero z n = absurd (n refl)
 answer_refused (suc k) z n = refl
 
 module _ (row : List ℤ) where
+  -- what the domain refuses is refused
+  pub refused_domain : (k : ℕ) → k ≡ first_of (domain limit row) → (k ≡ 0 → ⊥) → k ≡ first_of (refusals row)
+  refused_domain k e n = first_is (refusals row) k (stopped _ _ _ e n)
+
   -- a contour with no points is refused
   module _ (e : first_of (domain limit row) ≡ 0) where
     pub refused_empty : count row ≡ 0 → 8 ≡ first_of (refusals row)

@@ -23,7 +23,7 @@ use Rattle.replies.specs.Refusals.{number}
 use Rattle.replies.specs.Verdicts.{answered}
 use Rattle.std.proofs.Common.{Err, SFits, w32, to_z, of_z, to_z-of_z}
 use Rattle.grid.proofs.RowLaws.{points_count, points_more, points_done}
-use Rattle.replies.proofs.LadderLaws.{first_is, onward, clear, cleared}
+use Rattle.replies.proofs.LadderLaws.{first_is, stopped, onward, clear, cleared}
 use Rattle.replies.proofs.RefusalLaws.{refusals_have_numbers}
 use Rattle.replies.proofs.LadderLaws.First.{here, past, foot}
 use Rattle.replies.proofs.VerdictLaws.{verdict_refused, verdict_given}
@@ -188,6 +188,9 @@ module _ (row : List ℤ) (p : Point) {n : ℕ} (c : Contour row n) where
     changing_done h = counted_all row p c counted h
 
 -- the refusals of an asked point, one by one
+pub refused_domain : (row : List ℤ) (p : Point) (k : ℕ) → k ≡ first_of (domain limit row) → (k ≡ 0 → ⊥) → k ≡ first_of (refusals p row)
+refused_domain row p k e n = first_is _ k (stopped _ _ k e n)
+
 module _ (row : List ℤ) (p : Point) (e : first_of (domain limit row) ≡ 0) where
   pub refused_off : on limit p ≡ false → 3 ≡ first_of (refusals p row)
   refused_off f = first_is _ 3 (onward (domain limit row) _ 3 tt e (here (ap not f)))

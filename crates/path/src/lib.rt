@@ -14,6 +14,7 @@ ghost use Rattle.path.specs.Locate.{answered as place_answered, located};
 
 use grid::Point;
 use replies::Refusal;
+pub use replies::Verdict;
 
 pub const OUTSIDE: u8 = 0;
 
