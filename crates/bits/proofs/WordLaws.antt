@@ -5,7 +5,7 @@ use mathlib.Core.List.{List, [], ◌∷◌, ◌++◌}
 use Prim.Native.Nat.{ℕ, zero, suc, ◌+◌, ◌-◌, ◌*◌, ◌/◌, ◌%◌, ◌^◌, ◌<◌, ◌≤◌}
 use native.Mathlib.Nat.{mod-lt, div-add-mod', div-lt_iff_lt-mul, add-mul-mod_self_right}
 use native.Mathlib.Omega.{arith}
-use lib.ListN.{length, take, drop, get_or, length-take, length-drop}
+use lib.ListN.{length, take, drop, get_or, replicate, length-take, length-drop}
 use lib.Seq.{take-append-add, take-append-le, drop-append-le, take-nil, take-add, take-take, drop-drop, drop_at, length-take-le, get_or-drop}
 use lib.Pow.{pow-add, pow_pos, field as shifted_field, shr-shr, shl-shr}
 use Rattle.std.specs.Int.{w64, from_be_bytes, to_be_bytes}
@@ -160,6 +160,19 @@ in_front f g at w h =
     ap (λ (l : List Bool). take w (drop at l)) (bits-append f g)
     ∙ ap (take w) (drop-append-le at (bits f) (bits g) (omega arith))
     ∙ take-append-le w (drop at (bits f)) (bits g) (omega (arith, length-drop at (bits f)))
+
+-- a row under eight bytes, filled up to eight with zeros
+pub filled_up : (f : List ℕ) → length f < 8
+    → get_or f 0 0 ∷ get_or f 1 0 ∷ get_or f 2 0 ∷ get_or f 3 0 ∷ get_or f 4 0 ∷ get_or f 5 0 ∷ get_or f 6 0 ∷ get_or f 7 0 ∷ [] ≡ f ++ replicate (8 - length f) 0
+filled_up [] l = refl
+filled_up (a ∷ []) l = refl
+filled_up (a ∷ b ∷ []) l = refl
+filled_up (a ∷ b ∷ c ∷ []) l = refl
+filled_up (a ∷ b ∷ c ∷ d ∷ []) l = refl
+filled_up (a ∷ b ∷ c ∷ d ∷ e ∷ []) l = refl
+filled_up (a ∷ b ∷ c ∷ d ∷ e ∷ g ∷ []) l = refl
+filled_up (a ∷ b ∷ c ∷ d ∷ e ∷ g ∷ h ∷ []) l = refl
+filled_up (a ∷ b ∷ c ∷ d ∷ e ∷ g ∷ h ∷ i ∷ f) l = absurd (omega arith)
 
 -- bytes as std spells them
 pub spelled_four : (n : ℕ) → drop 4 (to_be_bytes w64 n) ≡ spelled 4 n

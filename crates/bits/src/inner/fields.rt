@@ -1,5 +1,5 @@
 // The number in the bits of a field: whole bytes are gathered, and shifted twice.
-ghost use Rattle.std.specs.Prelude.{◌≡◌, ◌+◌, ◌*◌, ◌^◌, ◌<◌, ◌≤◌, length, drop, take};
+ghost use Rattle.std.specs.Prelude.{◌≡◌, ◌+◌, ◌*◌, ◌^◌, ◌<◌, ◌≤◌, length, drop, get_or, take};
 ghost use Rattle.bits.specs.Bits.{value, bits};
 ghost use Rattle.bits.specs.inside.Words.{word as word_of, Within, Ahead};
 
@@ -30,14 +30,29 @@ pub fn ahead(bytes: &[u8], at: usize, width: usize) -> u64
     eight(bytes, end / 8 - 7) << (end % 8 + (57 - width))
 }
 
+// Byte i of a row, 0 where it has none.
+fn or_none(bytes: &[u8], i: usize) -> u8
+    ensures { result ≡ get_or bytes.now i 0 }
+{
+    bytes.get(i).copied().unwrap_or(0)
+}
+
 // The number in the `width` bits from bit `at` on.
 pub fn number(bytes: &[u8], at: usize, width: usize) -> u64
     requires { Within bytes.now at width }
     ensures { result ≡ value (take width (drop at (bits bytes.now))) }
 {
     if bytes.len() < 8 {
-        let mut filled = [0u8; 8];
-        rows::inner::copy(bytes, &mut filled, 0);
+        let filled = [
+            or_none(bytes, 0),
+            or_none(bytes, 1),
+            or_none(bytes, 2),
+            or_none(bytes, 3),
+            or_none(bytes, 4),
+            or_none(bytes, 5),
+            or_none(bytes, 6),
+            or_none(bytes, 7),
+        ];
         return long_number(&filled, at, width);
     }
     long_number(bytes, at, width)
