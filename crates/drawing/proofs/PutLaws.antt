@@ -12,8 +12,10 @@ use lib.Ieee.{Float}
 use mathlib.Core.Bool.{Bool, cond}
 use Rattle.std.proofs.Common.{append_assoc}
 use borrow.Rule.Slice.PartMut.{put_mid}
-use Rattle.std.specs.List.{count_by}
-use Rattle.std.proofs.lemmas.List.Recursion.{is_count_by}
+use Rattle.std.specs.List.{count_by, sum_by}
+use Rattle.std.specs.Int.{from_bool}
+use Rattle.std.proofs.lemmas.List.Sums.{count_by-le-length}
+use Rattle.std.proofs.lemmas.List.Recursion.{is_count_by, is_sum_by}
 use borrow.Author.Tests.{lt-ltb, le-ltb}
 use Rattle.rows.specs.Rows.{front, placed}
 use Rattle.buffer.specs.declared.ranges.Span.{Span}
@@ -67,6 +69,21 @@ filled_one r = ltb (get_or r 0 0) (get_or r 1 0)
 pub filled_counted : (ranges : List (List ℕ)) → filled (spans ranges) ≡ count_by filled_one ranges
 unfolding filled
 filled_counted = is_count_by (λ (l : List (List ℕ)). filled (spans l)) filled_one refl (λ r l. one_counted (get_or r 0 0) (get_or r 1 0) (filled (spans l)))
+
+filled_one_is : (a b : ℕ) → one (b - a) ≡ from_bool (ltb a b)
+filled_one_is a b = go (b - a) refl
+  where
+    go : (n : ℕ) → b - a ≡ n → one n ≡ from_bool (ltb a b)
+    go zero e = rw (le-ltb a b (omega arith)) refl
+    go (suc n) e = rw (lt-ltb a b (omega arith)) refl
+
+pub filled_summed : (ranges : List (List ℕ)) → filled (spans ranges) ≡ sum_by (λ r. from_bool (filled_one r)) ranges
+unfolding filled
+filled_summed = is_sum_by (λ (l : List (List ℕ)). filled (spans l)) (λ r. from_bool (filled_one r)) refl
+    (λ r l. ap (λ (n : ℕ). n + filled (spans l)) (filled_one_is (get_or r 0 0) (get_or r 1 0)))
+
+pub filled_few : (ranges : List (List ℕ)) → sum_by (λ r. from_bool (filled_one r)) ranges ≤ length ranges
+filled_few ranges = rw (← filled_summed ranges, filled_counted ranges) (count_by-le-length filled_one ranges)
 
 -- a part of a row that is written over
 pub put_placed : {A : Type 0} (row d : List A) (at n : ℕ) → n ≡ length d → put_mid at n row d ≡ placed at d row

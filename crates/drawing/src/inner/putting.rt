@@ -39,7 +39,7 @@ pub fn places(points: &[i32], floats: &mut [f64])
 pub fn filled(ranges: &[[usize; 2]]) -> usize
     ensures { result ≡ filled_of (spans ranges.now) }
 {
-    ranges.iter().filter(|r| r[0] < r[1]).count()
+    ranges.iter().map(|r| usize::from(r[0] < r[1])).sum()
 }
 
 // Writes n Lines from `at` on. Most contours have few, for which this takes less than `fill`.
