@@ -6,7 +6,7 @@ use Prim.Native.Nat.{ℕ, zero, suc, ◌+◌, ◌*◌, ◌-◌, ◌≤◌, ◌<�
 use native.Mathlib.Omega.{arith}
 use native.Mathlib.Numerals.{add-one}
 use lib.ListN.{length, take, drop, set, length-append, length-drop, length-set}
-use lib.Seq.{drop-drop, length-take-le}
+use lib.Seq.{drop-drop, take-add, length-take-le}
 use borrow.Author.Tests.{leb-true, le-leb}
 use Rattle.grid.specs.Limits.{narrow, all_on_grid}
 use Rattle.replies.specs.Ladder.{first_of}
@@ -24,6 +24,20 @@ use Rattle.salvage.specs.Fates.{reason, open_behind, fates, keep, kept, note}
 use Rattle.salvage.specs.Fates as F
 use Rattle.salvage.specs.Outcome.{Outcome, leaving, salvaged}
 use Rattle.salvage.specs.inside.Sifting.{size, none_sifted, sifted, copied, noted, Ready, Sifts, Roomy, ended, ending}
+
+-- a contour's header and its points, written one behind the other, are the contour
+pub header_and_points : (f out : List ℕ) (at to h : ℕ) → at + (2 + 8 * h) ≤ length f → to + (2 + 8 * h) ≤ length out
+    → placed (to + 2) (take (at + (2 + 8 * h) - (at + 2)) (drop (at + 2) f)) (placed to (take (at + 2 - at) (drop at f)) out) ≡ placed to (take (at + (2 + 8 * h) - at) (drop at f)) out
+header_and_points f out at to h within room =
+    let a : at + 2 - at ≡ 2 = omega arith in
+    let b : at + (2 + 8 * h) - (at + 2) ≡ 8 * h = omega arith in
+    let n : at + (2 + 8 * h) - at ≡ 2 + 8 * h = omega arith in
+    let two : length (take 2 (drop at f)) ≡ 2 = length-take-le 2 (drop at f) (omega (arith, length-drop at f)) in
+    let whole : take 2 (drop at f) ++ take (8 * h) (drop (at + 2) f) ≡ take (2 + 8 * h) (drop at f) =
+    ap (λ (l : List ℕ). take 2 (drop at f) ++ take (8 * h) l) (sym (drop-drop 2 at f)) ∙ sym (take-add 2 (8 * h) (drop at f)) in
+    rw (a, b, n)
+    (placed_behind out to (take 2 (drop at f)) (take (8 * h) (drop (at + 2) f)) (to + 2) (omega arith) (omega arith)
+    ∙ ap (λ (l : List ℕ). placed to l out) whole)
 
 -- the reason, by what the code has found
 pub reason_is : (f : List ℕ) (at h : ℕ) (on b keeping : Bool) (w : ℕ) → h ≡ held (drop at f) → b ≡ starts (drop at f) → on ≡ all_on_grid narrow (decoded (2 * h) (drop (at + 2) f))

@@ -66,7 +66,8 @@ fn sift(bytes: &[u8], s: Sifted, i: usize, out: &mut [u8], list: &mut [[usize; 2
         };
     }
     let to = s.to + (2 + 8 * n);
-    rows::inner::copy(&bytes[at..behind], out, s.to);
+    rows::inner::copy(&bytes[at..at + 2], out, s.to);
+    rows::inner::copy(&bytes[at + 2..behind], out, s.to + 2);
     Sifted {
         at: behind,
         to,
