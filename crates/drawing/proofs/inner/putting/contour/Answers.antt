@@ -9,27 +9,6 @@ use Rattle.drawing.specs.inside.Rows.{contour_kinds}
 use Rattle.drawing.proofs.PutLaws.{one_some, contour-length, contour_room, contour_put}
 use Rattle.drawing.proofs.inner.putting.contour.Goals as goal
 
--- a contour that has points has room
-roomy : (c : goal.Else-n-eq0) →
-    let s = c.args in
-    s.at + s.n + 1 ≤ length s.kinds.now
-roomy c =
-    contour_room c.args.kinds.now c.args.at c.args.n c.if-n-eq0.false c.requires
-
--- a contour that has points has room
-roomy_2 : (c : goal.After-lines-arg-1) →
-    let s = c.args in
-    s.at + s.n + 1 ≤ length s.kinds.now
-roomy_2 c =
-    contour_room c.args.kinds.now c.args.at c.args.n c.if-n-eq0.false c.requires
-
--- a contour that has points has room
-roomy_3 : (c : goal.After-slice_known-2-1) →
-    let s = c.args in
-    s.at + s.n + 1 ≤ length s.kinds.now
-roomy_3 c =
-    contour_room c.args.kinds.now c.args.at c.args.n c.if-n-eq0.false c.requires
-
 pub returns-then-n-eq0 : goal.returns-then-n-eq0
 unfolding contour_kinds
 returns-then-n-eq0 c =
@@ -39,27 +18,27 @@ returns-then-n-eq0 c =
     (omega arith, sym (placed_none s.kinds.now s.at) ∙ same)
 
 pub bounds-kinds-at : goal.bounds-kinds-at
-bounds-kinds-at c = omega (arith, roomy c)
+bounds-kinds-at c = omega (arith, contour_room c.args.kinds.now c.args.at c.args.n c.if-n-eq0.false c.requires)
 
 pub lines-requires : goal.lines-requires
-lines-requires c = simp length-set (omega (arith, roomy_2 c))
+lines-requires c = simp length-set (omega (arith, contour_room c.args.kinds.now c.args.at c.args.n c.if-n-eq0.false c.requires))
 
 pub overflow_add-kinds : goal.overflow_add-kinds
 overflow_add-kinds c =
-    omega (arith, roomy_3 c, c.well_formed)
+    omega (arith, contour_room c.args.kinds.now c.args.at c.args.n c.if-n-eq0.false c.requires, c.well_formed)
 
 pub bounds-kinds-at-2 : goal.bounds-kinds-at-2
 bounds-kinds-at-2 c =
     let s = c.args in
-    omega (arith, roomy_3 c, c.lines.auto.kinds, length-set s.kinds.now s.at 0)
+    omega (arith, contour_room c.args.kinds.now c.args.at c.args.n c.if-n-eq0.false c.requires, c.lines.auto.kinds, length-set s.kinds.now s.at 0)
 
 pub overflow_add-result : goal.overflow_add-result
 overflow_add-result c =
-    omega (arith, roomy_3 c, c.well_formed)
+    omega (arith, contour_room c.args.kinds.now c.args.at c.args.n c.if-n-eq0.false c.requires, c.well_formed)
 
 pub overflow_add-result-2 : goal.overflow_add-result-2
 overflow_add-result-2 c =
-    omega (arith, roomy_3 c, c.well_formed)
+    omega (arith, contour_room c.args.kinds.now c.args.at c.args.n c.if-n-eq0.false c.requires, c.well_formed)
 
 pub shape_of-kinds : goal.shape_of-kinds
 shape_of-kinds c =
