@@ -7,26 +7,31 @@ pub const BUFFER: usize = 65536;
 
 pub const LINE: usize = 524288;
 
-// A list, and what was read of it: the buffer, how many bytes the last read brought into it, and which is the next.
-#[derive(Drop)]
-pub struct Source<R> {
-    pub stream: R,
-    pub buffer: [u8; BUFFER],
+// Where in its buffer a list is read: how many bytes the last read brought there, and which is the next.
+#[derive(Clone, Copy)]
+pub struct Source {
     pub filled: usize,
     pub next: usize,
 }
 
+// A list as it is read.
+#[derive(Drop)]
+pub struct Reading<R> {
+    pub stream: R,
+    pub buffer: [u8; BUFFER],
+    pub source: Source,
+}
+
 // The front of a list.
-pub fn begin<R: Read>(stream: R) -> Source<R> {
-    Source {
+pub fn begin<R: Read>(stream: R) -> Reading<R> {
+    Reading {
         stream,
         buffer: [0; BUFFER],
-        filled: 0,
-        next: 0,
+        source: Source { filled: 0, next: 0 },
     }
 }
 
-impl<R: Read> Source<R> {
+impl<R: Read> Reading<R> {
     // Reads the next line into the front of `line`, and answers its length; none at the end of the list. One without an
     // end there fills it.
     pub fn read_line(&mut self, line: &mut [u8]) -> io::Result<Option<usize>> {
@@ -43,15 +48,15 @@ impl<R: Read> Source<R> {
 
     // The next byte of the list.
     fn byte(&mut self) -> io::Result<Option<u8>> {
-        if self.filled <= self.next {
-            self.filled = self.stream.read(&mut self.buffer)?;
-            self.next = 0;
+        if self.source.filled <= self.source.next {
+            self.source.filled = self.stream.read(&mut self.buffer)?;
+            self.source.next = 0;
         }
-        if self.filled <= self.next || BUFFER <= self.next {
+        if self.source.filled <= self.source.next || BUFFER <= self.source.next {
             return Ok(None);
         }
-        let byte = self.buffer[self.next];
-        self.next += 1;
+        let byte = self.buffer[self.source.next];
+        self.source.next += 1;
         Ok(Some(byte))
     }
 }

@@ -1,19 +1,19 @@
 // The list of cases, replayed line by line.
 use crate::answering;
 use cases::given::Rows;
-use cases::source::{LINE, Source};
+use cases::source::{LINE, Reading};
 use cases::{case, text};
 use std::io;
 
 // Replays the list to its end. No list has so many lines that their count ends the loop.
 pub fn replay<R: io::Read>(
     rt: &HostRuntime,
-    source: &mut Source<R>,
+    reading: &mut Reading<R>,
     line: &mut [u8; LINE],
     rows: &mut Rows,
 ) -> io::Result<()> {
     for number in 1..u64::MAX {
-        let Some(length) = source.read_line(line)? else {
+        let Some(length) = reading.read_line(line)? else {
             return Ok(());
         };
         if !replay_line(rt, number, length, line, rows) {

@@ -14,7 +14,7 @@ use cases::source::LINE;
 use std::io;
 
 fn main(rt: HostRuntime) -> io::Result<()> {
-    let mut source = source::begin(rt.stdin());
+    let mut reading = source::begin(rt.stdin());
     let mut line = [0u8; LINE];
     let mut rows = Rows {
         numbers: [0; NUMBERS],
@@ -23,5 +23,5 @@ fn main(rt: HostRuntime) -> io::Result<()> {
         floats: [0.0; FLOATS],
     };
     rt.stdout().write_all(b"case answers\n")?;
-    list::replay(&rt, &mut source, &mut line, &mut rows)
+    list::replay(&rt, &mut reading, &mut line, &mut rows)
 }
