@@ -6,16 +6,14 @@ use native.Mathlib.Omega.{arith}
 use native.Mathlib.Numerals.{add-one}
 use lib.Dec.{ltb}
 use lib.ListN.{length, get_or, take, drop, set, replicate, length-append, length-drop, length-map, length-replicate, take-append-drop}
-use lib.Seq.{drop-drop, take-suc, take-add, length-take-le, get_or-take, get_or-drop}
+use lib.Seq.{take-suc, take-add, length-take-le, get_or-take, get_or-drop}
 use lib.IntN.{ℤ, pos}
 use lib.Ieee.{Float}
-use mathlib.Core.Bool.{Bool, cond}
-use Rattle.std.proofs.Common.{append_assoc}
-use borrow.Rule.Slice.PartMut.{put_mid}
-use Rattle.std.specs.List.{count_by, sum_by}
+use mathlib.Core.Bool.{Bool, true, false}
+use Rattle.std.specs.List.{sum_by}
 use Rattle.std.specs.Int.{from_bool}
-use Rattle.std.proofs.lemmas.List.Sums.{count_by-le-length}
-use Rattle.std.proofs.lemmas.List.Recursion.{is_count_by, is_sum_by}
+use Rattle.std.proofs.lemmas.List.Sums.{sum_by-cons}
+use Rattle.std.proofs.lemmas.List.Recursion.{is_sum_by}
 use borrow.Author.Tests.{lt-ltb, le-ltb}
 use Rattle.rows.specs.Rows.{front, placed}
 use Rattle.buffer.specs.declared.ranges.Span.{Span}
@@ -54,21 +52,9 @@ floats_more points row₀ row a b c h q e =
     ∙ ap (λ (l : List Float). front l row₀)
     (sym (map-append millimetres (take a points) (take b (drop a points))) ∙ ap (map millimetres) (sym (take-add a b points) ∙ ap (λ (k : ℕ). take k points) (sym q)))
 
--- how many contours have points
-one_counted : (a b rest : ℕ) → one (b - a) + rest ≡ cond (ltb a b) (1 + rest) rest
-one_counted a b rest = go (b - a) refl
-  where
-    go : (n : ℕ) → b - a ≡ n → one n + rest ≡ cond (ltb a b) (1 + rest) rest
-    go zero e = rw (le-ltb a b (omega arith)) (omega arith)
-    go (suc n) e = rw (lt-ltb a b (omega arith)) (omega arith)
-
--- a range that has points
+-- a range has points or none
 abbrev pub filled_one : List ℕ → Bool
 filled_one r = ltb (get_or r 0 0) (get_or r 1 0)
-
-pub filled_counted : (ranges : List (List ℕ)) → filled (spans ranges) ≡ count_by filled_one ranges
-unfolding filled
-filled_counted = is_count_by (λ (l : List (List ℕ)). filled (spans l)) filled_one refl (λ r l. one_counted (get_or r 0 0) (get_or r 1 0) (filled (spans l)))
 
 filled_one_is : (a b : ℕ) → one (b - a) ≡ from_bool (ltb a b)
 filled_one_is a b = go (b - a) refl
@@ -77,23 +63,20 @@ filled_one_is a b = go (b - a) refl
     go zero e = rw (le-ltb a b (omega arith)) refl
     go (suc n) e = rw (lt-ltb a b (omega arith)) refl
 
+-- how many contours have points is a sum of ones
 pub filled_summed : (ranges : List (List ℕ)) → filled (spans ranges) ≡ sum_by (λ r. from_bool (filled_one r)) ranges
 unfolding filled
 filled_summed = is_sum_by (λ (l : List (List ℕ)). filled (spans l)) (λ r. from_bool (filled_one r)) refl
     (λ r l. ap (λ (n : ℕ). n + filled (spans l)) (filled_one_is (get_or r 0 0) (get_or r 1 0)))
 
+-- and no more than there are
 pub filled_few : (ranges : List (List ℕ)) → sum_by (λ r. from_bool (filled_one r)) ranges ≤ length ranges
-filled_few ranges = rw (← filled_summed ranges, filled_counted ranges) (count_by-le-length filled_one ranges)
-
--- a part of a row that is written over
-pub put_placed : {A : Type 0} (row d : List A) (at n : ℕ) → n ≡ length d → put_mid at n row d ≡ placed at d row
-put_placed row d at n e =
-    ap (λ (k : ℕ). take at row ++ (d ++ drop k (drop at row))) e
-    ∙ ap (λ (l : List _). take at row ++ (d ++ l)) (drop-drop (length d) at row)
-    ∙ sym (append_assoc (take at row) d (drop (at + length d) row))
-
-pub put_long : {A : Type 0} (row d : List A) (at n : ℕ) → length d ≡ n → at + n ≤ length row → length (put_mid at n row d) ≡ length row
-put_long row d at n e h = ap length (put_placed row d at n (sym e)) ∙ placed_long row at d (omega arith)
+filled_few [] = omega arith
+filled_few (r ∷ l) = omega (arith, sum_by-cons (λ r. from_bool (filled_one r)) r l, at_most_one (filled_one r), filled_few l)
+  where
+    at_most_one : (b : Bool) → from_bool b ≤ 1
+    at_most_one true = omega arith
+    at_most_one false = omega arith
 
 -- n Lines
 abbrev pub ones : ℕ → List ℕ
