@@ -95,7 +95,7 @@ fn read_list(line: &mut Line<'_>, has: bool, row: &mut [[usize; 2]]) -> Result<u
 fn read_rows(line: &mut Line<'_>, kind: Kind, rows: &mut Rows) -> Result<Counts, Damage> {
     match kind {
         Kind::Read | Kind::Mended => {
-            let count = entries::read_file(line, &mut rows.bytes)?;
+            let count = entries::read_every_piece(line, &mut rows.bytes)?;
             Ok(Counts { count, floats: 0 })
         }
         Kind::Coming => {

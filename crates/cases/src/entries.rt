@@ -81,8 +81,19 @@ pub fn read_numbers(line: &mut Line<'_>, row: &mut [i32]) -> Result<usize, Damag
     Ok(row.len())
 }
 
-// Reads a file's pieces, each after one space; a piece that finds no room left is damage where it stands.
+// Reads a file's pieces, each after one space, as long as the row has room; what follows is left in the line.
 pub fn read_file(line: &mut Line<'_>, row: &mut [u8]) -> Result<usize, Damage>
+    ensures { IfOk result (λ n. n ≤ length row.old) }
+{
+    let mut end = 0;
+    while end < row.len() && line.take(b' ') {
+        end += read_piece(line, &mut row[end..])?;
+    }
+    Ok(end)
+}
+
+// Reads every piece that follows, each after one space; one that finds no room left is damage where it stands.
+pub fn read_every_piece(line: &mut Line<'_>, row: &mut [u8]) -> Result<usize, Damage>
     ensures { IfOk result (λ n. n ≤ length row.old) }
 {
     let mut end: usize = 0;

@@ -10,4 +10,6 @@ pub mod kind;
 pub mod line;
 pub mod room;
 pub mod source;
+#[cfg(test)]
+mod tests;
 pub mod text;
